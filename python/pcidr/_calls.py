@@ -288,6 +288,8 @@ CALLS: dict[str, tuple[Any, list[Any]]] = {
     "last_usable_by_value": (c_uint32, [Value, POINTER(Value)]),
     "nth_by_value": (c_uint32, [Value, c_uint64, c_uint64, POINTER(Value)]),
     "supernet_by_value": (c_uint32, [Value, c_uint8, POINTER(Value)]),
+    "parent_by_value": (c_uint32, [Value, POINTER(Value)]),
+    "network_halves_by_value": (c_uint32, [Value, POINTER(Value), POINTER(Value)]),
     "subnet_by_value": (c_uint32, [Value, c_uint8, c_uint64, c_uint64, POINTER(Value)]),
     "sibling_by_value": (c_uint32, [Value, POINTER(Value)]),
     "next_network_by_value": (c_uint32, [Value, POINTER(Value)]),
@@ -313,6 +315,7 @@ CALLS: dict[str, tuple[Any, list[Any]]] = {
     "check": (c_uint32, [POINTER(Value)]),
     "contains": (c_uint32, [POINTER(Value), POINTER(Value)]),
     "overlaps": (c_uint32, [POINTER(Value), POINTER(Value)]),
+    "is_sibling_of": (c_uint32, [POINTER(Value), POINTER(Value)]),
     "spanning": (c_uint32, [POINTER(Value), POINTER(Value), POINTER(Value)]),
     "compare": (c_uint32, [POINTER(Value), POINTER(Value)]),
     "compare_hosts": (c_uint32, [POINTER(Value), POINTER(Value)]),
@@ -489,6 +492,8 @@ class Calls:
     last_usable: Callable[[Any, Any], int]
     nth: Callable[[Any, int, int, Any], int]
     supernet: Callable[[Any, int, Any], int]
+    parent: Callable[[Any, Any], int]
+    network_halves: Callable[[Any, Any, Any], int]
     subnet: Callable[[Any, int, int, int, Any], int]
     sibling: Callable[[Any, Any], int]
     next_network: Callable[[Any, Any], int]
@@ -514,6 +519,7 @@ class Calls:
     check: Callable[[Any], int]
     contains: Callable[[Any, Any], int]
     overlaps: Callable[[Any, Any], int]
+    is_sibling_of: Callable[[Any, Any], int]
     spanning: Callable[[Any, Any, Any], int]
     compare: Callable[[Any, Any], int]
     compare_hosts: Callable[[Any, Any], int]

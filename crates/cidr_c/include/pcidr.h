@@ -268,6 +268,8 @@ uint32_t pcidr_first_usable_by_value(pcidr_value host, pcidr_value *out);
 uint32_t pcidr_last_usable_by_value(pcidr_value host, pcidr_value *out);
 uint32_t pcidr_nth_by_value(pcidr_value host, uint64_t high, uint64_t low, pcidr_value *out);
 uint32_t pcidr_supernet_by_value(pcidr_value host, uint8_t len, pcidr_value *out);
+uint32_t pcidr_parent_by_value(pcidr_value host, pcidr_value *out);
+uint32_t pcidr_network_halves_by_value(pcidr_value host, pcidr_value *lower, pcidr_value *upper);
 uint32_t pcidr_subnet_by_value(pcidr_value host, uint8_t len, uint64_t high, uint64_t low, pcidr_value *out);
 uint32_t pcidr_sibling_by_value(pcidr_value host, pcidr_value *out);
 uint32_t pcidr_next_network_by_value(pcidr_value host, pcidr_value *out);
@@ -342,9 +344,20 @@ uint32_t pcidr_position(const pcidr_value *host, const pcidr_value *address, pci
 /* ---- networks around that of a host: PCIDR_OK; PCIDR_NO_VALUE for what is no host, and then PCIDR_NONE; `out` is as
  * it was with both */
 
-/* The network of prefix length `len` that contains it, of one bit less the parent. PCIDR_NONE where `len` is above its own. */
+/* The network of prefix length `len` that contains it. PCIDR_NONE where `len` is above its own. */
 static inline uint32_t pcidr_supernet(const pcidr_value *host, uint8_t len, pcidr_value *out) {
     return pcidr_supernet_by_value(*host, len, out);
+}
+
+/* The network that is twice as large and contains it: 10.0.0.0/8 of 10.128.0.0/9. PCIDR_NONE for 0.0.0.0/0 and ::/0. */
+static inline uint32_t pcidr_parent(const pcidr_value *host, pcidr_value *out) {
+    return pcidr_parent_by_value(*host, out);
+}
+
+/* Both halves of it: 10.0.0.0/9 and 10.128.0.0/9 of 10.0.0.0/8. PCIDR_NONE where it has one address alone. `lower` and
+ * `upper` are two places, of which either may be the host itself; both are as they were with an error. */
+static inline uint32_t pcidr_network_halves(const pcidr_value *host, pcidr_value *lower, pcidr_value *upper) {
+    return pcidr_network_halves_by_value(*host, lower, upper);
 }
 
 /* Network 2^64 * high + low of prefix length `len` inside it, counted from 0. PCIDR_NONE where `len` is below its own
@@ -360,7 +373,7 @@ static inline uint32_t pcidr_subnet(const pcidr_value *host, uint8_t len, uint64
 uint32_t pcidr_subnets(const pcidr_value *host, uint8_t len, uint64_t high, uint64_t low, pcidr_value *out,
                        size_t out_len, size_t *count);
 
-/* The other half of the network that is twice as large: 10.128.0.0/9 of 10.0.0.0/9. PCIDR_NONE for 0.0.0.0/0 and for
+/* The other half of its parent: 10.128.0.0/9 of 10.0.0.0/9. PCIDR_NONE for 0.0.0.0/0 and for
  * ::/0. */
 static inline uint32_t pcidr_sibling(const pcidr_value *host, pcidr_value *out) {
     return pcidr_sibling_by_value(*host, out);
@@ -503,6 +516,10 @@ uint32_t pcidr_contains(const pcidr_value *outer, const pcidr_value *inner);
 /* 1 where both values are networks that have an address in common, and 0 where not: where 0 is what permits, check both
  * first. */
 uint32_t pcidr_overlaps(const pcidr_value *one, const pcidr_value *other);
+
+/* 1 where the networks of both hosts are the two halves of one, in either order, and 0 where not, as where a value is no
+ * host. No network is its own sibling. */
+uint32_t pcidr_is_sibling_of(const pcidr_value *one, const pcidr_value *other);
 
 /* The longest network that contains both, which of two families is `any`. Error: NO_VALUE, and `out` is as it was. */
 uint32_t pcidr_spanning(const pcidr_value *one, const pcidr_value *other, pcidr_value *out);

@@ -54,6 +54,9 @@ static void around(void) {
     WANT(pcidr_subnet(&four, 33, 0, 0, &out) == PCIDR_NONE && is_left());
     WANT(pcidr_subnet(&all, 128, UINT64_MAX, UINT64_MAX, &out) == PCIDR_OK &&
          is("ffff:ffff:ffff:ffff:ffff:ffff:ffff:ffff"));
+    WANT(pcidr_parent(&host, &out) == PCIDR_OK && is("10.0.0.0/8"));
+    WANT(pcidr_parent(&all, &out) == PCIDR_NONE && is_left());
+    WANT(pcidr_parent(&any, &out) == PCIDR_NO_VALUE && is_left());
     WANT(pcidr_sibling(&host, &out) == PCIDR_OK && is("10.0.0.0/9"));
     WANT(pcidr_sibling(&all, &out) == PCIDR_NONE && is_left());
     WANT(pcidr_next_network(&four, &out) == PCIDR_OK && is("192.0.2.64/28"));
@@ -65,6 +68,18 @@ static void around(void) {
     WANT(pcidr_nth(&four, 0, 15, &out) == PCIDR_OK && is("192.0.2.63"));
     WANT(pcidr_nth(&four, 0, 16, &out) == PCIDR_NONE && is_left());
     WANT(pcidr_nth(&none, 0, 0, &out) == PCIDR_NO_VALUE && is_left());
+    pcidr_value lower = mark, upper = mark, full = value("192.0.2.48/32");
+    WANT(pcidr_network_halves(&full, &lower, &upper) == PCIDR_NONE && is_same(lower, mark) && is_same(upper, mark));
+    WANT(pcidr_network_halves(&any, &lower, &upper) == PCIDR_NO_VALUE && is_same(lower, mark) && is_same(upper, mark));
+    WANT(pcidr_network_halves(&four, &lower, &upper) == PCIDR_OK && is_same(lower, value("192.0.2.48/29")));
+    WANT(is_same(upper, value("192.0.2.56/29")));
+    WANT(pcidr_network_halves(&all, &lower, &upper) == PCIDR_OK && is_same(lower, value("::/1")) && is_same(upper, value("8000::/1")));
+    WANT(pcidr_is_sibling_of(&lower, &upper) == 1 && pcidr_is_sibling_of(&upper, &lower) == 1);
+    WANT(pcidr_is_sibling_of(&lower, &lower) == 0 && pcidr_is_sibling_of(&lower, &all) == 0);
+    WANT(pcidr_is_sibling_of(&any, &lower) == 0 && pcidr_is_sibling_of(&lower, &any) == 0);
+    pcidr_value zero = value("0.0.0.0/0"), next = value("10.0.0.3/9"), apart = value("11.0.0.0/9");
+    WANT(pcidr_is_sibling_of(&zero, &all) == 0 && pcidr_is_sibling_of(&zero, &zero) == 0);
+    WANT(pcidr_is_sibling_of(&host, &next) == 1 && pcidr_is_sibling_of(&host, &apart) == 0);
     pcidr_value inside = value("192.0.2.63"), outside = value("192.0.2.64");
     WANT(pcidr_position(&four, &outside, &number) == PCIDR_NONE && number.high == 1 && number.low == 2);
     WANT(pcidr_position(&four, &four, &number) == PCIDR_NO_VALUE && number.high == 1 && number.low == 2);
@@ -85,6 +100,9 @@ static void around(void) {
     WANT(pcidr_usable_count(&pair, &count) == PCIDR_OK && count == 2);
     /* the result may take the place of the host */
     WANT(pcidr_supernet(&host, 8, &host) == PCIDR_OK && is_same(host, value("10.0.0.0/8")));
+    WANT(pcidr_network_halves(&host, &host, &upper) == PCIDR_OK && is_same(host, value("10.0.0.0/9")));
+    WANT(is_same(upper, value("10.128.0.0/9")) && pcidr_parent(&upper, &upper) == PCIDR_OK);
+    WANT(is_same(upper, value("10.0.0.0/8")));
 }
 
 static void subnets(void) {

@@ -44,7 +44,7 @@ static uint32_t (*const byte_readers[])(const uint8_t *, size_t, pcidr_value *, 
                                                                                              pcidr_host_from_bytes};
 static uint32_t (*const parts[])(const pcidr_value *, pcidr_value *) = {
     pcidr_first, pcidr_last, pcidr_mask, pcidr_address, pcidr_network, pcidr_host_mask, pcidr_first_usable,
-    pcidr_last_usable, pcidr_sibling, pcidr_next_network, pcidr_previous_network, pcidr_ipv6_mapped};
+    pcidr_last_usable, pcidr_parent, pcidr_sibling, pcidr_next_network, pcidr_previous_network, pcidr_ipv6_mapped};
 static uint32_t (*const steps[])(const pcidr_value *, uint64_t, uint64_t, pcidr_value *) = {
     pcidr_step_up, pcidr_step_down, pcidr_at, pcidr_nth};
 static uint32_t (*const questions[])(const pcidr_value *) = {
@@ -258,6 +258,8 @@ static void no_value_around(pcidr_value bad) {
     memset(&entry, 9, sizeof entry);
     WANT(pcidr_supernet(&bad, 0, &out) == PCIDR_NO_VALUE && pcidr_subnet(&bad, 128, 0, 0, &out) == PCIDR_NO_VALUE);
     WANT(pcidr_subnets(&bad, 128, 0, 0, room, 2, &count) == PCIDR_NO_VALUE && is_left());
+    WANT(pcidr_network_halves(&bad, &room[0], &room[1]) == PCIDR_NO_VALUE && is_same(room[0], mark) && is_same(room[1], mark));
+    WANT(pcidr_is_sibling_of(&bad, &wide) == 0 && pcidr_is_sibling_of(&wide, &bad) == 0);
     WANT(pcidr_position(&bad, &address, &number) == PCIDR_NO_VALUE);
     WANT(pcidr_position(&any, &address, &number) == PCIDR_NO_VALUE);
     WANT(pcidr_position(&wide, &bad, &number) == PCIDR_NO_VALUE);

@@ -4,14 +4,15 @@ ghost use Rattle.cidr.specs.model.Network.{BeginsWith, ones, zeros};
 ghost use Rattle.cidr.specs.either.IpNetwork.{address_by, any_bits, network_family, network_prefix};
 ghost use Rattle.cidr_ext.specs.model.Inside.{IsAddressAt, host_mask_of, usable_of};
 ghost use Rattle.cidr_ext.specs.model.Subnets.{IsNextNetwork, IsSubnetAt, NoSubnetAt};
-ghost use Rattle.cidr_ext.specs.model.Tree.{AreSiblings, IsSpanning, IsSupernet};
+ghost use Rattle.cidr_ext.specs.model.Tree.{AreSiblings, IsHalfOf, IsSpanning, IsSupernet};
 ghost use Rattle.cidr_c.specs.calls.Calls.{IsConverted, IsSought, IsYesOrNo};
-ghost use Rattle.cidr_c.specs.model.Networks.{IsAddressSought, IsFirstHost, IsLastHost, IsLengthSought, IsNetworkSought, IsNumberSought, IsUsableSought, address_bits_in, address_family_in, usable_in};
+ghost use Rattle.cidr_c.specs.model.Networks.{AreHalvesSought, IsAddressSought, IsFirstHost, IsLastHost, IsLengthSought, IsNetworkSought, IsNumberSought, IsUsableSought, address_bits_in, address_family_in, usable_in};
 ghost use Rattle.cidr_c.specs.model.Values.{IsAddressValue, IsHostValue, IsNetworkValue, address_in, family_in, ip_network_in, network_in, prefix_in, width_in};
 
 use crate::codes::{NO_VALUE, OK};
 use crate::finding::{
-    joined, put_found_address, put_found_network, put_number, put_plain, yes_or_no,
+    joined, put_found_address, put_found_network, put_found_networks, put_number, put_plain,
+    yes_or_no,
 };
 use crate::values::{CValue, address_of, ip_network_of, network_of, put_address, put_network};
 use cidr::{IpAddr, IpCidr};
@@ -25,6 +26,32 @@ pub extern "C" fn pcidr_supernet_by_value(host: CValue, len: u8, out: &mut CValu
 {
     match ip_network_of(&host) {
         Some(network) => put_found_network(network.supernet(len), out),
+        None => NO_VALUE,
+    }
+}
+
+/// The network that is twice as large as that of a host and contains it, or none for 0.0.0.0/0 and ::/0.
+#[unsafe(no_mangle)]
+pub extern "C" fn pcidr_parent_by_value(host: CValue, out: &mut CValue) -> u32
+    ensures { IsNetworkSought host (prefix_in host ≡ []) (IsHalfOf (prefix_in host)) out.old out.new result }
+{
+    match ip_network_of(&host) {
+        Some(network) => put_found_network(network.parent(), out),
+        None => NO_VALUE,
+    }
+}
+
+/// Both halves of the network of a host, or none where it has only one address.
+#[unsafe(no_mangle)]
+pub extern "C" fn pcidr_network_halves_by_value(
+    host: CValue,
+    lower: &mut CValue,
+    upper: &mut CValue,
+) -> u32
+    ensures { AreHalvesSought host (lower.old, upper.old) (lower.new, upper.new) result }
+{
+    match ip_network_of(&host) {
+        Some(network) => put_found_networks(network.halves(), lower, upper),
         None => NO_VALUE,
     }
 }
@@ -225,6 +252,18 @@ pub extern "C" fn pcidr_spanning(one: &CValue, other: &CValue, out: &mut CValue)
             OK
         }
         _ => NO_VALUE,
+    }
+}
+
+/// 1 where the networks of both hosts are the two halves of one, in either order, and 0 where not.
+#[unsafe(no_mangle)]
+pub extern "C" fn pcidr_is_sibling_of(one: &CValue, other: &CValue) -> u32
+    ensures { IsYesOrNo result (IsHostValue one.now × IsHostValue other.now
+        × ((family_in one.now ≡ family_in other.now) × AreSiblings (prefix_in one.now) (prefix_in other.now))) }
+{
+    match (ip_network_of(one), ip_network_of(other)) {
+        (Some(one), Some(other)) => yes_or_no(one.is_sibling_of(&other)),
+        _ => 0,
     }
 }
 

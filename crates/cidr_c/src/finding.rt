@@ -2,6 +2,7 @@
 ghost use Rattle.std.specs.Prelude.{◌≡◌, ◌*◌, ◌+◌, ◌^◌, IsTrue};
 ghost use Rattle.cidr_c.specs.calls.Batches.{IsListPut};
 ghost use Rattle.cidr_c.specs.calls.Calls.{IsAnyValue, IsFoundOrNone, IsYesOrNo};
+ghost use Rattle.cidr_c.specs.model.Networks.{AreIpNetworkValues, ip_networks_in};
 ghost use Rattle.cidr_c.specs.model.Tables.{ipv6_number};
 ghost use Rattle.cidr_c.specs.model.Values.{IsAddressValue, IsIpNetworkValue, IsNetworkValue, address_in, ip_network_in, network_in};
 
@@ -19,6 +20,22 @@ pub fn put_found_network(found: Option<IpCidr>, out: &mut CValue) -> u32
         return NONE;
     };
     put_ip_network(&network, out);
+    OK
+}
+
+/// Makes two values the two networks, if there are any.
+pub fn put_found_networks(
+    found: Option<(IpCidr, IpCidr)>,
+    first: &mut CValue,
+    second: &mut CValue,
+) -> u32
+    ensures { IsFoundOrNone AreIpNetworkValues ip_networks_in found (first.old, second.old) (first.new, second.new) result }
+{
+    let Some((one, other)) = found else {
+        return NONE;
+    };
+    put_ip_network(&one, first);
+    put_ip_network(&other, second);
     OK
 }
 

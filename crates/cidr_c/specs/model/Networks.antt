@@ -1,5 +1,5 @@
 -- Networks and addresses that calls make of the network of a host, of addresses, and of strings.
-use Rattle.std.specs.Prelude.{◌≡◌, ◌≢◌, ◌⊎◌, ◌↔◌, ℕ, ◌+◌, ◌<◌, ◌≤◌, Bool, List, [], ◌∷◌, ◌++◌, drop, length, slice_get, Some, IsUtf8}
+use Rattle.std.specs.Prelude.{◌≡◌, ◌≢◌, ◌⊎◌, ◌↔◌, ℕ, ◌+◌, ◌<◌, ◌≤◌, Bool, false, true, List, [], ◌∷◌, ◌++◌, drop, length, slice_get, Some, IsUtf8}
 use Rattle.cidr.specs.model.Host.{Host}
 use Rattle.cidr.specs.model.Network.{width_of}
 use Rattle.cidr.specs.either.IpAddress.{address_family, plain_bits}
@@ -22,7 +22,21 @@ abbrev pub IsNetworkSought : CValue → Type 0 → (List Bool → Type 0) → CV
 IsNetworkSought host IsNone Holds =
     IsSought (IsHostValue host) IsNone IsIpNetworkValue ip_network_in (λ n. (network_family n ≡ family_in host) × Holds (network_prefix n))
 
--- the same of an address
+-- two networks
+abbrev pub AreIpNetworkValues : CValue × CValue → Type 0
+AreIpNetworkValues values = IsIpNetworkValue values.0 × IsIpNetworkValue values.1
+
+abbrev pub ip_networks_in : CValue × CValue → IpCidr × IpCidr
+ip_networks_in values = (ip_network_in values.0, ip_network_in values.1)
+
+-- both halves of the network of a host, the lower one first, or none where it has all bits of an address
+abbrev pub AreHalvesSought : CValue → CValue × CValue → CValue × CValue → ℕ → Type 0
+AreHalvesSought host =
+    IsSought (IsHostValue host) (length (prefix_in host) ≡ width_in host) AreIpNetworkValues ip_networks_in
+    (λ halves. ((network_family halves.0 ≡ family_in host) × (network_prefix halves.0 ≡ prefix_in host ++ false ∷ []))
+    × ((network_family halves.1 ≡ family_in host) × (network_prefix halves.1 ≡ prefix_in host ++ true ∷ [])))
+
+-- an address of the family of a host, or none
 abbrev pub IsAddressSought : CValue → Type 0 → (List Bool → Type 0) → CValue → CValue → ℕ → Type 0
 IsAddressSought host IsNone Holds =
     IsSought (IsHostValue host) IsNone IsAddressValue address_in (λ a. (address_family a ≡ family_in host) × Holds (plain_bits a))
