@@ -34,9 +34,12 @@ cd "$room"
 calls=(-m unittest discover -q -s "$python/tests" -p "test_[nop]*.py")
 PCIDR_CTYPES=1 "$interpreter" "${calls[@]}" || status=1
 python3 -m zipfile -e "$room"/*.whl "$room/others"
+cp "$python/compare.py" "$python/README.md" "$room"  # beside which the sources of the module don't stand
+comparing=$interpreter
 for other in "${PYENV_ROOT:-$HOME/.pyenv}"/versions/*/bin/python3 /usr/bin/python3; do
     if "$other" -c 'import sys; sys.exit(sys.version_info < (3, 10))' 2>"$room/log"; then
         PYTHONPATH=$room/others "$other" "${calls[@]}" || { echo "pcidr: $other"; status=1; }
+        if "$other" -c 'import netaddr, radix' 2>"$room/log"; then comparing=$other; fi
         # An extension by the header of this Python is used by the first one, too.
         header=$("$other" -c 'import sysconfig; print(sysconfig.get_path("include"))')
         if [[ -f $header/Python.h && -f $room/others/pcidr/_fast.abi3.so && $("$other" -V) != "Python 3.10."* ]]; then
@@ -49,6 +52,8 @@ for other in "${PYENV_ROOT:-$HOME/.pyenv}"/versions/*/bin/python3 /usr/bin/pytho
         fi
     fi
 done
+# The tables of calls, by a Python that has netaddr and radix, if there is one; of each module that it lacks it says so.
+PYTHONPATH=$room/others "$comparing" "$room/compare.py" || status=1
 # The extension once more under the sanitizers of gcc, where they are there.
 sanitizer=$(gcc -print-file-name=libasan.so 2>"$room/log" || true)
 if [[ -f $sanitizer && -f $room/others/pcidr/_fast.abi3.so ]]; then
@@ -69,8 +74,6 @@ if [[ -n $typed ]]; then
 else
     echo "pcidr: there is no mypy: the types were not checked"
 fi
-cp "$python/compare.py" "$python/README.md" "$room"  # beside which the sources of the module don't stand
-"$interpreter" "$room/compare.py" || status=1
 "$interpreter" -m doctest "$room/README.md" || status=1
 "$interpreter" "$python/examples/aggregate.py" "$runs/list" | cmp - "$runs/aggregate.txt" || status=1
 "$interpreter" -c 'from pcidr import Table; Table({"10.0.0.0/8": "core", "10.1.0.0/16": "edge"}).save("routes")'
