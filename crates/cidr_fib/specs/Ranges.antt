@@ -87,7 +87,8 @@ abbrev pub AreCoded : (starts codes : List ℕ) → Ranges → Type 0
 AreCoded starts codes (Whole ranges) = (numbers ranges.starts ≡ starts) × (ranges.codes.items ≡ codes)
 AreCoded starts codes (Parted ranges) = (ranges.codes.items ≡ codes)
     × ((narrow : List ℕ) × (map (λ start. start * 2 ^ 32) narrow ≡ starts) × AreParted narrow ranges.firsts.items ranges.lows.items)
-AreCoded starts codes (Marked ranges) = AreEntries starts codes ranges.entries.items ranges.parts.items ranges.leaves.items
+AreCoded starts codes (Marked ranges) = (length ranges.entries.items ≡ 2 ^ 18)
+    × AreEntries starts codes ranges.entries.items ranges.parts.items ranges.leaves.items
 
 module _ {C : Type 0} (bits : C → List Bool) (rows : List (C × ℕ)) where
   -- what a code says of the longest match of a look-up key: its value, or that there is none; 2 ^ 32 - 2 says nothing

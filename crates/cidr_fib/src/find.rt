@@ -174,6 +174,7 @@ impl Ranges {
     /// The code of the range that has all numbers of the look-up key, or `SEARCH` where none is found.
     #[inline(always)]
     fn code<C: NetworkBits>(&self, asked: &C) -> u32
+        requires { (starts : List ℕ) × (codes : List ℕ) × AreCoded starts codes self.now }
         ensures { (starts codes : List ℕ) → AreCoded starts codes self.now
             → IsRangeCode starts codes (leading (C.bits asked.now)) (last_leading (C.bits asked.now)) result }
     {

@@ -105,7 +105,8 @@ impl MarkedRanges {
         starts: &[u32],
         codes: Vec<u32>,
     ) -> Result<MarkedRanges, AllocError>
-        ensures { IfOk result (λ ranges.
+        ensures all { IfOk result (λ ranges. length ranges.entries.items ≡ 2 ^ 18) }
+        ensures told { IfOk result (λ ranges.
             AreEntries (map (λ start. start * 2 ^ 32) starts.now) codes.items ranges.entries.items ranges.parts.items ranges.leaves.items) }
     {
         let mut leaves = codes;
@@ -127,16 +128,13 @@ impl MarkedRanges {
     /// the key has several of these.
     #[inline(always)]
     pub(crate) fn code<C: NetworkBits>(&self, asked: &C) -> u32
+        requires { length self.now.entries.items ≡ 2 ^ 18 }
         ensures { (starts codes : List ℕ) → AreEntries starts codes self.now.entries.items self.now.parts.items self.now.leaves.items
             → IsRangeCode starts codes (leading (C.bits asked.now)) (last_leading (C.bits asked.now)) result }
     {
         let number = asked.first_bits();
         let entries = self.entries.as_slice();
-        let part = (number / PART) as usize;
-        if part >= entries.len() {
-            return SEARCH;
-        }
-        let entry = entries[part];
+        let entry = entries[(number / PART) as usize];
         if is_place(entry) {
             if !is_in_one_part(asked, BLOCK_BITS) {
                 return SEARCH;
@@ -214,7 +212,8 @@ impl Entries {
     /// and a block in which ranges begin has one that stands for one of them, no leaf comes before the code is passed in
     /// whose place it is put; if one did, the code would be lost, and the rows be searched.
     fn of(alloc: Global, starts: &[u32], leaves: &mut [u32]) -> Result<Entries, AllocError>
-        ensures { IfOk result (λ made.
+        ensures all { IfOk result (λ made. length made.entries.items ≡ 2 ^ 18) }
+        ensures told { IfOk result (λ made.
             AreEntries (map (λ start. start * 2 ^ 32) starts.now) leaves.old made.entries.items made.parts.items leaves.new) }
     {
         let mut entries = Vec::with_capacity(alloc, PARTS as usize)?;

@@ -48,8 +48,8 @@ loop-part-preserved c =
           h.put (omega arith) told.ensures.more told.ensures.kept h.rest (rw h.size told.ensures.told) (omega (arith, behind)) (omega (arith, h.parts)));
     }
 
-pub returns : goal.returns
-returns c =
+pub returns-clause-told : goal.returns-clause-told
+returns-clause-told c =
     let l = c.loop-part in
     let starts = map (λ (start : ℕ). start * 2 ^ 32) c.args.starts.now in
     subst (λ parts. AreEntries starts c.args.leaves.now l.entries.items parts l.leaves) (sym c.shrink_to_fit.ensures.items)
