@@ -6,8 +6,10 @@ pub mod FieldsAt
 pub mod FirstWords
 pub mod Found
 pub mod Hosts
+pub mod JsonStrings
 pub mod KeptNear
 pub mod LineFeeds
+pub mod LookObjects
 pub mod MaskedTexts
 pub mod Merged
 pub mod Nested

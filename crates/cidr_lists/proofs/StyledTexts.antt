@@ -1,5 +1,5 @@
 -- Sets in the formats of other tools: texts in their pieces, and what is read of them again.
-use Rattle.std.proofs.Common.{◌≡◌, ◌≢◌, refl, sym, ◌∙◌, ap, ap₂, subst, inl, inr, arith, ℕ, ◌+◌, ◌-◌, ◌<◌, ◌≤◌, ◌==◌, Bool, true, false, if◌then◌else◌, List, [], ◌∷◌, ◌++◌, length, length-append, take, drop, get_or, map, slice_index, append_assoc, append-nil, codes, decimal, Option, Some, None, eq-eqb, ne_eqb}
+use Rattle.std.proofs.Common.{◌≡◌, ◌≢◌, refl, sym, ◌∙◌, ap, ap₂, subst, inl, inr, arith, ℕ, ◌+◌, ◌-◌, ◌<◌, ◌≤◌, ◌==◌, Bool, true, false, if◌then◌else◌, List, [], ◌∷◌, ◌++◌, Contains, length, length-append, take, drop, get_or, map, slice_index, append_assoc, append-nil, codes, decimal, Option, Some, None, eq-eqb, ne_eqb}
 use Rattle.std.specs.Char.{digit_value}
 use Rattle.std.specs.List.{All, AllZip, find, flat_map, slice_split}
 use Rattle.std.specs.Option.{option_or}
@@ -20,14 +20,19 @@ use Rattle.cidr.specs.declared.family.Family.{Family}
 use Rattle.cidr.specs.declared.family.Family.TheVariants.{Ipv4, Ipv6}
 use Rattle.cidr.proofs.Cuts.{Lacks-append, Lacks-cons, Lacks-length}
 use Rattle.cidr.proofs.NetworkPrinting.{IsAddressText-address_text, IsLengthText-decimal, network_plain}
-use Rattle.cidr_table.specs.model.Cover.{AreNetworks}
-use Rattle.cidr_table.proofs.MapLaws.{contains_first, contains_later}
-use Rattle.cidr_lists.specs.Formats.{bare, json_layout, laid_out, members, network_by, plain_layout, row, styled}
+use Rattle.cidr_table.proofs.MapLaws.{contains_cases, contains_first, contains_later, contains_nothing}
+use Rattle.cidr_lists.specs.Changes.{change_layout, change_line, family_changes, printed_changes, sign_text}
+use Rattle.cidr_lists.specs.Formats.{bare, json, laid_out, members, network_by, plain_layout, styled}
+use Rattle.cidr_lists.specs.Json.{quote}
 use Rattle.cidr_lists.specs.Lists.{is_line_feed, text_by}
 use Rattle.cidr_lists.specs.Printing.{line}
-use Rattle.cidr_lists.specs.ReadBack.{AreOfFamilies, SaysJust, TellsJust, ObjectTells, quote}
+use Rattle.cidr_lists.specs.ReadBack.{AreOfFamilies, ChangeTells, ObjectTells, SaysJust, TellsBehind, TellsJust}
 use Rattle.cidr_lists.specs.Sets.{printed_networks, printed_sets}
+use Rattle.cidr_lists.specs.declared.changes.Sign.{Sign}
+use Rattle.cidr_lists.specs.declared.changes.Sign.TheVariants.{Plus, Minus}
 use Rattle.cidr_lists.specs.declared.formats.Format.TheVariants as format
+use Rattle.cidr_lists.specs.declared.formats.LineFormat.TheVariants as by_line
+use Rattle.cidr_lists.specs.declared.formats.Notation.TheVariants.{Members}
 use Rattle.cidr_lists.specs.declared.lines.HostBits.{HostBits}
 use Rattle.cidr_lists.proofs.PlainTexts.{lacks_address, lacks_by_family}
 use Rattle.cidr_lists.proofs.PrintedLines.{printed_read}
@@ -105,14 +110,35 @@ split_in_front text rest none =
     λ k d within. ap is_line_feed (get_or_default_zero text k d within) ∙ ne_eqb (slice_index text k) 10 (none k within) in
     ap (slice_split is_line_feed) (append_assoc text (10 ∷ []) rest) ∙ slice_split_at is_line_feed text 10 rest apart refl
 
-module _ (w : ℕ) (f : List Bool → List ℕ) (apart : (p : List Bool) → length p ≤ w → Lacks 10 (f p)) where
-  pub split_lines : (ps : List (List Bool)) (rest : List ℕ) → AreNetworks w ps
-      → slice_split is_line_feed (flat_map (λ p. line (f p)) ps ++ rest) ≡ map f ps ++ slice_split is_line_feed rest
+module _ {X : Type 0} (f : X → List ℕ) (IsFit : X → Type 0) (apart : (x : X) → IsFit x → Lacks 10 (f x)) where
+  pub split_lines : (xs : List X) (rest : List ℕ) → ((x : X) → Contains xs x → IsFit x)
+      → slice_split is_line_feed (flat_map (λ x. line (f x)) xs ++ rest) ≡ map f xs ++ slice_split is_line_feed rest
   split_lines [] rest fit = refl
-  split_lines (p ∷ ps) rest fit =
-      ap (slice_split is_line_feed) (append_assoc (line (f p)) (flat_map (λ q. line (f q)) ps) rest)
-      ∙ (split_in_front (f p) (flat_map (λ q. line (f q)) ps ++ rest) (apart p (fit p (contains_first p ps)))
-      ∙ ap (λ (k : List (List ℕ)). f p ∷ k) (split_lines ps rest (λ q c. fit q (contains_later p q ps c))))
+  split_lines (x ∷ xs) rest fit =
+      ap (slice_split is_line_feed) (append_assoc (line (f x)) (flat_map (λ y. line (f y)) xs) rest)
+      ∙ (split_in_front (f x) (flat_map (λ y. line (f y)) xs ++ rest) (apart x (fit x (contains_first x xs)))
+      ∙ ap (λ (k : List (List ℕ)). f x ∷ k) (split_lines xs rest (λ y c. fit y (contains_later x y xs c))))
+
+module _ {X : Type 0} (f : Family → X → List ℕ) (IsFit : Family → X → Type 0) (Tells : Family → List ℕ → X → Type 0)
+    (apart : (family : Family) (x : X) → IsFit family x → Lacks 10 (f family x)) (tells : (family : Family) (x : X) → IsFit family x → Tells family (f family x) x) where
+  pub all_tell : (family : Family) (xs : List X) → ((x : X) → Contains xs x → IsFit family x) → AllZip (Tells family) (map (f family) xs) xs
+  all_tell family [] fit = tt
+  all_tell family (x ∷ xs) fit = (tells family x (fit x (contains_first x xs)), all_tell family xs (λ y c. fit y (contains_later x y xs c)))
+
+  -- lines that each tell their own
+  lines_tell : (told : Family → List X) → ((family : Family) (x : X) → Contains (told family) x → IsFit family x)
+      → TellsJust Tells (flat_map (λ x. line (f Ipv4 x)) (told Ipv4) ++ flat_map (λ x. line (f Ipv6 x)) (told Ipv6)) told
+  lines_tell told fit =
+      let last : slice_split is_line_feed (flat_map (λ x. line (f Ipv6 x)) (told Ipv6)) ≡ map (f Ipv6) (told Ipv6) ++ [] ∷ [] =
+      ap (slice_split is_line_feed) (sym (append-nil (flat_map (λ x. line (f Ipv6 x)) (told Ipv6))))
+      ∙ split_lines (f Ipv6) (IsFit Ipv6) (apart Ipv6) (told Ipv6) [] (fit Ipv6) in (
+        map (f Ipv4) (told Ipv4),
+        map (f Ipv6) (told Ipv6),
+        split_lines (f Ipv4) (IsFit Ipv4) (apart Ipv4) (told Ipv4) (flat_map (λ x. line (f Ipv6 x)) (told Ipv6)) (fit Ipv4)
+            ∙ ap (λ (k : List (List ℕ)). map (f Ipv4) (told Ipv4) ++ k) last,
+        all_tell Ipv4 (told Ipv4) (fit Ipv4),
+        all_tell Ipv6 (told Ipv6) (fit Ipv6),
+      )
 
 -- ---- plain
 plain_family : (family : Family) (ps : List (List Bool))
@@ -133,7 +159,7 @@ plain_read bits networks fit =
 
 -- ---- JSON
 -- a byte is not among others
-abbrev misses : ℕ → List ℕ → Bool
+abbrev pub misses : ℕ → List ℕ → Bool
 misses c [] = true
 misses c (x ∷ xs) = if x == c then false else misses c xs
 
@@ -143,7 +169,7 @@ missed c x xs h = elim (cases_eq x c) [
   | inr other ↦ (other, sym (ap (λ (k : Bool). if k then false else misses c xs) (ne_eqb x c other)) ∙ h)
 ]
 
-lacks_by : (c : ℕ) (xs : List ℕ) → misses c xs ≡ true → Lacks c xs
+pub lacks_by : (c : ℕ) (xs : List ℕ) → misses c xs ≡ true → Lacks c xs
 lacks_by c [] h = λ i within. absurd (omega (arith, within))
 lacks_by c (x ∷ xs) h = let (other, more) = missed c x xs h in Lacks-cons c x xs other (lacks_by c xs more)
 
@@ -166,29 +192,38 @@ byte_length : (family : Family) (n : ℕ) → n ≤ width_of family → n < 256
 byte_length Ipv4 n fits = omega (arith, fits)
 byte_length Ipv6 n fits = omega (arith, fits)
 
-module _ (family : Family) (behind : List ℕ) where
-  abbrev object : List Bool → List ℕ
-  object p = row (λ notation q. network_by notation family q) (json_layout behind) p
+-- the bits of a network fit its family
+abbrev pub IsFit : Family → List Bool → Type 0
+IsFit family p = length p ≤ width_of family
 
-  json_family : (ps : List (List Bool)) → laid_out (λ notation p. network_by notation family p) (json_layout behind) ps ≡ flat_map (λ p. line (object p)) ps
-  json_family [] = refl
-  json_family (p ∷ ps) = joined_lines object p ps
+-- what stands behind the members of a network in an object
+abbrev pub behind_of : Family → List ℕ
+behind_of family = (json family).behind
 
-  object_tells : (p : List Bool) → length p ≤ width_of family → ObjectTells family (object p) p
-  object_tells p fits =
+no_behind : (family : Family) → Lacks 10 (behind_of family)
+no_behind Ipv4 = lacks_by 10 (behind_of Ipv4) refl
+no_behind Ipv6 = lacks_by 10 (behind_of Ipv6) refl
+
+-- the members of a network, and what stands behind them
+abbrev pub told : Family → List Bool → List ℕ
+told family p = network_by Members family p ++ behind_of family
+
+module _ (family : Family) (p : List Bool) (fits : IsFit family p) where
+  pub tells_behind : (front : List ℕ) → TellsBehind front family (front ++ told family p) p
+  tells_behind front =
       let w = width_of family in
       let first = address_text family (first_of w p) in
       let last = address_text family (last_of w p) in
       let rest = codes ",\"first\":\"" ++ (first ++ (codes "\",\"last\":\"" ++ (last ++ (codes "\",\"length\":" ++ decimal (length p))))) in (
         plain_text family p,
-        rest ++ behind,
-        ap (λ (k : List ℕ). codes "{\"network\":\"" ++ k) (append_assoc (plain_text family p) (quote ∷ rest) behind),
+        rest ++ behind_of family,
+        ap (λ (k : List ℕ). front ++ k) (append_assoc (plain_text family p) (quote ∷ rest) (behind_of family)),
         lacks_plain quote (omega arith) (omega arith) (omega arith) (omega arith) (omega arith) family p fits,
         network_plain family p fits,
       )
 
-  object_apart : Lacks 10 behind → (p : List Bool) → length p ≤ width_of family → Lacks 10 (object p)
-  object_apart none p fits =
+  pub told_apart : Lacks 10 (told family p)
+  told_apart =
       let w = width_of family in
       let first = address_text family (first_of w p) in
       let last = address_text family (last_of w p) in
@@ -196,7 +231,6 @@ module _ (family : Family) (behind : List ℕ) where
       let a = codes "\",\"first\":\"" in
       let b = codes "\",\"last\":\"" in
       let c = codes "\",\"length\":" in
-      let front = codes "{\"network\":\"" in
       let no_first : Lacks 10 first = lacks_end 10 (omega arith) (omega arith) (omega arith) (omega arith) (omega arith) family p fits (first_of w p) (length-first_of w p fits) in
       let no_last : Lacks 10 last = lacks_end 10 (omega arith) (omega arith) (omega arith) (omega arith) (omega arith) family p fits (last_of w p) (length-last_of w p fits) in
       let no_len : Lacks 10 len = lacks_decimal 10 (omega arith) (omega arith) (omega arith) (omega arith) (omega arith) family p fits (byte_length family (length p) fits) in
@@ -207,28 +241,74 @@ module _ (family : Family) (behind : List ℕ) where
       (Lacks-append 10 first (b ++ (last ++ (c ++ len))) no_first
       (Lacks-append 10 b (last ++ (c ++ len)) (lacks_by 10 b refl)
       (Lacks-append 10 last (c ++ len) no_last (Lacks-append 10 c len (lacks_by 10 c refl) no_len))))) in
-      Lacks-append 10 front (members (plain_text family p) first last (length p) ++ behind) (lacks_by 10 front refl)
-      (Lacks-append 10 (members (plain_text family p) first last (length p)) behind members_lack none)
+      Lacks-append 10 (members (plain_text family p) first last (length p)) (behind_of family) members_lack (no_behind family)
 
-  objects_tell : (ps : List (List Bool)) → AreNetworks (width_of family) ps → AllZip (ObjectTells family) (map object ps) ps
-  objects_tell [] fit = tt
-  objects_tell (p ∷ ps) fit = (object_tells p (fit p (contains_first p ps)), objects_tell ps (λ q c. fit q (contains_later p q ps c)))
+-- the object of a network
+abbrev object : Family → List Bool → List ℕ
+object family p = codes "{\"network\":\"" ++ told family p
 
-pub json_read : (networks : Family → List (List Bool)) → AreOfFamilies networks → TellsJust (styled (bare format.Json) networks) networks
+object_apart : (family : Family) (p : List Bool) → IsFit family p → Lacks 10 (object family p)
+object_apart family p fits =
+    let front = codes "{\"network\":\"" in
+    Lacks-append 10 front (told family p) (lacks_by 10 front refl) (told_apart family p fits)
+
+objects : (family : Family) (ps : List (List Bool)) → laid_out (λ notation p. network_by notation family p) (json family) ps ≡ flat_map (λ p. line (object family p)) ps
+objects Ipv4 [] = refl
+objects Ipv6 [] = refl
+objects Ipv4 (p ∷ ps) = joined_lines (object Ipv4) p ps
+objects Ipv6 (p ∷ ps) = joined_lines (object Ipv6) p ps
+
+pub json_read : (networks : Family → List (List Bool)) → AreOfFamilies networks → TellsJust ObjectTells (styled (bare format.Json) networks) networks
 json_read networks fit =
-    let four = codes ",\"family\":\"IPv4\"}" in
-    let six = codes ",\"family\":\"IPv6\"}" in
-    let last : slice_split is_line_feed (flat_map (λ p. line (object Ipv6 six p)) (networks Ipv6)) ≡ map (object Ipv6 six) (networks Ipv6) ++ [] ∷ [] =
-    ap (slice_split is_line_feed) (sym (append-nil (flat_map (λ p. line (object Ipv6 six p)) (networks Ipv6))))
-    ∙ split_lines 128 (object Ipv6 six) (object_apart Ipv6 six (lacks_by 10 six refl)) (networks Ipv6) [] (fit Ipv6) in
-    let whole : slice_split is_line_feed (styled (bare format.Json) networks)
-    ≡ map (object Ipv4 four) (networks Ipv4) ++ (map (object Ipv6 six) (networks Ipv6) ++ [] ∷ []) =
-    ap (slice_split is_line_feed) (ap₂ (λ (a b : List ℕ). a ++ b) (json_family Ipv4 four (networks Ipv4)) (json_family Ipv6 six (networks Ipv6)))
-    ∙ (split_lines 32 (object Ipv4 four) (object_apart Ipv4 four (lacks_by 10 four refl)) (networks Ipv4) (flat_map (λ p. line (object Ipv6 six p)) (networks Ipv6)) (fit Ipv4)
-    ∙ ap (λ (k : List (List ℕ)). map (object Ipv4 four) (networks Ipv4) ++ k) last) in (
-      map (object Ipv4 four) (networks Ipv4),
-      map (object Ipv6 six) (networks Ipv6),
-      whole,
-      objects_tell Ipv4 four (networks Ipv4) (fit Ipv4),
-      objects_tell Ipv6 six (networks Ipv6) (fit Ipv6),
-    )
+    subst (λ (k : List ℕ). TellsJust ObjectTells k networks)
+    (sym (ap₂ (λ (a b : List ℕ). a ++ b) (objects Ipv4 (networks Ipv4)) (objects Ipv6 (networks Ipv6))))
+    (lines_tell object IsFit ObjectTells object_apart (λ family p fits. tells_behind family p fits (codes "{\"network\":\"")) networks fit)
+
+-- ---- changes
+-- what stands in front of the network of a change
+abbrev change_front : Sign → List ℕ
+change_front sign = codes "{\"change\":\"" ++ (sign_text sign ++ codes "\",\"network\":\"")
+
+abbrev change_object : Family → Sign × List Bool → List ℕ
+change_object family (sign, p) = change_front sign ++ told family p
+
+abbrev IsChangeFit : Family → Sign × List Bool → Type 0
+IsChangeFit family (sign, p) = IsFit family p
+
+no_change : (sign : Sign) → Lacks 10 (change_front sign)
+no_change Plus = lacks_by 10 (change_front Plus) refl
+no_change Minus = lacks_by 10 (change_front Minus) refl
+
+change_apart : (family : Family) (change : Sign × List Bool) → IsChangeFit family change → Lacks 10 (change_object family change)
+change_apart family (sign, p) fits = Lacks-append 10 (change_front sign) (told family p) (no_change sign) (told_apart family p fits)
+
+-- a change as a line is its object and a line feed
+change_is_line : (family : Family) (change : Sign × List Bool)
+    → change_line (λ notation p. network_by notation family p) (change_layout by_line.Json family) change ≡ line (change_object family change)
+change_is_line family (Plus, p) =
+    ap (λ (k : List ℕ). change_front Plus ++ k) (sym (append_assoc (network_by Members family p) (behind_of family) (10 ∷ [])))
+change_is_line family (Minus, p) =
+    ap (λ (k : List ℕ). change_front Minus ++ k) (sym (append_assoc (network_by Members family p) (behind_of family) (10 ∷ [])))
+
+changes_are_lines : (family : Family) (changes : List (Sign × List Bool))
+    → family_changes by_line.Json family changes ≡ flat_map (λ change. line (change_object family change)) changes
+changes_are_lines family changes =
+    same_lines (change_line (λ notation p. network_by notation family p) (change_layout by_line.Json family)) (λ change. line (change_object family change))
+    (change_is_line family) changes
+
+contains_network : (change : Sign × List Bool) (changes : List (Sign × List Bool)) → Contains changes change → Contains (map (λ c. c.1) changes) change.1
+contains_network change [] has = absurd (contains_nothing change has)
+contains_network change (c ∷ changes) has =
+    let networks = map (λ (k : Sign × List Bool). k.1) changes in
+    elim (contains_cases c change changes has) [
+      | inl same ↦ subst (λ (k : Sign × List Bool). Contains (c.1 ∷ networks) k.1) same (contains_first c.1 networks)
+      | inr later ↦ contains_later c.1 change.1 networks (contains_network change changes later)
+    ]
+
+pub changes_read : (changes : Family → List (Sign × List Bool)) → AreOfFamilies (λ family. map (λ change. change.1) (changes family))
+    → TellsJust ChangeTells (printed_changes by_line.Json changes) changes
+changes_read changes fit =
+    subst (λ (k : List ℕ). TellsJust ChangeTells k changes)
+    (sym (ap₂ (λ (a b : List ℕ). a ++ b) (changes_are_lines Ipv4 (changes Ipv4)) (changes_are_lines Ipv6 (changes Ipv6))))
+    (lines_tell change_object IsChangeFit ChangeTells change_apart (λ family change fits. tells_behind family change.1 fits (change_front change.0)) changes
+    (λ family change has. fit family change.1 (contains_network change (changes family) has)))

@@ -16,6 +16,7 @@ pub mod Combining
 pub mod Texts
 pub mod Changes
 pub mod Formats
+pub mod Json
 pub mod ReadBack
 pub mod Rules
 pub mod Classes

@@ -7,8 +7,11 @@ use Rattle.cidr.specs.texts.PrintedAddress.{ip_text}
 use Rattle.cidr.specs.declared.addr.ip.IpAddr.{IpAddr}
 use Rattle.cidr.specs.declared.family.Family.{Family}
 use Rattle.cidr_table.specs.model.Prefixes.{IsLookedUp}
+use Rattle.cidr_lists.specs.Formats.{json, network_by}
+use Rattle.cidr_lists.specs.Json.{string_text}
 use Rattle.cidr_lists.specs.Lists.{IsBadLineBy, IsTooLong, lines_of}
 use Rattle.cidr_lists.specs.Lines.{lines_in}
+use Rattle.cidr_lists.specs.Printing.{line}
 use Rattle.cidr_lists.specs.Fields.{AddressSays, FieldIsAddress, HasBadAddress, IsBadAddress}
 use Rattle.cidr_lists.specs.Words.{IsFirstAddress}
 use Rattle.cidr_lists.specs.declared.columns.Separator.{Separator}
@@ -16,6 +19,7 @@ use Rattle.cidr_lists.specs.declared.columns.Separator.TheVariants.{WhiteSpace, 
 use Rattle.cidr_lists.specs.declared.errors.LineError.{LineError}
 use Rattle.cidr_lists.specs.declared.fields.Asked.{Asked}
 use Rattle.cidr_lists.specs.declared.fields.Asked.TheVariants.{First, Field, Anywhere}
+use Rattle.cidr_lists.specs.declared.formats.Notation.TheVariants.{Members}
 
 -- an address, and the longest network of a table that has it, with its value, if there is one
 pub record LookUp : Type 0 where
@@ -106,6 +110,21 @@ abbrev pub kept_line : ℕ → List ℕ → Option (List ℕ × List ℕ) → Li
 kept_line joint line None = line ++ codes "\n"
 kept_line joint line (Some (network, value)) =
     without_returns line ++ (joint ∷ (network ++ (gap joint value ++ (value ++ (returns_of line ++ codes "\n")))))
+
+-- ---- objects of JSON (RFC 8259)
+-- what stands in front of the network of an address: the address, and the value of the network
+abbrev pub object_front : List ℕ → List ℕ → List ℕ
+object_front address value = codes "{\"address\":\"" ++ (address ++ (codes "\",\"value\":\"" ++ (string_text value ++ codes "\",\"network\":\"")))
+
+-- the object of an address, with its network and the value of that; or null for both
+abbrev pub found_object : Family → List ℕ → Option (List Bool × List ℕ) → List ℕ
+found_object family address None = codes "{\"address\":\"" ++ (address ++ codes "\",\"value\":null,\"network\":null}")
+found_object family address (Some (p, value)) = object_front address value ++ (network_by Members family p ++ (json family).behind)
+
+-- the line that is written for a line, if it has an address
+abbrev pub look_object : Option LookUp → List ℕ
+look_object None = []
+look_object (Some look) = line (found_object (address_family look.address) (ip_text look.address) look.found)
 
 -- ---- lines one behind the other
 -- the network that was found, as it is printed, with its value

@@ -4,7 +4,7 @@ ghost use Rattle.std.specs.Iterator.{YieldsFirst, item_count};
 ghost use Rattle.cidr_lists.specs.Changes.{adds_first, change_layout, change_layout_in, merged, sign_text};
 ghost use Rattle.cidr_lists.specs.declared.formats.LineFormat.TheVariants.{Json};
 
-use crate::formats::{LineFormat, Notation};
+use crate::formats::{LineFormat, Notation, object_end};
 use cidr::{Family, NetworkBits};
 use std::marker::Model;
 
@@ -44,15 +44,11 @@ pub struct ChangeLayout<'a> {
 fn json(family: Family) -> ChangeLayout<'static>
     ensures { change_layout_in result ≡ change_layout Json family }
 {
-    let behind: &'static str = match family {
-        Family::Ipv4 => ",\"family\":\"IPv4\"}",
-        Family::Ipv6 => ",\"family\":\"IPv6\"}",
-    };
     ChangeLayout {
         before: "{\"change\":\"",
         between: "\",\"network\":\"",
         notation: Notation::Members,
-        behind,
+        behind: object_end(family),
     }
 }
 

@@ -283,20 +283,26 @@ fn plain<'a>(prefix: &'a str, suffix: &'a str) -> Layout<'a>
     }
 }
 
+/// What ends an object of JSON behind the members of a network: `,"family":"IPv4"}`.
+pub fn object_end(family: Family) -> &'static str
+    ensures { result.now ≡ (json family).behind }
+{
+    match family {
+        Family::Ipv4 => ",\"family\":\"IPv4\"}",
+        Family::Ipv6 => ",\"family\":\"IPv6\"}",
+    }
+}
+
 /// An object of JSON a line.
 fn json(family: Family) -> Layout<'static>
     ensures { layout_in result ≡ json family }
 {
-    let behind: &'static str = match family {
-        Family::Ipv4 => ",\"family\":\"IPv4\"}",
-        Family::Ipv6 => ",\"family\":\"IPv6\"}",
-    };
     Layout {
         none: "",
         head: "",
         before: "{\"network\":\"",
         notation: Notation::Members,
-        behind,
+        behind: object_end(family),
         between: "\n",
         tail: "\n",
     }

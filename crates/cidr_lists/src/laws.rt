@@ -1,16 +1,21 @@
 //! Laws, each as the contract of a function that does nothing. After a call, a caller's proof has the law; a program
 //! that runs needs none of these.
-ghost use Rattle.std.specs.Prelude.{◌≡◌, [], ◌∷◌, ◌==◌, ℕ, Bool, List, get_or};
-ghost use Rattle.std.specs.List.{AllZip, slice_split};
+ghost use Rattle.std.specs.Prelude.{◌≡◌, [], ◌∷◌, ◌==◌, ℕ, Bool, List, ◌++◌, Contains, Option, get_or, map, option_to_list};
+ghost use Rattle.std.specs.List.{AllZip, flat_map, slice_split};
 ghost use Rattle.cidr.specs.declared.cidr.combined.IpCidr.{IpCidr};
 ghost use Rattle.cidr.specs.declared.family.Family.{Family};
+ghost use Rattle.cidr_lists.specs.Changes.{printed_changes};
 ghost use Rattle.cidr_lists.specs.Fields.{field_at};
 ghost use Rattle.cidr_lists.specs.Formats.{bare, styled};
+ghost use Rattle.cidr_lists.specs.Json.{IsStringText, quote};
+ghost use Rattle.cidr_lists.specs.LookUps.{LookUp, look_object};
 ghost use Rattle.cidr_lists.specs.Lists.{IsNetworkBy, Text, ListSays, text_by};
-ghost use Rattle.cidr_lists.specs.ReadBack.{AreOfFamilies, AreUnions, SaysJust, TellsJust};
+ghost use Rattle.cidr_lists.specs.ReadBack.{AreOfFamilies, AreUnions, ChangeTells, IsLookUp, ObjectTells, SaysJust, TellsJust, TellsLooks};
 ghost use Rattle.cidr_lists.specs.Sets.{printed_sets};
+ghost use Rattle.cidr_lists.specs.declared.changes.Sign.{Sign};
 ghost use Rattle.cidr_lists.specs.declared.columns.Separator.TheVariants.{Byte};
 ghost use Rattle.cidr_lists.specs.declared.formats.Format.TheVariants.{Json, Plain};
+ghost use Rattle.cidr_lists.specs.declared.formats.LineFormat.TheVariants.{Json as JsonLines};
 ghost use Rattle.cidr_lists.specs.declared.lines.HostBits.{HostBits};
 
 /// A string is one network at most, in each way of reading networks.
@@ -50,7 +55,28 @@ pub fn plain_format_is_read()
 /// Each line of what is printed of networks as JSON tells its network, by the string of the member `network`: IPv4
 /// before IPv6, in their order, and there are no other lines.
 pub fn json_is_read()
-    ensures { (networks : Family → List (List Bool)) → AreOfFamilies networks → TellsJust (styled (bare Json) networks) networks }
+    ensures { (networks : Family → List (List Bool)) → AreOfFamilies networks
+        → TellsJust ObjectTells (styled (bare Json) networks) networks }
+{}
+
+/// Each line of what is printed of changes as JSON tells its change, the sign by the string of the member `change` and the
+/// network by that of `network`: IPv4 before IPv6, in their order, and there are no other lines.
+pub fn json_changes_are_read()
+    ensures { (changes : Family → List (Sign × List Bool)) → AreOfFamilies (λ family. map (λ change. change.1) (changes family))
+        → TellsJust ChangeTells (printed_changes JsonLines changes) changes }
+{}
+
+/// Each object of JSON that is printed of look-ups tells its address, and the value and the network that were found: in their
+/// order, and there are no other lines.
+pub fn look_objects_are_read()
+    ensures { (looks : List (Option LookUp)) → ((look : LookUp) → Contains (flat_map option_to_list looks) look → IsLookUp look)
+        → TellsLooks (flat_map look_object looks) (flat_map option_to_list looks) }
+{}
+
+/// A text is a string of JSON of one value at most, however bytes are written in it, and ends at the quote behind it.
+pub fn a_string_says_one_value()
+    ensures { (text other rest behind value another : List ℕ) → IsStringText text value → IsStringText other another
+        → text ++ quote ∷ rest ≡ other ++ quote ∷ behind → value ≡ another }
 {}
 
 /// The fields of a line between bytes are the parts into which these cut it, in their order, and behind the last part

@@ -1,0 +1,54 @@
+//! Strings of JSON.
+ghost use Rattle.std.specs.Prelude.{◌≡◌, ◌<◌, ◌++◌, OnOk};
+ghost use Rattle.std.specs.Char.{digit_char};
+ghost use Rattle.cidr_lists.specs.Json.{spelling, string_text};
+
+use arrayvec::ArrayVec;
+use std::alloc::AllocError;
+
+/// A hexadecimal digit.
+fn hex_digit(value: u8) -> u8
+    requires { value < 16 }
+    ensures { result ≡ digit_char value }
+{
+    if value < 10 {
+        b'0' + value
+    } else {
+        b'a' + (value - 10)
+    }
+}
+
+/// A byte of UTF-8 as it is written in a string of JSON (RFC 8259, 7): a quote and a backslash behind a backslash, a control
+/// character of ASCII as its code, `\u0009`, and any other as it is. So the bytes of a text are written one after the other.
+pub fn spelling(byte: u8) -> ArrayVec<u8, 6>
+    ensures { result.items ≡ spelling byte }
+{
+    let mut text = ArrayVec::new();
+    if byte == b'"' || byte == b'\\' {
+        text.push(b'\\');
+        text.push(byte);
+        return text;
+    }
+    if byte < 32 {
+        text.push(b'\\');
+        text.push(b'u');
+        text.push(b'0');
+        text.push(b'0');
+        text.push(hex_digit(byte / 16));
+        text.push(hex_digit(byte % 16));
+        return text;
+    }
+    text.push(byte);
+    text
+}
+
+/// Appends a text of UTF-8 as it is written in a string of JSON, without the quotes around it. The error is that an
+/// allocation fails.
+pub fn push_string(text: &mut Vec<u8>, value: &[u8]) -> Result<(), AllocError>
+    ensures { OnOk result (text.new.items ≡ text.old.items ++ string_text value.now) }
+{
+    for byte in value {
+        text.extend_from_slice(spelling(*byte).as_slice())?;
+    }
+    Ok(())
+}
