@@ -208,9 +208,9 @@ fn elsewhere(starts: &[u32]) -> usize {
 }
 
 impl Entries {
-    /// Those of ranges with these starts, in place of whose codes the leaves are put. As no range has more leaves than one,
-    /// and a block in which ranges begin has one that stands for one of them, no leaf comes before the code is passed in
-    /// whose place it is put; if one did, the code would be lost, and the rows be searched.
+    /// Those of ranges with these starts, in place of whose codes the leaves are put. A range has one leaf at most, and a
+    /// block in which ranges begin has one that stands for one of them. Where all ranges up to one have leaves, that of the
+    /// last is put in place of its own code: if it goes on into a part, its code is lost there, and the rows are searched.
     fn of(alloc: Global, starts: &[u32], leaves: &mut [u32]) -> Result<Entries, AllocError>
         ensures all { IfOk result (λ made. length made.entries.items ≡ 2 ^ 18) }
         ensures told { IfOk result (λ made.

@@ -63,11 +63,11 @@ impl<C: NetworkBits + Copy> ForwardingTable<C> {
     /// The value of the longest key that contains the look-up key, or `None` where none does: the longest match of a
     /// forwarding table (RFC 1812, 5.2.4.3). An address is looked up as the network of full prefix length.
     ///
-    /// It is one search among the starts of ranges, O(log n) at most and a few steps for most addresses: a quarter to
+    /// It is one search among the starts of ranges, O(log n) at most and a few steps for most addresses: a tenth to
     /// four fifths of the time of a look-up by `lookups`. It is a `lookup` in the table where a key of more than 64
     /// bits has the first 64 of the look-up key, for a network whose parts have different matches, for some of fewer
-    /// than 24 bits, and in a table of many rows of IPv4 where a key of more than 24 bits has the first 24. It allocates
-    /// nothing.
+    /// than 24 bits, and in a table of many rows of IPv4 where a key of more than 24 bits has the first 24, or where nearly
+    /// each row is a network apart, for some addresses. It allocates nothing.
     ///
     /// ```
     /// ready.find(&"10.0.0.0/15".parse()?) // Some(2)
