@@ -89,14 +89,18 @@ struct Told {
 }
 
 impl MarkedRanges {
-    /// Whether this form is quick for such ranges, of which at most an eighth may begin elsewhere than a block, and takes
-    /// few bytes for so many rows.
+    /// Whether this form is quick for such ranges, and takes few bytes for so many rows: at most an eighth of them may
+    /// begin elsewhere than a block, and at most an eighth stand before the first one of whole parts. Behind that one no
+    /// leaf is put in place of a code that is still read.
     pub(crate) fn fits(starts: &[u32], rows: usize) -> bool {
         let bytes = starts
             .len()
             .saturating_mul(4)
             .saturating_add(16 * PARTS as usize);
-        bytes <= rows.saturating_mul(MOST_BYTES) && elsewhere(starts) <= starts.len() / 8
+        let most = starts.len() / 8;
+        bytes <= rows.saturating_mul(MOST_BYTES)
+            && elsewhere(starts) <= most
+            && first_whole(starts) <= most
     }
 
     /// What the ranges with these starts and codes tell: a pass over both. The leaves are put where the codes stand.
@@ -207,10 +211,21 @@ fn elsewhere(starts: &[u32]) -> usize {
     count
 }
 
+/// Where the first range stands that begins and ends where parts do, so that it has no leaf, or how many ranges there are.
+fn first_whole(starts: &[u32]) -> usize {
+    for place in 1..starts.len() {
+        if (starts[place - 1] | starts[place]) % 0x4000 == 0 {
+            return place - 1;
+        }
+    }
+    starts.len()
+}
+
 impl Entries {
     /// Those of ranges with these starts, in place of whose codes the leaves are put. A range has one leaf at most, and a
     /// block in which ranges begin has one that stands for one of them. Where all ranges up to one have leaves, that of the
     /// last is put in place of its own code: if it goes on into a part, its code is lost there, and the rows are searched.
+    /// `fits` takes no table with many such ranges.
     fn of(alloc: Global, starts: &[u32], leaves: &mut [u32]) -> Result<Entries, AllocError>
         ensures all { IfOk result (λ made. length made.entries.items ≡ 2 ^ 18) }
         ensures told { IfOk result (λ made.
