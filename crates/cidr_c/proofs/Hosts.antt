@@ -1,18 +1,10 @@
 -- The ends of walks over hosts of either family.
-use Rattle.std.proofs.Common.{◌≡◌, ◌∷◌, ◌++◌, [], List, ap}
+use Rattle.std.proofs.Common.{◌≡◌, ◌∷◌, ◌++◌, [], List}
 use Rattle.cidr.specs.model.Host.{Host}
-use Rattle.cidr.specs.model.Network.{width_of}
-use Rattle.cidr.specs.either.IpAddress.{address_family, plain_bits}
 use Rattle.cidr.specs.either.IpHost.{host_address, host_family, host_parts}
-use Rattle.cidr.specs.either.IpNetwork.{address_by, network_family, network_prefix}
-use Rattle.cidr.specs.declared.addr.ip.IpAddr.{IpAddr}
-use Rattle.cidr.specs.declared.addr.ip.IpAddr.TheVariants as address
-use Rattle.cidr.specs.declared.cidr.combined.IpCidr.{IpCidr}
-use Rattle.cidr.specs.declared.cidr.combined.IpCidr.TheVariants as network
 use Rattle.cidr.specs.declared.family.Family.{Family}
 use Rattle.cidr.specs.declared.inet.combined.IpInet.{IpInet}
 use Rattle.cidr.specs.declared.inet.combined.IpInet.TheVariants.{V4, V6}
-use Rattle.cidr_ext.specs.model.Inside.{host_mask_of}
 use Rattle.cidr_c.specs.model.Networks.{IsFirstHost, IsLastHost}
 
 pub first_host : (host : IpInet) (hosts rest : List (Family × Host)) → hosts ≡ (host_family host, host_parts host) ∷ rest

@@ -1,12 +1,12 @@
 -- Labels of IPv6 names, two at a time.
-use Rattle.std.proofs.Common.{◌≡◌, ℕ, ◌-◌, ◌*◌, ◌/◌, ◌%◌, ◌^◌, ◌<◌, ◌+◌, Bool, List, [], ◌∷◌, ◌++◌, length, take, drop, reverse, refl, sym, ap, ap₂, ◌∙◌, append_assoc, arith, IsAscii}
+use Rattle.std.proofs.Common.{◌≡◌, ℕ, ◌-◌, ◌*◌, ◌/◌, ◌%◌, ◌<◌, ◌+◌, Bool, List, [], ◌∷◌, ◌++◌, length, take, drop, reverse, refl, sym, ap, ap₂, ◌∙◌, append_assoc, arith, IsAscii}
 use Rattle.std.specs.Char.{digit_char}
 use Rattle.cidr.specs.model.Address.{parts_of}
 use Rattle.cidr.specs.model.Bits.{number}
 use Rattle.cidr.specs.texts.Ipv4Text.{dot}
 use Rattle.cidr.specs.declared.family.Family.TheVariants.{Ipv6}
 use Rattle.cidr.proofs.TextTables.{IsAscii-from_test, row_at}
-use Rattle.cidr_ext.specs.texts.Reverse.{label_width, labels_text}
+use Rattle.cidr_ext.specs.texts.Reverse.{labels_text}
 use Rattle.cidr_ext.proofs.Labels.{front, length-front, more_labels, no_labels, value-front}
 use Rattle.cidr_c.specs.declared.labels.TheConstants.{LABELS}
 

@@ -1,5 +1,5 @@
 -- The entry of a network.
-use Rattle.std.proofs.Common.{◌≡◌, ℕ, ◌+◌, ◌-◌, ◌/◌, ◌^◌, ◌<◌, ◌≤◌, ◌⊎◌, ◌↔◌, ◌&&◌, inl, inr, Bool, true, false, IsTrue, List, ◌++◌, length, length-take, take, sym, ap, ap₂, ◌∙◌, subst, arith, refl, Option, Some, None, MatchOption, Bor, eq-eqb, le-leb, nat_le}
+use Rattle.std.proofs.Common.{◌≡◌, ℕ, ◌+◌, ◌-◌, ◌/◌, ◌^◌, ◌<◌, ◌≤◌, ◌&&◌, inl, inr, Bool, true, false, List, length, length-take, sym, ap, ap₂, ◌∙◌, subst, arith, refl, Option, Some, None, MatchOption, Bor, eq-eqb, le-leb, nat_le}
 use Rattle.std.proofs.lemmas.Bool.{cases_eq, eqb-true, leb-true}
 use Rattle.std.proofs.lemmas.List.{take-append-le}
 use Rattle.std.proofs.lemmas.Nat.{shr_below}

@@ -1,5 +1,5 @@
 //! Masks of networks, as addresses and in strings.
-ghost use Rattle.std.specs.Prelude.{◌≡◌, ◌<◌, ◌+◌, ◌^◌, ◌∷◌, ◌++◌, length, ℕ};
+ghost use Rattle.std.specs.Prelude.{◌≡◌, ◌∷◌, ◌++◌, ℕ};
 ghost use Rattle.cidr.specs.either.IpAddress.{address_family, plain_bits};
 ghost use Rattle.cidr.specs.either.IpNetwork.{network_family, network_prefix};
 ghost use Rattle.cidr.specs.model.Network.{mask_of};
@@ -109,7 +109,6 @@ fn print_masked(address: &IpAddr, mask: &IpAddr, out: &mut [u8]) -> usize
 /// Writes two strings with a slash between them, and returns the length.
 #[inline(always)]
 fn print_both(front: &str, back: &str, out: &mut [u8]) -> usize
-    requires { length front.now + 1 + length back.now < 2 ^ 64 }
     ensures { IsPrintedInto (front.now ++ slash ∷ back.now) out.old out.new result }
 {
     let slash = front.len();

@@ -1,4 +1,4 @@
-use Rattle.std.proofs.Common.{◌≡◌, sym, subst, arith, inl, inr, ℕ, ◌-◌, length}
+use Rattle.std.proofs.Common.{◌≡◌, sym, subst, arith, inl, inr, ◌-◌, length}
 use Rattle.std.proofs.lemmas.Bool.{cases_lt}
 use Rattle.cidr.specs.model.Bits.{bits}
 use Rattle.cidr_table.specs.model.Prefixes.{IsLongestMatch}
