@@ -118,8 +118,12 @@ pub fn line_code(error: &LineError) -> u32
         LineError::TooLong => LINE_TOO_LONG,
         LineError::NotUtf8(_) => NOT_UTF8,
         LineError::NoNetwork(_, e) => parse_code(e),
-        // (a line of a list is one field, which is not missing, and no rule)
-        LineError::NoAddress(_, _) | LineError::NoField | LineError::NoAction(_) => NOT_ADDRESS,
+        LineError::NoAddress(_, _) => NOT_ADDRESS,
+        // (a line of a list is one field, which is not missing, and neither a rule nor a row of a table)
+        LineError::NoField
+        | LineError::NoAction(_)
+        | LineError::Quoted(_)
+        | LineError::NoLength(_) => NOT_ADDRESS,
         LineError::TwoFamilies(_) => TWO_FAMILIES,
         LineError::Reversed(_) => REVERSED,
     }

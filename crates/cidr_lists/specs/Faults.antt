@@ -4,12 +4,11 @@ use Rattle.std.specs.List.{flat_map}
 use Rattle.cidr.specs.declared.cidr.combined.IpCidr.{IpCidr}
 use Rattle.cidr_lists.specs.Entries.{HasNoHost, LineHas}
 use Rattle.cidr_lists.specs.Lists.{Text, IsContent, IsField, IsInError, IsTooLong, lines_of}
-use Rattle.cidr_lists.specs.Fields.{IsBadRow}
-use Rattle.cidr_lists.specs.Tables.{RowSays}
+use Rattle.cidr_lists.specs.Forms.{IsBadRow, RowSays}
 use Rattle.cidr_lists.specs.declared.entries.Entry.{Entry}
 use Rattle.cidr_lists.specs.declared.errors.LineError.{LineError}
-use Rattle.cidr_lists.specs.declared.lines.Kind.{Kind}
-use Rattle.cidr_lists.specs.declared.lines.Kind.TheVariants as kind
+use Rattle.cidr_lists.specs.declared.forms.Kind.{Kind}
+use Rattle.cidr_lists.specs.declared.forms.Kind.TheVariants as kind
 use Rattle.cidr_lists.specs.declared.lines.Content.{Content}
 use Rattle.cidr_lists.specs.declared.lines.HostBits.{HostBits}
 use Rattle.cidr_lists.specs.Messages.{fault_line}
@@ -19,13 +18,13 @@ abbrev pub IsSound : Kind → HostBits → List ℕ → Type 0
 IsSound kind.Networks bits line = ¬ (IsTooLong line)
     × (field : List ℕ) × (content : Content) × IsField line field × IsContent bits field content
 IsSound kind.Hosts bits line = (file : List ℕ) × (number : ℕ) × (one : Option Entry) × LineHas file number line one
-IsSound kind.Rows bits line = (said : Option (IpCidr × List ℕ)) × RowSays bits line said
+IsSound (kind.Rows form) bits line = (said : Option (IpCidr × List ℕ)) × RowSays form bits line said
 
 -- the line is in error, and this is its error
 abbrev pub IsFaulty : Kind → HostBits → List ℕ → LineError → Type 0
 IsFaulty kind.Networks bits line e = IsInError bits line e
 IsFaulty kind.Hosts bits line e = HasNoHost line e
-IsFaulty kind.Rows bits line e = IsBadRow bits line e
+IsFaulty (kind.Rows form) bits line e = IsBadRow form bits line e
 
 -- the errors of lines of which the first has this number: each with the number of its line, in their order
 abbrev pub AreErrors : Kind → HostBits → ℕ → List (List ℕ) → List (ℕ × LineError) → Type 0

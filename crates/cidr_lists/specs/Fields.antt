@@ -1,4 +1,4 @@
--- The fields of a line: of a row of a table, of a line that is looked up, and of one that is picked.
+-- The fields of a line: of one that is looked up, of one that is picked, and of a row of a table.
 use Rattle.std.specs.Prelude.{ℕ, zero, suc, Bool, not, ◌&&◌, ◌==◌, List, [], Option, Some, None, ◌≡◌, ◌≢◌, length, drop, IsUtf8, Result, Ok, Err}
 use Rattle.std.specs.Char.{is_ascii_whitespace}
 use Rattle.std.specs.List.{after_first, before_first, prefix_len}
@@ -8,7 +8,7 @@ use Rattle.cidr.specs.either.IpText.{IsIpNetworkText}
 use Rattle.cidr.specs.declared.addr.ip.IpAddr.{IpAddr}
 use Rattle.cidr.specs.declared.cidr.combined.IpCidr.{IpCidr}
 use Rattle.cidr_io.specs.Shown.{byte_excerpt}
-use Rattle.cidr_lists.specs.Lists.{IsFirstField, SaysNothing, IsBadLineBy, IsField, IsNoAddressBy, IsNoNetworkBy, is_comment_sign}
+use Rattle.cidr_lists.specs.Lists.{IsFirstField, IsBadLineBy, IsField, IsNoAddressBy, IsNoNetworkBy, is_comment_sign}
 use Rattle.cidr_lists.specs.Messages.{ShowsBy}
 use Rattle.cidr_lists.specs.declared.errors.LineError.{LineError}
 use Rattle.cidr_lists.specs.declared.lines.HostBits.TheVariants.{Refused}
@@ -33,26 +33,11 @@ AreFirstAndRest field first rest = IsFirstField field first × IsTrimAscii (drop
 abbrev pub IsSplit : List ℕ → List ℕ → List ℕ → Type 0
 IsSplit line first rest = (field : List ℕ) × IsField line field × (field ≢ []) × AreFirstAndRest field first rest
 
--- those of a row of a table: only a whole line is a comment there, so that a value may have any bytes
-abbrev pub IsRowSplit : List ℕ → List ℕ → List ℕ → Type 0
-IsRowSplit line first value = (field : List ℕ) × IsTrimAscii line field × ¬ (SaysNothing field) × AreFirstAndRest field first value
-
--- the line is blank or a comment
-abbrev pub IsNoRow : List ℕ → Type 0
-IsNoRow line = (field : List ℕ) × IsTrimAscii line field × SaysNothing field
-
 -- the first field is no address, and this is the error, with the field
 abbrev pub IsNoAddressField : List ℕ → LineError → Type 0
 IsNoAddressField first (NotUtf8 text) = ¬ (IsUtf8 first) × (text.bytes ≡ byte_excerpt first)
 IsNoAddressField first (NoAddress bad e) = IsNoAddressBy first bad e
 IsNoAddressField first e = ⊥
-
--- the row of a table is in error by its first field
-abbrev pub HasBadNetwork : HostBits → List ℕ → LineError → Type 0
-HasBadNetwork bits line e = (first : List ℕ) × (value : List ℕ) × IsRowSplit line first value × IsNoNetworkField bits first e
-
-abbrev pub IsBadRow : HostBits → List ℕ → LineError → Type 0
-IsBadRow bits line e = IsBadLineBy (HasBadNetwork bits) line e
 
 -- the line that is looked up is in error by its first field
 abbrev pub HasBadAddress : List ℕ → LineError → Type 0
@@ -105,6 +90,12 @@ HasNoFields separator line = (text : List ℕ) × IsTrimAscii line text × (befo
 
 abbrev pub HasFields : Separator → List ℕ → Type 0
 HasFields separator line = (text : List ℕ) × IsTrimAscii line text × (before_first (begins_comment separator) text ≢ [])
+
+-- the first field of a line that has some, and the rest of it, both without white space at both ends: a # or ; in them is a byte
+-- like any other
+abbrev pub IsRowSplit : Separator → List ℕ → List ℕ → List ℕ → Type 0
+IsRowSplit separator line first rest = HasFields separator line
+    × IsTrimAscii (field_at separator 0 line) first × IsTrimAscii (behind_field separator line) rest
 
 -- the line has no fields, or the field of the column is this network
 abbrev pub FieldSays : Column → List ℕ → Option IpCidr → Type 0

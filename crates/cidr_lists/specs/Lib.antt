@@ -9,6 +9,7 @@ pub mod Lines
 pub mod Fields
 pub mod Words
 pub mod Within
+pub mod Forms
 pub mod Tables
 pub mod LookUps
 pub mod Sets

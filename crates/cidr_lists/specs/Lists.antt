@@ -31,7 +31,7 @@ use Rattle.cidr_lists.specs.Masks.{IsMaskedHost}
 use Rattle.cidr_lists.specs.Messages.{Shows, ShowsBy}
 use Rattle.cidr_lists.specs.declared.errors.BadText.{BadText}
 use Rattle.cidr_lists.specs.declared.errors.LineError.{LineError}
-use Rattle.cidr_lists.specs.declared.errors.LineError.TheVariants.{TooLong, NotUtf8, NoNetwork, NoAddress, NoField, NoAction, TwoFamilies, Reversed}
+use Rattle.cidr_lists.specs.declared.errors.LineError.TheVariants.{TooLong, NotUtf8, NoNetwork, NoAddress, TwoFamilies, Reversed}
 use Rattle.cidr_lists.specs.declared.lines.HostBits.{HostBits}
 use Rattle.cidr_lists.specs.declared.lines.HostBits.TheVariants.{Refused, Cleared, RefusedWithMasks, ClearedWithMasks}
 use Rattle.cidr_lists.specs.declared.lines.Content.{Content}
@@ -59,10 +59,6 @@ text_by bits bytes = record { bytes = bytes; host_bits = bits }
 -- the line without a comment and without ASCII white space at both ends, the carriage return of CRLF among it
 abbrev pub IsField : List ℕ → List ℕ → Type 0
 IsField line field = IsTrimAscii (before_first is_comment_sign line) field
-
--- the field is empty, or begins a comment
-abbrev pub SaysNothing : List ℕ → Type 0
-SaysNothing field = before_first is_comment_sign field ≡ []
 
 -- what stands before the first ASCII white space, behind white space at the front: `look` takes it of a row of a table, so
 -- that a comment sign may be in it, and of an address without its comment
@@ -134,9 +130,6 @@ IsNoEndBy text bad e = (end : List ℕ) × IsTrimAscii text end × IsNoAddressBy
 -- and this is the first error; else what stands before its first hyphen is no address, or else what stands behind it;
 -- else the two are of two families; else the first is above the last
 abbrev pub IsFieldError : HostBits → List ℕ → LineError → Type 0
-IsFieldError bits field TooLong = ⊥
-IsFieldError bits field NoField = ⊥
-IsFieldError bits field (NoAction text) = ⊥
 IsFieldError bits field (NotUtf8 text) = ¬ (IsUtf8 field) × (text.bytes ≡ byte_excerpt field)
 IsFieldError bits field (NoNetwork bad e) = (field ≢ []) × Lacks hyphen field × IsNoNetworkBy bits field e × ShowsBy bits field bad
 IsFieldError bits field (NoAddress bad e) = (front : List ℕ) × (back : List ℕ) × (field ≡ front ++ hyphen ∷ back) × Lacks hyphen front
@@ -146,6 +139,7 @@ IsFieldError bits field (TwoFamilies text) = (first : IpAddr) × (last : IpAddr)
 IsFieldError bits field (Reversed text) = (first : IpAddr) × (last : IpAddr) × AreEnds field first last
     × (address_family first ≡ address_family last) × (bit_cmp (ip_address_bits first) (ip_address_bits last) ≡ Greater)
     × (text.bytes ≡ excerpt field)
+IsFieldError bits field e = ⊥
 
 -- the line is in error: it is too long, or it is not, and the error is that of its bytes
 abbrev pub IsBadLineBy : (List ℕ → LineError → Type 0) → List ℕ → LineError → Type 0

@@ -1,4 +1,4 @@
--- Tables: a line is a network or an address and, behind white space, its value, the rest of the line.
+-- Tables: a line is a network or an address with a value. How it is cut into these is said in `Forms`.
 use Rattle.std.specs.Prelude.{ℕ, Bool, List, [], ◌∷◌, Option, Some, None, ◌≡◌, ◌+◌, ◌≤◌, ◌++◌, length, take, drop, map}
 use Rattle.std.specs.List.{AllZip, flat_map, AllByRecursion}
 use Rattle.cidr.specs.declared.cidr.combined.IpCidr.{IpCidr}
@@ -6,23 +6,14 @@ use Rattle.cidr.specs.declared.cidr.combined.IpCidr.TheVariants.{V4, V6}
 use Rattle.cidr.specs.declared.family.Family.{Family}
 use Rattle.cidr.specs.declared.family.Family.TheVariants.{Ipv4, Ipv6}
 use Rattle.cidr_table.specs.model.LastRows.{AreLastRows}
-use Rattle.cidr_lists.specs.Lists.{Text, IsNetworkBy, IsTooLong, lines_of}
-use Rattle.cidr_lists.specs.declared.lines.HostBits.{HostBits}
-use Rattle.cidr_lists.specs.Fields.{IsRowSplit, IsNoRow}
+use Rattle.cidr_lists.specs.Lists.{Text, lines_of}
+use Rattle.cidr_lists.specs.Forms.{RowSays}
+use Rattle.cidr_lists.specs.declared.forms.RowForm.{RowForm}
 use Rattle.cidr_lists.specs.declared.rows.Rows.{Rows}
 use Rattle.cidr_lists.specs.declared.rows.Span.{Span}
 use Rattle.cidr_lists.specs.declared.table.Table.{Table}
 
 -- ---- a table
--- the line of a table says nothing, or a network and its value
-abbrev pub RowFieldsSay : HostBits → List ℕ → Option (IpCidr × List ℕ) → Type 0
-RowFieldsSay bits line None = IsNoRow line
-RowFieldsSay bits line (Some (network, value)) = (first : List ℕ) × IsRowSplit line first value × IsNetworkBy bits first network
-
--- the same of a line that is not too long
-abbrev pub RowSays : HostBits → List ℕ → Option (IpCidr × List ℕ) → Type 0
-RowSays bits line said = ¬ (IsTooLong line) × RowFieldsSay bits line said
-
 -- a network of either family with what belongs to it, if it is of this family
 abbrev pub row_in : {V : Type 0} → Family → IpCidr × V → List (List Bool × V)
 row_in Ipv4 (V4 p, value) = (p, value) ∷ []
@@ -40,8 +31,8 @@ abbrev pub rows_in : Family → List (Option (IpCidr × List ℕ)) → List (Lis
 rows_in family said = flat_map (said_in family) said
 
 -- what a text says as a table: the networks of each family, each once, with the value of its last line
-abbrev pub IsTable : Text → (Family → List (List Bool × List ℕ)) → Type 0
-IsTable text table = (said : List (Option (IpCidr × List ℕ))) × AllZip (RowSays text.host_bits) (lines_of text.bytes) said
+abbrev pub IsTable : RowForm → Text → (Family → List (List Bool × List ℕ)) → Type 0
+IsTable form text table = (said : List (Option (IpCidr × List ℕ))) × AllZip (RowSays form text.host_bits) (lines_of text.bytes) said
     × ((family : Family) → AreLastRows (rows_in family said) (table family))
 
 -- the bytes of a value among those of all values

@@ -2,10 +2,10 @@
 ghost use Rattle.std.specs.Prelude.{◌≡◌, ◌≤◌, ◌==◌, [], length, IfSome, MatchOption, MatchResult};
 ghost use Rattle.std.specs.Bool.{Decides};
 ghost use Rattle.std.specs.Char.{is_ascii_whitespace};
-ghost use Rattle.std.specs.List.{position_or_len};
+ghost use Rattle.std.specs.List.{before_first, position_or_len};
 ghost use Rattle.cidr.specs.either.IpAddress.{IsIpText};
-ghost use Rattle.cidr_lists.specs.Lists.{IsField, IsFirstField, IsNetworkBy, SaysNothing};
-ghost use Rattle.cidr_lists.specs.Fields.{AreFirstAndRest, IsFieldOf, IsNoAddressField, IsNoNetworkField, IsNoRow, IsRowSplit, IsSplit, ReadsAddress, begin_of, behind_field, field_at, separates};
+ghost use Rattle.cidr_lists.specs.Lists.{IsField, IsFirstField, IsNetworkBy};
+ghost use Rattle.cidr_lists.specs.Fields.{AreFirstAndRest, HasNoFields, IsFieldOf, IsNoAddressField, IsNoNetworkField, IsRowSplit, IsSplit, ReadsAddress, begin_of, begins_comment, behind_field, field_at, separates};
 
 use crate::errors::{BadText, LineError};
 use crate::lines::{HostBits, is_comment_sign, network_of, without_comment};
@@ -47,7 +47,7 @@ pub struct Column {
 }
 
 /// Whether a byte parts fields.
-pub(crate) fn separates(separator: Separator, byte: u8) -> bool
+fn separates(separator: Separator, byte: u8) -> bool
     ensures { result ≡ separates separator byte }
 {
     match separator {
@@ -103,25 +103,31 @@ fn field_len(separator: Separator, line: &[u8]) -> usize
     }
 }
 
+/// The first field, and what stands behind it and the byte that ends it.
+fn fields_in(separator: Separator, line: &[u8]) -> (&[u8], &[u8])
+    ensures field { result.0.now ≡ field_at separator 0 line.now }
+    ensures behind { result.1.now ≡ behind_field separator line.now }
+{
+    let rest = begin_of(separator, line);
+    let (field, behind) = rest.split_at(field_len(separator, rest));
+    match behind.split_first() {
+        Some((_, rest)) => (field, rest),
+        None => (field, &[]),
+    }
+}
+
 /// What stands behind the first field.
 fn behind_field(separator: Separator, line: &[u8]) -> &[u8]
     ensures { result.now ≡ behind_field separator line.now }
 {
-    let rest = begin_of(separator, line);
-    let (_, behind) = rest.split_at(field_len(separator, rest));
-    match behind.split_first() {
-        Some((_, rest)) => rest,
-        None => &[],
-    }
+    fields_in(separator, line).1
 }
 
 /// The first field.
 fn field_in(separator: Separator, line: &[u8]) -> &[u8]
     ensures { result.now ≡ field_at separator 0 line.now }
 {
-    let rest = begin_of(separator, line);
-    let (field, _) = rest.split_at(field_len(separator, rest));
-    field
+    fields_in(separator, line).0
 }
 
 /// A line from the field of a column on; nothing of a line of fewer fields.
@@ -151,7 +157,7 @@ pub fn field_at(column: Column, line: &[u8]) -> &[u8]
 }
 
 /// The first field of a string, and what stands behind it.
-fn parts_of(field: &[u8]) -> (&[u8], &[u8])
+pub(crate) fn parts_of(field: &[u8]) -> (&[u8], &[u8])
     ensures { AreFirstAndRest field.now result.0.now result.1.now }
 {
     let first = first_field(field);
@@ -172,28 +178,35 @@ pub fn split_line(line: &[u8]) -> Option<(&[u8], &[u8])>
     Some(parts)
 }
 
-/// Whether a field is empty or begins a comment, by `#` or `;`. One with white space in front says something.
-pub fn says_nothing(field: &[u8]) -> bool
-    ensures { Decides result (SaysNothing field.now) }
+/// Whether a byte begins a comment: `#` or `;`, unless it parts fields.
+fn begins_comment(separator: Separator, byte: u8) -> bool
+    ensures { result ≡ begins_comment separator byte }
 {
-    match field {
+    is_comment_sign(byte) && !separates(separator, byte)
+}
+
+/// Whether a line without white space at both ends is empty or a comment.
+pub(crate) fn is_no_row(separator: Separator, text: &[u8]) -> bool
+    ensures { Decides result (before_first (begins_comment separator) text.now ≡ []) }
+{
+    match text {
         [] => true,
-        [first, ..] => is_comment_sign(*first),
+        [first, ..] => begins_comment(separator, *first),
     }
 }
 
-/// The first field of a row of a table, and its value, the rest of the line without white space at both ends, which may
-/// be empty; `None` for a line that is blank or a comment. Only a whole line is a comment here, so that a value may
-/// have `#` and `;`: of `10.0.0.0/8 west # 2` the value is `west # 2`.
-pub fn split_row(line: &[u8]) -> Option<(&[u8], &[u8])>
-    ensures { MatchOption result (IsNoRow line.now) (λ parts. IsRowSplit line.now parts.0.now parts.1.now) }
+/// The first field of a row of a table, and the rest of the line, both without white space at both ends; the rest may be
+/// empty. `None` for a line that is blank or a comment. Only a whole line is a comment here, so that the rest may have
+/// `#` and `;`: of `10.0.0.0/8 west # 2` it is `west # 2`, and with `Separator::Byte(b',')` it is `AS1,west` of
+/// `10.0.0.0/8,AS1,west`.
+pub fn split_row(separator: Separator, line: &[u8]) -> Option<(&[u8], &[u8])>
+    ensures { MatchOption result (HasNoFields separator line.now) (λ parts. IsRowSplit separator line.now parts.0.now parts.1.now) }
 {
-    let field = line.trim_ascii();
-    if says_nothing(field) {
+    if is_no_row(separator, line.trim_ascii()) {
         return None;
     }
-    let parts = parts_of(field);
-    Some(parts)
+    let (first, rest) = fields_in(separator, line);
+    Some((first.trim_ascii(), rest.trim_ascii()))
 }
 
 /// The network that a field is, as `lines::network_of` reads it; a range is none, nor is a field with white space at an

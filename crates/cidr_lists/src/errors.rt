@@ -99,6 +99,10 @@ pub enum LineError {
     NoNetwork(BadText, NetworkParseError),
     /// Its first field, or an end of its range, is no address: the error of parsing it.
     NoAddress(BadText, AddrParseError),
+    /// The first field of a row begins with a quote: the field, as it is shown.
+    Quoted(ArrayString<42>),
+    /// The field of a prefix length is longer than any: the field, as it is shown.
+    NoLength(ArrayString<42>),
     /// Its first word is neither `permit` nor `deny`: the word, as it is shown.
     NoAction(ArrayString<42>),
     /// The ends of its range are of two families: the range, as it is shown.
@@ -132,6 +136,8 @@ impl LineError {
                 let words = widened(e.to_text().as_str());
                 message_of(&bad.text, address_words(&bad.fault, words).as_str())
             }
+            LineError::Quoted(shown) => message_of(shown, "quoted fields are not read"),
+            LineError::NoLength(shown) => message_of(shown, "no prefix length"),
             LineError::NoAction(shown) => message_of(shown, "neither permit nor deny"),
             LineError::TwoFamilies(shown) => {
                 message_of(shown, "the ends of the range are of two families")

@@ -1,32 +1,13 @@
 //! What a field of a line says, and which address of it is looked up.
-ghost use Rattle.std.specs.Prelude.{◌≡◌, ◌≤◌, [], IfSome, MatchResult, Some, length};
-ghost use Rattle.std.specs.Bool.{Decides};
-ghost use Rattle.std.specs.List.{before_first};
-ghost use Rattle.cidr_lists.specs.Fields.{FieldIsAddress, FieldSays, IsBadAddress, ReadsColumn, begins_comment};
+ghost use Rattle.std.specs.Prelude.{◌≡◌, ◌≤◌, IfSome, MatchResult, Some, length};
+ghost use Rattle.cidr_lists.specs.Fields.{FieldIsAddress, FieldSays, IsBadAddress, ReadsColumn};
 ghost use Rattle.cidr_lists.specs.LookUps.{ReadsAsked, joint_by, joint_of, without_returns};
 
-use crate::columns::{Column, Separator, address_in, address_of, field_at, network_in, separates};
+use crate::columns::{Column, Separator, address_in, address_of, field_at, is_no_row, network_in};
 use crate::errors::LineError;
-use crate::lines::{HostBits, is_comment_sign, whole_network};
+use crate::lines::{HostBits, whole_network};
 use crate::words::first_address;
 use cidr::{IpAddr, IpCidr};
-
-/// Whether a byte begins a comment: `#` or `;`, unless it parts fields.
-fn begins_comment(separator: Separator, byte: u8) -> bool
-    ensures { result ≡ begins_comment separator byte }
-{
-    is_comment_sign(byte) && !separates(separator, byte)
-}
-
-/// Whether a line without white space at both ends is empty or a comment.
-fn is_no_row(separator: Separator, text: &[u8]) -> bool
-    ensures { Decides result (before_first (begins_comment separator) text.now ≡ []) }
-{
-    match text {
-        [] => true,
-        [first, ..] => begins_comment(separator, *first),
-    }
-}
 
 /// No network that is printed has more bytes.
 const LONGEST: usize = 43;

@@ -8,8 +8,8 @@
 //!   networks, and `sets::Sets` has their addresses, combines them and tells what lies in them.
 //! - `entries::entry_of`: a line has a network or a host, with its place. `near` and `findings` tell what is found in
 //!   them.
-//! - `columns::split_row`: a row of a table is a network and its value. `rows::Rows` collects them, and `table::Table`
-//!   is ready for look-ups.
+//! - `forms::row_of`: a row of a table is a network and its value, by a `RowForm`. `rows::Rows` collects them, and
+//!   `table::Table` is ready for look-ups.
 //! - `columns::split_line`, `fields::network_at` and `address_at`: the fields of a line that is looked up or picked, and
 //!   `Sets::have_one` and `words::first_address` an address anywhere in a line, as in a log. `fields::asked_in` takes the one
 //!   or the other by its `Asked`.
@@ -30,6 +30,7 @@ pub mod errors;
 pub mod fields;
 pub mod findings;
 pub mod formats;
+pub mod forms;
 pub mod json;
 pub mod laws;
 pub mod lines;

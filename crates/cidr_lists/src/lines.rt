@@ -44,17 +44,6 @@ impl HostBits {
     }
 }
 
-/// What the lines of a list are.
-#[derive(Clone, Copy, Debug, Drop, PartialEq)]
-pub enum Kind {
-    /// Networks, addresses and ranges.
-    Networks,
-    /// Networks and hosts.
-    Hosts,
-    /// Networks, each with a value.
-    Rows,
-}
-
 /// What a line says.
 #[derive(Clone, Copy)]
 pub enum Content {

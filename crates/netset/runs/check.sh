@@ -771,6 +771,59 @@ rows_of_look_ups() {
     run 1 '' '' '' look owners -k
 }
 
+# Tables whose rows have other forms.
+rows_of_forms() {
+    local quoted='quoted fields are not read' none='the field is missing or empty'
+    local network="couldn't parse address in network: invalid IP address syntax" names='pfx2as, routes and routes6'
+    # a byte between the network and the value
+    run 0 $'10.0.0.1 10.0.0.0/8 AS64500,Example & Co.\n' '' '# net,as,name\n10.0.0.0/8,AS64500,Example & Co.\r\n\n' look --table-separator , - address
+    run 0 $'10.0.0.1 10.0.0.0/8 "a, b"\n' '' ' 10.0.0.0/8 , "a, b" \n' look --table-separator=, - address
+    run 0 $'10.0.0.1 10.0.0.0/8\n' '' '10.0.0.0/8' look --table-separator , - address
+    run 0 $'10.0.0.1 10.0.0.0/8 ,\n' '' '10.0.0.0/8,,' look --table-separator , - address
+    run 0 $'10.0.0.1 10.0.0.0/8 a;b\n' '' '# 10.0.0.0/8\n10.0.0.0/8;a;b' look --table-separator ';' - address
+    run 0 $'10.0.0.1 10.0.0.0/8 a b\n' '' '10.0.0.0/8\ta b' look --table-separator $'\t' - address
+    run 0 $'a,10.0.0.1,10.0.0.0/8,west\n' '' 'a,10.0.0.1' look --keep --field 2 --separator , --table-separator '|' parted
+    run 2 '' $'-:2: 10.0.0.0/8 west: couldn\'t parse length in network: invalid length text\n' '\n10.0.0.0/8 west' look --table-separator , - address
+    run 2 '' "-:1: \"10.0.0.0/8\": $quoted"$'\n' '"10.0.0.0/8",west' look --table-separator , - address
+    run 2 '' "-:1: \"10.0.0.0/8\": $quoted"$'\n' '"10.0.0.0/8" west' look - address
+    run 2 '' "-:1: : $network"$'\n' ',west' look --table-separator , - address
+    run 2 '' "-:1: : $network"$'\n' ';10.0.0.0/8' look --table-separator ';' - address
+    run 2 '' $'-:1: \\xff: not UTF-8\n' '\xff,west' look --table-separator , - address
+    run 2 $'10.0.0.1 10.0.0.0/8 west\n' "-:2: x: $network"$'\n' '10.0.0.0/8,west\nx,east' look --skip-bad --table-separator , - address
+    run 2 '' "-:2: x: $network"$'\n'"-:3: \"::/0\": $quoted"$'\n' '10.0.0.0/8,west\nx,east\n"::/0",all' look -k --table-separator , - address
+    run 0 $'10.0.0.1 10.0.0.0/8 west\n' '' '10.0.0.1' look -k --table-separator '|' parted
+    run 0 $'10.0.0.1 10.0.0.0/8 west\n' '' '10.0.0.7/8,west' look --host-bits --table-separator , - address
+    run 0 $'10.0.0.1 10.0.0.0/8 west\n' '' '10.0.0.0 255.0.0.0,west' look --masks --table-separator , - address
+    run 2 '' $',,: more or less than one byte, see: netset help look\n' '' look --table-separator ,, missing
+    run 2 '' $': more or less than one byte, see: netset help compile\n' '' compile --table-separator= missing out
+    run 2 '' $'\u00e9: more or less than one byte, see: netset help look\n' '' look --table-separator $'\u00e9' missing
+    # an address and its prefix length
+    run 0 $'10.0.0.1 10.0.0.0/8 64500_64501\n2001:db8::1 2001:db8::/32 64502\n' '' '10.0.0.1\n2001:db8::1' look --form pfx2as origins
+    run 0 $'10.0.0.1 10.0.0.0/8\n' '' ' 10.0.0.0  8 \r\n# x\n' look --form pfx2as - address
+    run 0 $'10.0.0.1 10.0.0.0/8 west\n' '' '10.0.0.0 255.0.0.0 west' look --masks --form pfx2as - address
+    run 0 $'10.0.0.1 10.0.0.0/8 west\n' '' '10.0.0.7 8 west' look --host-bits --form=pfx2as - address
+    run 2 '' $'-:1: 10.0.0.7/8: host bits set; the network is 10.0.0.0/8\n' '10.0.0.7 8 west' look --form pfx2as - address
+    run 2 '' $'-:1: 10.0.0.0/8: invalid IP address syntax\n' '10.0.0.0/8 west' look --form pfx2as - address
+    run 2 '' "-:2: $none"$'\n' '10.0.0.0 8\n10.0.0.0' look --form pfx2as - address
+    run 2 '' $'-:1: 10.0.0.0/x: couldn\'t parse length in network: invalid length text\n' '10.0.0.0 x' look --form pfx2as - address
+    run 2 '' $'-:1: 0000000000000000000000000000000000000000..: no prefix length\n' '10.0.0.0 0000000000000000000000000000000000000000000008 x' look --form pfx2as - address
+    run 0 '' '' '' compile --form pfx2as origins compiled_origins
+    run 0 $'10.0.0.1 10.0.0.0/8 64500_64501\n' '' '10.0.0.1' look --form routes compiled_origins
+    # routes
+    run 0 $'10.0.0.1 10.0.0.0/8 dev eth0\n11.0.0.1 0.0.0.0/0 via 192.0.2.1 dev eth0\n192.0.2.1 192.0.2.1 dev eth1\n' '' \
+        'default via 192.0.2.1 dev eth0\n10.0.0.0/8 dev eth0\n192.0.2.1 dev eth1 \n' look --form routes - asked
+    run 0 $'2001:db8::1 ::/0 dev eth0\n' '' '2001:db8::1' look --form routes6 defaults
+    run 1 $'2001:db8::1 -\n' '' '2001:db8::1' look --form routes defaults
+    run 2 '' "-:1: unreachable: $network"$'\n' 'unreachable 10.0.0.0/8' look --form routes - address
+    run 2 '' "defaults:1: default: $network"$'\n' '10.0.0.1' look defaults
+    # which form
+    run 2 '' "csv: no such form, but $names, see: netset help look"$'\n' '' look --form csv missing
+    run 2 '' "Routes: no such form, but $names, see: netset help compile"$'\n' '' compile --form Routes missing out
+    run 2 '' $'--table-separator: not with --form, see: netset help look\n' '' look --table-separator , --form routes missing
+    run 2 '' $'routes6: one argument too many, see: netset help look\n' '' look --form routes --form routes6 missing
+    run 2 '' $'--form: no such option, see: netset help match\n' '' match --form routes missing
+}
+
 # The same of a field, of the first address of a line, and behind the lines.
 rows_of_kept_lines() {
     local none=': the field is missing or empty' lab='192.0.2.64/26 lab'
@@ -1604,6 +1657,10 @@ printf '10.0.0.0\n' >"$room/zero"
 printf '10.0.0.1 a\n11.0.0.1 b\n10.2.0.0/16 c\n' >"$room/seen"
 printf ' a b 10.0.0.1\nc\td  11.0.0.1 e\nf g 10.2.0.0/16 h\n' >"$room/spaced"
 printf '2026-11-26,192.0.2.70,GET /\n' >"$room/kept_csv"
+printf '10.0.0.0/8|west\n' >"$room/parted"
+printf '10.0.0.0\t8\t64500_64501\n2001:db8::\t32\t64502\n' >"$room/origins"
+printf 'default dev eth0\n' >"$room/defaults"
+printf '10.0.0.1\n11.0.0.1\n192.0.2.1\n' >"$room/asked"
 printf '2026-11-26 192.0.2.70 GET /\n' >"$room/kept_log"
 printf 'a,10.0.0.1,b\nc,11.0.0.1\nd,10.2.0.0/16,\n' >"$room/commas"
 printf '12.0.0.0/8\n\n10.0.0.9\n# 10.0.0.1\n10.0.0.8' >"$room/again"
@@ -1632,6 +1689,7 @@ for build in netset netset.by-rattle; do
     rows_of_several_files
     rows_of_fields
     rows_of_look_ups
+    rows_of_forms
     rows_of_kept_lines
     rows_of_compiled_tables
     rows_of_outputs

@@ -25,6 +25,7 @@ use Rattle.netset_commands.specs.declared.errors.ArgumentError.{ArgumentError}
 use Rattle.netset_commands.specs.declared.errors.CommandError.{CommandError}
 use Rattle.netset_commands.specs.declared.errors.CommandError.TheVariants as error
 use Rattle.cidr_lists.specs.declared.errors.LineError.{LineError}
+use Rattle.cidr_lists.specs.declared.forms.RowForm.{RowForm}
 use Rattle.netset_commands.specs.declared.errors.ReadError.{ReadError}
 use Rattle.netset_commands.specs.declared.errors.ReadError.TheVariants.{Line, Input, NoMemory}
 use Rattle.netset_commands.specs.declared.commands.look.LookError.{LookError}
@@ -155,16 +156,16 @@ single_cause F refused contents request s t (Err e) (inl (same, bad)) = argument
 single_cause F refused contents request s t (Err e) (inr (answer, verdict, w, is, written, by)) = output_cause F refused verdict w (Err e) by
 
 -- a table that is not compiled, before a file is written
-pub uncompiled : (contents : List ℕ → Option Text) (refused : Refusals) (table name : List ℕ) (e : CommandError)
-    → IsSameFile table name e ⊎ IsUnreadTable (contents table) table e → Cause (FileMayFail contents) refused.memory e
-    → IsCaused contents refused (Compile table name) (Err e)
-uncompiled contents refused table name (error.Argument text why) is h = h
-uncompiled contents refused table name (error.Line file number why) is h = h
-uncompiled contents refused table name (error.Input file why) is h = h
-uncompiled contents refused table name error.NoMemory is h = h
-uncompiled contents refused table name error.Output is h = h
-uncompiled contents refused table name (error.File file why) (inl same) h = absurd same.1
-uncompiled contents refused table name (error.File file why) (inr unread) h = absurd unread
+pub uncompiled : (contents : List ℕ → Option Text) (refused : Refusals) (form : RowForm) (table name : List ℕ) (e : CommandError)
+    → IsSameFile table name e ⊎ IsUnreadTable form (contents table) table e → Cause (FileMayFail contents) refused.memory e
+    → IsCaused contents refused (Compile form table name) (Err e)
+uncompiled contents refused form table name (error.Argument text why) is h = h
+uncompiled contents refused form table name (error.Line file number why) is h = h
+uncompiled contents refused form table name (error.Input file why) is h = h
+uncompiled contents refused form table name error.NoMemory is h = h
+uncompiled contents refused form table name error.Output is h = h
+uncompiled contents refused form table name (error.File file why) (inl same) h = absurd same.1
+uncompiled contents refused form table name (error.File file why) (inr unread) h = absurd unread
 
 -- ---- lines that are picked
 ended_cause : (F : List ℕ → Type 0) (refused : Bool) (e : CommandError) (w : Result (Unit {0}) OutputFailed) (r : Result Verdict CommandError)

@@ -8,7 +8,7 @@ use Rattle.netset_commands.specs.Arguments.{Line, line_request}
 use Rattle.netset_commands.specs.Causes.{Refusals}
 use Rattle.netset_commands.specs.Commands.{Request, Lists, Styled, NotIn, Diff, Free, Acl, Split, Check, Which, Match, MatchEach, Look, Compile, Describe, Class, Single, Help, Version, IsAnswer, reading_of}
 use Rattle.netset_commands.specs.Program.{AnswersRequest, AnswersWhole, IsRequestRefused, KeepsGoing, Reports, Runs, RunsFound, RunsLine, RunsOnce, RunsRequest, answer_status, by_output, status_of, contents_by}
-use Rattle.netset_commands.specs.Typed.{HasAnswered, AnswersTyped}
+use Rattle.netset_commands.specs.Typed.{AnswersTyped}
 use Rattle.netset_commands.specs.declared.output.answers.Verdict.{Verdict}
 use Rattle.netset_commands.specs.declared.output.answers.Verdict.TheVariants.{Yes, No}
 use Rattle.netset_commands.specs.declared.commands.AtFault.{AtFault}
@@ -102,9 +102,9 @@ answer_done contents (Match choice options list file) verdict out new (inl h) = 
 answer_done contents (Match choice options list file) verdict out new (inr (e, is, of, answer, written, belongs)) = cc
 answer_done contents (MatchEach choice options list files) verdict out new (inl h) = whole_done contents (MatchEach choice options list files) verdict out new h
 answer_done contents (MatchEach choice options list files) verdict out new (inr (before, after, file, split, (e, is, of, answer, written, belongs))) = cc
-answer_done contents (Look choice options table file) verdict out new (inl h) = whole_done contents (Look choice options table file) verdict out new h
-answer_done contents (Look choice options table file) verdict out new (inr (e, is, of, answer, written, belongs)) = cc
-answer_done contents (Compile table name) verdict out new (same, (differ, done)) = ([], (refl, done), same_whole out new same)
+answer_done contents (Look choice form options table file) verdict out new (inl h) = whole_done contents (Look choice form options table file) verdict out new h
+answer_done contents (Look choice form options table file) verdict out new (inr (e, is, of, answer, written, belongs)) = cc
+answer_done contents (Compile form table name) verdict out new (same, (differ, done)) = ([], (refl, done), same_whole out new same)
 answer_done contents (Describe what operand) verdict out new h = whole_done contents (Describe what operand) verdict out new h
 answer_done contents (Class operand) verdict out new (inl h) = whole_done contents (Class operand) verdict out new h
 answer_done contents (Class operand) verdict out new (inr (e, is, of, answer, written, belongs)) = cc
@@ -113,6 +113,11 @@ answer_done contents (Help topic) verdict out new h = whole_done contents (Help 
 answer_done contents Version verdict out new h = whole_done contents Version verdict out new h
 
 -- ---- a run
+-- the answer to a request was written whole, and nothing was told of an error
+abbrev pub HasAnswered : (List ℕ → Option Text) → Request → Verdict → State → State → State → State → Type 0
+HasAnswered contents request verdict out new_out err new_err =
+    (answer : List ℕ) × IsAnswer contents request answer verdict × Whole out new_out answer × Tells err new_err []
+
 module _ (verdict : Verdict) (refused : Refusals) (closed : Bool) (out new err new_err : State) where
   -- the arguments were read as a request, and that was answered, perhaps to a file
   abbrev Found : (List ℕ → Option (List ℕ)) → Result Line (List ℕ) → Type 0

@@ -4,6 +4,7 @@ use Rattle.std.specs.Option.{IfSome}
 use Rattle.cidr.specs.declared.family.Family.{Family}
 use Rattle.cidr_files.specs.Faults.{IsFaultOfBytes}
 use Rattle.cidr_lists.specs.Lists.{Text}
+use Rattle.cidr_lists.specs.declared.forms.RowForm.{RowForm}
 use Rattle.netset_commands.specs.Begun.{IsBegunAt, begun_left}
 use Rattle.netset_commands.specs.Causes.{Cause, FileMayFail}
 use Rattle.netset_commands.specs.Compiled.{HasTable, SaysTable, begins_file}
@@ -50,13 +51,13 @@ not_read IsOther contents name error.NoMemory f h = f error.NoMemory h
 not_read IsOther contents name error.Output f h = absurd h
 not_read IsOther contents name (error.File file why) f h = absurd h
 
-pub no_table_read : (contents : Option Text) (name : List ℕ) (e : CommandError) → IsNotReadFurther name e → IsUnreadTable contents name e
-no_table_read contents name (error.Argument text e) h = absurd h
-no_table_read contents name (error.Line file number e) h = absurd h
-no_table_read contents name (error.Input file why) h = h
-no_table_read contents name error.NoMemory h = tt
-no_table_read contents name error.Output h = absurd h
-no_table_read contents name (error.File file why) h = absurd h
+pub no_table_read : (form : RowForm) (contents : Option Text) (name : List ℕ) (e : CommandError) → IsNotReadFurther name e → IsUnreadTable form contents name e
+no_table_read form contents name (error.Argument text e) h = absurd h
+no_table_read form contents name (error.Line file number e) h = absurd h
+no_table_read form contents name (error.Input file why) h = h
+no_table_read form contents name error.NoMemory h = tt
+no_table_read form contents name error.Output h = absurd h
+no_table_read form contents name (error.File file why) h = absurd h
 
 -- it is not opened
 pub none_refused : (F : List ℕ → Type 0) (refused : Bool) (e : CommandError) → Cause F false e → Cause F refused e
@@ -76,11 +77,11 @@ whole_cause contents name left refused e opens h =
     (λ k c. subst (FileMayFail contents) (sym c.0) (whole_fails contents name left opens c.1)) h
 
 -- a line of it is in error
-pub no_lines : (contents : Option Text) (file : Bor (List ℕ)) (e : ReadError) → ((text : Text) → contents ≡ Some text → begins_file text.bytes ≡ false)
-    → IsUnreadTable contents file.now (unread file e) → IsNoTable contents file.now (unread file e)
-no_lines contents file (Line number e) begins h = (h, begins)
-no_lines contents file Input begins h = h
-no_lines contents file NoMemory begins h = h
+pub no_lines : (form : RowForm) (contents : Option Text) (file : Bor (List ℕ)) (e : ReadError) → ((text : Text) → contents ≡ Some text → begins_file text.bytes ≡ false)
+    → IsUnreadTable form contents file.now (unread file e) → IsNoTable form contents file.now (unread file e)
+no_lines form contents file (Line number e) begins h = (h, begins)
+no_lines form contents file Input begins h = h
+no_lines form contents file NoMemory begins h = h
 
 -- it is no file of look-ups
 pub no_file : (IsOther : CommandError → Type 0) (contents : Option Text) (name bytes : List ℕ) (e : CommandError) → IsOther error.NoMemory → AreFileBytes contents bytes
@@ -97,6 +98,6 @@ pub file_cause_of : (contents : List ℕ → Option Text) (refused : Bool) (e : 
 file_cause_of contents refused e h = cause_weaker (λ _. ⊥) (FileMayFail contents) refused e (λ name never. absurd never) h
 
 -- ---- its table
-pub says_table : (contents : Option Text) (bytes : List ℕ) (table : Family → List (List Bool × List ℕ)) → AreFileBytes contents bytes → HasTable table bytes
-    → (text : Text) → contents ≡ Some text → SaysTable text table
-says_table contents bytes table are has text is = inr (subst (HasTable table) (are text is).1 has)
+pub says_table : (form : RowForm) (contents : Option Text) (bytes : List ℕ) (table : Family → List (List Bool × List ℕ)) → AreFileBytes contents bytes → HasTable table bytes
+    → (text : Text) → contents ≡ Some text → SaysTable form text table
+says_table form contents bytes table are has text is = inr (subst (HasTable table) (are text is).1 has)

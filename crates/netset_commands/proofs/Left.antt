@@ -2,6 +2,7 @@
 use Rattle.std.proofs.Common.{◌≡◌, ◌≢◌, refl, sym, ◌∙◌, ap, subst, arith, inl, inr, ℕ, ◌≤◌, Bool, true, false, List, Option, Some, None, Result, Ok, Err}
 use Rattle.cidr_io.specs.Writing.{State}
 use Rattle.cidr_lists.specs.Lists.{Text}
+use Rattle.cidr_lists.specs.declared.forms.RowForm.{RowForm}
 use Rattle.netset_commands.specs.Causes.{Refusals}
 use Rattle.netset_commands.specs.Commands.{Request, Compile, IsAnswer}
 use Rattle.netset_commands.specs.Arguments.{Line, line_request}
@@ -25,15 +26,15 @@ no_answer e status is = omega (arith, above_one e, is)
 -- the answer tells by the status what is left
 pub left_by : (contents : List ℕ → Option Text) (request : Request) (old new : Option (List (List ℕ × List ℕ))) (r : Result Verdict CommandError) (status : ℕ)
     → Leaves contents request old new r → status ≡ status_of r → LeavesBy contents request old new status
-left_by contents (Compile table name) old new (Ok Yes) status saved is = inl (is, saved)
-left_by contents (Compile table name) old new (Ok No) status never is = absurd never
-left_by contents (Compile table name) old new (Err e) status same is = inr (not_zero e status is, same)
+left_by contents (Compile form table name) old new (Ok Yes) status saved is = inl (is, saved)
+left_by contents (Compile form table name) old new (Ok No) status never is = absurd never
+left_by contents (Compile form table name) old new (Err e) status same is = inr (not_zero e status is, same)
 left_by contents request old new r status same is = same
 
 -- nothing is written where the status is not 0
 pub left_alone : (contents : List ℕ → Option Text) (request : Request) (files : Option (List (List ℕ × List ℕ))) (status : ℕ) → status ≢ 0
     → LeavesBy contents request files files status
-left_alone contents (Compile table name) files status other = inr (other, refl)
+left_alone contents (Compile form table name) files status other = inr (other, refl)
 left_alone contents request files status other = refl
 
 pub none_left : (found : Result Line (List ℕ)) (contents : List ℕ → Option (List ℕ)) (files : Option (List (List ℕ × List ℕ))) (status : ℕ) → 2 ≤ status
@@ -50,20 +51,20 @@ left_found found other contents old new status is h =
     subst (λ (k : Result Line (List ℕ)). LeavesFound k contents old new status) (sym is) h
 
 -- ---- what follows
-saved_there : (contents : List ℕ → Option Text) (table name : List ℕ) (old new : Option (List (List ℕ × List ℕ))) → LeavesBy contents (Compile table name) old new 0
-    → IsSaved (contents table) name old new
-saved_there contents table name old new (inl (zero, saved)) = saved
-saved_there contents table name old new (inr (other, same)) = absurd (other refl)
+saved_there : (contents : List ℕ → Option Text) (form : RowForm) (table name : List ℕ) (old new : Option (List (List ℕ × List ℕ))) → LeavesBy contents (Compile form table name) old new 0
+    → IsSaved form (contents table) name old new
+saved_there contents form table name old new (inl (zero, saved)) = saved
+saved_there contents form table name old new (inr (other, same)) = absurd (other refl)
 
 -- a run of `compile` that ends with status 0 has written the file of its table
-pub compile_saves : (words : List (List ℕ)) (contents : List ℕ → Option (List ℕ)) (old new : Option (List (List ℕ × List ℕ))) (reading : Reading) (table name : List ℕ)
-    → RunLeaves (Some words) contents old new 0 → line_request words ≡ Ok (reading, (None, Compile table name))
-    → IsSaved (contents_by reading.host_bits contents table) name old new
-compile_saves words contents old new reading table name (inl (given, are, h)) asks =
-    saved_there (contents_by reading.host_bits contents) table name old new
+pub compile_saves : (words : List (List ℕ)) (contents : List ℕ → Option (List ℕ)) (old new : Option (List (List ℕ × List ℕ))) (reading : Reading) (form : RowForm) (table name : List ℕ)
+    → RunLeaves (Some words) contents old new 0 → line_request words ≡ Ok (reading, (None, Compile form table name))
+    → IsSaved form (contents_by reading.host_bits contents table) name old new
+compile_saves words contents old new reading form table name (inl (given, are, h)) asks =
+    saved_there (contents_by reading.host_bits contents) form table name old new
     (subst (λ (k : Result Line (List ℕ)). LeavesFound k contents old new 0) asks
     (subst (λ (k : List (List ℕ)). LeavesFound (line_request k) contents old new 0) are h))
-compile_saves words contents old new reading table name (inr (two, same)) asks = absurd (omega (arith, two))
+compile_saves words contents old new reading form table name (inr (two, same)) asks = absurd (omega (arith, two))
 
 saved_to : (contents : List ℕ → Option Text) (request : Request) (name : List ℕ) (old new : Option (List (List ℕ × List ℕ))) (status : ℕ) → status ≤ 1
     → LeavesTo (Some name) contents request old new status
@@ -84,8 +85,8 @@ answer_saves words contents old new status reading name request (inr (two, same)
 
 kept_by : (contents : List ℕ → Option Text) (request : Request) (old new : Option (List (List ℕ × List ℕ))) (status : ℕ) → status ≢ 0
     → LeavesBy contents request old new status → new ≡ old
-kept_by contents (Compile table name) old new status other (inl (zero, saved)) = absurd (other zero)
-kept_by contents (Compile table name) old new status other (inr (same, is)) = is
+kept_by contents (Compile form table name) old new status other (inl (zero, saved)) = absurd (other zero)
+kept_by contents (Compile form table name) old new status other (inr (same, is)) = is
 kept_by contents request old new status other is = is
 
 kept_found : (found : Result Line (List ℕ)) (contents : List ℕ → Option (List ℕ)) (old new : Option (List (List ℕ × List ℕ))) (status : ℕ) → 2 ≤ status

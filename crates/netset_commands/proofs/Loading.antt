@@ -12,7 +12,7 @@ use Rattle.netset_commands.specs.Matching.{is_word}
 use Rattle.netset_commands.specs.declared.errors.CommandError.{CommandError}
 use Rattle.netset_commands.specs.declared.errors.CommandError.TheVariants as error
 use Rattle.netset_commands.specs.declared.input.keeping.Kept.{Kept}
-use Rattle.cidr_lists.specs.declared.lines.Kind.{Kind}
+use Rattle.cidr_lists.specs.declared.forms.Kind.{Kind}
 use Rattle.netset_commands.proofs.Arguments.{bytes_of, same_length, same_text, within_bytes}
 use Rattle.netset_commands.proofs.EachFile.{last_told, next_taken}
 use Rattle.netset_commands.proofs.Telling.{none_of, tellings_behind, tells_more, tells_nothing}

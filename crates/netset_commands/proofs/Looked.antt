@@ -23,6 +23,7 @@ use Rattle.cidr_lists.specs.Lists.{Text, lines_of}
 use Rattle.cidr_lists.specs.LookUps.{IsBadAsked, LineLooks, LinesTell, LookUp, found_line, is_found, lines_by, look_line, printed_row}
 use Rattle.cidr_lists.specs.Lines.{lines_in}
 use Rattle.cidr_lists.specs.declared.fields.Asked.{Asked}
+use Rattle.cidr_lists.specs.declared.forms.RowForm.{RowForm}
 use Rattle.netset_commands.specs.Gathering.{IsNotReadFurther}
 use Rattle.netset_commands.specs.KeptLines.{IsNetworkOf, KeepsText, TellsFile}
 use Rattle.netset_commands.specs.Look.{IsLook, IsLookCut, verdict_of}
@@ -523,10 +524,10 @@ module _ (keeps : Bool) (place : Asked) (table : Family → List (List Bool × L
   ))
 
 -- ---- the command
-module _ (contents : List ℕ → Option Text) (choice : Choice) (options : List (List ℕ)) (rows file : List ℕ) (place : Asked) (keeps : Bool)
+module _ (contents : List ℕ → Option Text) (choice : Choice) (form : RowForm) (options : List (List ℕ)) (rows file : List ℕ) (place : Asked) (keeps : Bool)
     (table : Family → List (List Bool × List ℕ)) (s t : State) (asks : IsAsked choice (has (codes "--any") options) place)
-    (is : keeps ≡ has (codes "--keep") options) (reads : (text : Text) → contents rows ≡ Some text → SaysTable text table) where
-  not_read : (e : CommandError) → IsNotReadFurther file e → IsNoTable (contents rows) rows e ⊎ IsInputError file e
+    (is : keeps ≡ has (codes "--keep") options) (reads : (text : Text) → contents rows ≡ Some text → SaysTable form text table) where
+  not_read : (e : CommandError) → IsNotReadFurther file e → IsNoTable form (contents rows) rows e ⊎ IsInputError file e
   not_read (error.Argument text e) h = absurd h
   not_read (error.Line name number e) h = absurd h
   not_read (error.Input name why) h = inr h
@@ -534,7 +535,7 @@ module _ (contents : List ℕ → Option Text) (choice : Choice) (options : List
   not_read error.Output h = absurd h
   not_read (error.File name e) h = absurd h
 
-  pub told_file : (r : Result Verdict CommandError) → TellsFile keeps place table (contents file) file s t r → AnswersRequest contents (Look choice options rows file) s t r
+  pub told_file : (r : Result Verdict CommandError) → TellsFile keeps place table (contents file) file s t r → AnswersRequest contents (Look choice form options rows file) s t r
   told_file r (inl (none, e, same, why)) = rw same (inl (inl (none, inr (place, asks, not_read e why))))
   told_file r (inr (inl (answer, found, w, by, written, tells))) = inl (inr (
     answer,
@@ -543,7 +544,7 @@ module _ (contents : List ℕ → Option Text) (choice : Choice) (options : List
     (
       place,
       asks,
-      λ first second one two. subst (λ (k : Bool). IsLook k place first second.bytes answer (verdict_of found)) is (table, reads first one, found, tells second two, refl),
+      λ first second one two. subst (λ (k : Bool). IsLook k place form first second.bytes answer (verdict_of found)) is (table, reads first one, found, tells second two, refl),
     ),
     written,
     by,
@@ -557,7 +558,7 @@ module _ (contents : List ℕ → Option Text) (choice : Choice) (options : List
     (
       place,
       asks,
-      λ first second one two. subst (λ (k : Bool). IsLookCut k place first second.bytes answer e) is
+      λ first second one two. subst (λ (k : Bool). IsLookCut k place form first second.bytes answer e) is
           (table, reads first one, (belongs second two).0, (belongs second two).1),
     ),
   )

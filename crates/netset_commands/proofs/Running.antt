@@ -21,7 +21,7 @@ use Rattle.netset_commands.specs.declared.errors.CommandError.{CommandError}
 use Rattle.netset_commands.specs.declared.errors.CommandError.TheVariants as error
 use Rattle.netset_commands.specs.declared.input.keeping.Kept.{Kept}
 use Rattle.cidr_lists.specs.declared.lines.HostBits.{HostBits}
-use Rattle.cidr_lists.specs.declared.lines.Kind.{Kind}
+use Rattle.cidr_lists.specs.declared.forms.Kind.{Kind}
 use Rattle.netset_commands.proofs.Arguments.{same_text}
 use Rattle.netset_commands.proofs.ReadBy.{text_same}
 

@@ -11,15 +11,16 @@ use Rattle.cidr.specs.declared.family.Family.TheVariants.{Ipv4, Ipv6}
 use Rattle.cidr_table.specs.model.LastRows.{AreLastRows}
 use Rattle.netset_commands.specs.Causes.{TextFails}
 use Rattle.cidr_lists.specs.Lists.{Text, lines_of, text_by}
-use Rattle.cidr_lists.specs.Fields.{IsBadRow}
+use Rattle.cidr_lists.specs.Forms.{IsBadRow, RowSays}
 use Rattle.netset_commands.specs.Look.{IsUnreadTable}
-use Rattle.cidr_lists.specs.Tables.{RowSays, row_in, rows_in, said_in, AreCopies, AreSpansWithin, Stores, kept, resolved, stored, value_at}
+use Rattle.cidr_lists.specs.Tables.{row_in, rows_in, said_in, AreCopies, AreSpansWithin, Stores, kept, resolved, stored, value_at}
 use Rattle.netset_commands.specs.Keeping.{AllSaid}
 use Rattle.netset_commands.specs.LookUps.{Adds, IsErrorAt, ReadsFileRows, ReadsRows, ReadsTable, unread}
 use Rattle.netset_commands.specs.Reading.{IsNextLine, IsStopped}
 use Rattle.netset_commands.specs.declared.errors.ReadError.{ReadError}
 use Rattle.netset_commands.specs.declared.errors.ReadError.TheVariants.{Line, Input, NoMemory}
 use Rattle.netset_commands.specs.declared.input.keeping.Said.TheVariants.{Rows as AsRows}
+use Rattle.cidr_lists.specs.declared.forms.RowForm.{RowForm}
 use Rattle.cidr_lists.specs.declared.lines.HostBits.{HostBits}
 use Rattle.cidr_lists.specs.declared.rows.Rows.{Rows}
 use Rattle.cidr_lists.specs.declared.rows.Span.{Span}
@@ -109,57 +110,57 @@ stored_more old new said (Some (network, value)) s p = record {
 }
 
 -- ---- one line after the other
-module _ (bits : HostBits) where
+module _ (form : RowForm) (bits : HostBits) where
   abbrev pub Reads : List ℕ → Option (List ℕ) → Rows → ℕ → Type 0
-  Reads text left rows number = (said : List (Option (IpCidr × List ℕ))) × Passed (RowSays bits) text left said number × Stores rows said
+  Reads text left rows number = (said : List (Option (IpCidr × List ℕ))) × Passed (RowSays form bits) text left said number × Stores rows said
 
   pub rows_started : (contents : Option (List ℕ)) (rows : Rows) → Stores rows [] → IfSome contents (λ text. Reads text contents rows 1)
   rows_started None rows h = tt
-  rows_started (Some text) rows h = ([], none_passed (RowSays bits) text, h)
+  rows_started (Some text) rows h = ([], none_passed (RowSays form bits) text, h)
 
   pub rows_stepped : (contents left next : Option (List ℕ)) (old new : Rows) (number : ℕ) (line : List ℕ) (more : Bool) (one : Option (IpCidr × List ℕ)) → more ≡ true
-      → IfSome contents (λ text. Reads text left old number) → IfSome left (λ text. IsNextLine text line more next) → RowSays bits line one → Adds old new one
+      → IfSome contents (λ text. Reads text left old number) → IfSome left (λ text. IsNextLine text line more next) → RowSays form bits line one → Adds old new one
       → IfSome contents (λ text. Reads text next new (number + 1))
   rows_stepped None left next old new number line more one is h n says adds = tt
   rows_stepped (Some text) left next old new number line more one is (said, p, s) n says adds =
-      (said ++ one ∷ [], one_passed (RowSays bits) text left next said number line more one is p n says, stored_more old new said one s adds)
+      (said ++ one ∷ [], one_passed (RowSays form bits) text left next said number line more one is p n says, stored_more old new said one s adds)
 
   pub rows_finished : (contents left next : Option (List ℕ)) (old new : Rows) (number : ℕ) (line : List ℕ) (more : Bool) (one : Option (IpCidr × List ℕ)) → more ≡ false
-      → IfSome contents (λ text. Reads text left old number) → IfSome left (λ text. IsNextLine text line more next) → RowSays bits line one → Adds old new one
-      → IfSome contents (λ text. ReadsRows (text_by bits text) (Ok new))
+      → IfSome contents (λ text. Reads text left old number) → IfSome left (λ text. IsNextLine text line more next) → RowSays form bits line one → Adds old new one
+      → IfSome contents (λ text. ReadsRows form (text_by bits text) (Ok new))
   rows_finished None left next old new number line more one is h n says adds = tt
   rows_finished (Some text) left next old new number line more one is (said, p, s) n says adds =
-      (said ++ one ∷ [], all_passed (RowSays bits) text left next said number line more one is p n says, stored_more old new said one s adds)
+      (said ++ one ∷ [], all_passed (RowSays form bits) text left next said number line more one is p n says, stored_more old new said one s adds)
 
   abbrev failing : ReadError → Result Rows ReadError
   failing e = Err e
 
   rows_in_error : (contents left next : Option (List ℕ)) (old : Rows) (number : ℕ) (line : List ℕ) (more : Bool) (e : ReadError)
-      → IfSome contents (λ text. Reads text left old number) → IfSome left (λ text. IsNextLine text line more next) → IsErrorAt (IsBadRow bits) line number e
-      → IfSome contents (λ text. ReadsRows (text_by bits text) (Err e))
+      → IfSome contents (λ text. Reads text left old number) → IfSome left (λ text. IsNextLine text line more next) → IsErrorAt (IsBadRow form bits) line number e
+      → IfSome contents (λ text. ReadsRows form (text_by bits text) (Err e))
   rows_in_error None left next old number line more e h n bad = tt
   rows_in_error (Some text) left next old number line more Input h n bad = tt
   rows_in_error (Some text) left next old number line more NoMemory h n bad = tt
   rows_in_error (Some text) left next old number line more (Line m e) (said, p, s) n bad =
-      (said, error_passed (RowSays bits) (IsBadRow bits) text left next said number line more m e p n bad.0 bad.1)
+      (said, error_passed (RowSays form bits) (IsBadRow form bits) text left next said number line more m e p n bad.0 bad.1)
 
   pub rows_failed : (contents left next : Option (List ℕ)) (old : Rows) (number : ℕ) (line : List ℕ) (more : Bool) (r : Result Rows ReadError) (y e : ReadError)
       → r ≡ Err y → y ≡ e → IfSome contents (λ text. Reads text left old number) → IfSome left (λ text. IsNextLine text line more next)
-      → IsErrorAt (IsBadRow bits) line number e → IfSome contents (λ text. ReadsRows (text_by bits text) r)
+      → IsErrorAt (IsBadRow form bits) line number e → IfSome contents (λ text. ReadsRows form (text_by bits text) r)
   rows_failed contents left next old number line more r y e is same h n bad =
-      subst (λ (k : Result Rows ReadError). IfSome contents (λ text. ReadsRows (text_by bits text) k)) (sym (is ∙ ap failing same))
+      subst (λ (k : Result Rows ReadError). IfSome contents (λ text. ReadsRows form (text_by bits text) k)) (sym (is ∙ ap failing same))
       (rows_in_error contents left next old number line more e h n bad)
 
-  no_more_rows : (contents : Option (List ℕ)) (e : ReadError) → IsStopped e → IfSome contents (λ text. ReadsRows (text_by bits text) (Err e))
+  no_more_rows : (contents : Option (List ℕ)) (e : ReadError) → IsStopped e → IfSome contents (λ text. ReadsRows form (text_by bits text) (Err e))
   no_more_rows None e h = tt
   no_more_rows (Some text) (Line number e) h = absurd h
   no_more_rows (Some text) Input h = tt
   no_more_rows (Some text) NoMemory h = tt
 
   pub rows_stopped : (contents : Option (List ℕ)) (r : Result Rows ReadError) (y e : ReadError) → r ≡ Err y → y ≡ e → IsStopped e
-      → IfSome contents (λ text. ReadsRows (text_by bits text) r)
+      → IfSome contents (λ text. ReadsRows form (text_by bits text) r)
   rows_stopped contents r y e is same h =
-      subst (λ (k : Result Rows ReadError). IfSome contents (λ text. ReadsRows (text_by bits text) k)) (sym (is ∙ ap failing same)) (no_more_rows contents e h)
+      subst (λ (k : Result Rows ReadError). IfSome contents (λ text. ReadsRows form (text_by bits text) k)) (sym (is ∙ ap failing same)) (no_more_rows contents e h)
 
   -- what is left is told too
   pub rows_known : (contents left : Option (List ℕ)) (rows : Rows) (number : ℕ) → IfSome contents (λ text. Reads text left rows number) → KnownOf contents left
@@ -174,14 +175,14 @@ module _ (bits : HostBits) where
 
 -- ---- the table of the rows
 -- what is read of a reader whose bytes are told
-told_rows : (bits : HostBits) (left : Option (List ℕ)) (text : Text) (r : Result Rows ReadError) → left ≡ Some text.bytes → text.host_bits ≡ bits
-    → IfSome left (λ bytes. ReadsRows (text_by bits bytes) r) → ReadsRows text r
-told_rows bits left text r is by h = rw (text_same bits text by) at (bytes_read (λ bytes. ReadsRows (text_by bits bytes) r) left text.bytes is h)
+told_rows : (form : RowForm) (bits : HostBits) (left : Option (List ℕ)) (text : Text) (r : Result Rows ReadError) → left ≡ Some text.bytes → text.host_bits ≡ bits
+    → IfSome left (λ bytes. ReadsRows form (text_by bits bytes) r) → ReadsRows form text r
+told_rows form bits left text r is by h = rw (text_same bits text by) at (bytes_read (λ bytes. ReadsRows form (text_by bits bytes) r) left text.bytes is h)
 
-pub rows_read : (contents : Option Text) (left : Option (List ℕ)) (bits : HostBits) (name : List ℕ) (rows : Rows)
+pub rows_read : (form : RowForm) (contents : Option Text) (left : Option (List ℕ)) (bits : HostBits) (name : List ℕ) (rows : Rows)
     → ((text : Text) → contents ≡ Some text → left ≡ Some text.bytes) → ((text : Text) → contents ≡ Some text → text.host_bits ≡ bits)
-    → IfSome left (λ bytes. ReadsRows (text_by bits bytes) (Ok rows)) → ReadsFileRows contents name (Ok rows)
-rows_read contents left bits name rows opens by reads text is = told_rows bits left text (Ok rows) (opens text is) (by text is) reads
+    → IfSome left (λ bytes. ReadsRows form (text_by bits bytes) (Ok rows)) → ReadsFileRows form contents name (Ok rows)
+rows_read form contents left bits name rows opens by reads text is = told_rows form bits left text (Ok rows) (opens text is) (by text is) reads
 
 -- the rows of a file, as they were kept
 same_rows : (rows others : Rows) → AreCopies rows others → (family : Family) → stored others family ≡ stored rows family
@@ -197,31 +198,31 @@ stored_same rows others said same s = record {
       (subst (AreSpansWithin rows.values.items) (sym (same_rows rows others same family)) (s.within family));
 }
 
-pub rows_copied : (contents : Option Text) (name : List ℕ) (kept rows : Rows)
-    → ((text : Text) → contents ≡ Some text → AllSaid text.host_bits (lines_of text.bytes) (AsRows kept)) → AreCopies kept rows
-    → ReadsFileRows contents name (Ok rows)
-rows_copied contents name kept rows is same text at =
-    let (said, says, stores) = is text at in
-    (said, says, stored_same kept rows said same stores)
+pub rows_copied : (form said : RowForm) (contents : Option Text) (name : List ℕ) (kept rows : Rows)
+    → ((text : Text) → contents ≡ Some text → AllSaid text.host_bits (lines_of text.bytes) (AsRows said kept)) → said ≡ form → AreCopies kept rows
+    → ReadsFileRows form contents name (Ok rows)
+rows_copied form said contents name kept rows is read same text at =
+    let (all, says, stores) = subst (λ (k : RowForm). AllSaid text.host_bits (lines_of text.bytes) (AsRows k kept)) read (is text at) in
+    (all, says, stored_same kept rows all same stores)
 
 pub bytes_copied : (contents : Option Text) (kept bytes : List ℕ) → AreFileBytes contents kept → AllZip (λ x y. y ≡ x) kept bytes → AreFileBytes contents bytes
 bytes_copied contents kept bytes are copies = λ text is.
     let (begins, same) = are text is in
     (begins, each_same kept bytes copies ∙ same)
 
-pub table_read : (contents : Option Text) (name : List ℕ) (rows : Rows) (table : Table) → ReadsFileRows contents name (Ok rows)
-    → ((family : Family) → AreLastRows (map (resolved rows.values.items) (stored rows family)) (kept table family)) → ReadsTable contents name (Ok table)
-table_read contents name rows table reads last = λ text is.
+pub table_read : (form : RowForm) (contents : Option Text) (name : List ℕ) (rows : Rows) (table : Table) → ReadsFileRows form contents name (Ok rows)
+    → ((family : Family) → AreLastRows (map (resolved rows.values.items) (stored rows family)) (kept table family)) → ReadsTable form contents name (Ok table)
+table_read form contents name rows table reads last = λ text is.
     let (said, says, s) = reads text is in
     (said, says, λ family. subst (λ (k : List (List Bool × List ℕ)). AreLastRows k (kept table family)) (s.same family) (last family))
 
-pub table_unread : (contents : Option Text) (left : Option (List ℕ)) (bits : HostBits) (file : Bor (List ℕ)) (e : ReadError)
+pub table_unread : (form : RowForm) (contents : Option Text) (left : Option (List ℕ)) (bits : HostBits) (file : Bor (List ℕ)) (e : ReadError)
     → ((text : Text) → contents ≡ Some text → left ≡ Some text.bytes) → ((text : Text) → contents ≡ Some text → text.host_bits ≡ bits)
-    → IfSome left (λ bytes. ReadsRows (text_by bits bytes) (Err e)) → IsUnreadTable contents file.now (unread file e)
-table_unread contents left bits file (Line number e) opens by reads = (
+    → IfSome left (λ bytes. ReadsRows form (text_by bits bytes) (Err e)) → IsUnreadTable form contents file.now (unread file e)
+table_unread form contents left bits file (Line number e) opens by reads = (
   refl,
   λ text is.
-      let (said, first) = told_rows bits left text (Err (Line number e)) (opens text is) (by text is) reads in
+      let (said, first) = told_rows form bits left text (Err (Line number e)) (opens text is) (by text is) reads in
       record {
         before = first.before;
         line = first.line;
@@ -233,5 +234,5 @@ table_unread contents left bits file (Line number e) opens by reads = (
         fault = first.fault;
       },
 )
-table_unread contents left bits file Input opens by reads = refl
-table_unread contents left bits file NoMemory opens by reads = tt
+table_unread form contents left bits file Input opens by reads = refl
+table_unread form contents left bits file NoMemory opens by reads = tt

@@ -18,7 +18,7 @@ use Rattle.cidr_lists.specs.Faults.{AreErrors, AreTellings, IsFaulty, IsPartTold
 use Rattle.cidr_lists.specs.Messages.{fault_line}
 use Rattle.cidr_lists.specs.Lists.{IsTooLong, LineSays, Text, lines_of, line_networks, text_by}
 use Rattle.cidr_lists.specs.declared.lines.Content.TheVariants.{Blank}
-use Rattle.cidr_lists.specs.Tables.{RowSays}
+use Rattle.cidr_lists.specs.Forms.{RowSays}
 use Rattle.netset_commands.specs.Gathering.{IsNotReadFurther}
 use Rattle.netset_commands.specs.LookUps.{unread}
 use Rattle.netset_commands.specs.Reading.{IsNextLine, IsStopped}
@@ -33,8 +33,9 @@ use Rattle.netset_commands.specs.declared.errors.CommandError.TheVariants as err
 use Rattle.cidr_lists.specs.declared.errors.LineError.{LineError}
 use Rattle.netset_commands.specs.declared.errors.ReadError.{ReadError}
 use Rattle.netset_commands.specs.declared.errors.ReadError.TheVariants.{Line, Input, NoMemory}
-use Rattle.cidr_lists.specs.declared.lines.Kind.{Kind}
-use Rattle.cidr_lists.specs.declared.lines.Kind.TheVariants as kinds
+use Rattle.cidr_lists.specs.declared.forms.Kind.{Kind}
+use Rattle.cidr_lists.specs.declared.forms.Kind.TheVariants as kinds
+use Rattle.cidr_lists.specs.declared.forms.RowForm.{RowForm}
 use Rattle.netset_commands.specs.declared.input.begun.Given.TheVariants.{Lines, Stored}
 use Rattle.netset_commands.specs.declared.input.keeping.Heard.{Heard}
 use Rattle.netset_commands.specs.declared.input.keeping.Said.{Said}
@@ -88,35 +89,35 @@ module _ (bits : HostBits) (line : List ℕ) (number : ℕ) where
   pub same_kind : (was now : Said) (r : Result (Unit {0}) ReadError) → AddsBy bits line number was now r → kind_in now ≡ kind_in was
   same_kind (Networks old) (Networks new) r h = refl
   same_kind (Hosts old) (Hosts new) r h = refl
-  same_kind (Rows old) (Rows new) r h = refl
+  same_kind (Rows form old) (Rows same new) r h = ap (λ (k : RowForm). kinds.Rows k) h.0
   same_kind (Networks old) (Hosts new) r h = absurd h
-  same_kind (Networks old) (Rows new) r h = absurd h
+  same_kind (Networks old) (Rows form new) r h = absurd h
   same_kind (Hosts old) (Networks new) r h = absurd h
-  same_kind (Hosts old) (Rows new) r h = absurd h
-  same_kind (Rows old) (Networks new) r h = absurd h
-  same_kind (Rows old) (Hosts new) r h = absurd h
+  same_kind (Hosts old) (Rows form new) r h = absurd h
+  same_kind (Rows form old) (Networks new) r h = absurd h
+  same_kind (Rows form old) (Hosts new) r h = absurd h
 
   line_sound : (was now : Said) → AddsBy bits line number was now (Ok tt) → IsSound (kind_in was) bits line
   line_sound (Networks old) (Networks new) (said, (short, field, content, is_field, is_content, are), grows) = (short, field, content, is_field, is_content)
   line_sound (Hosts old) (Hosts new) (one, has, is) = ([], number, one, has)
-  line_sound (Rows old) (Rows new) (said, says, adds) = (said, says)
+  line_sound (Rows form old) (Rows same new) (is, (said, says, adds)) = (said, says)
   line_sound (Networks old) (Hosts new) h = absurd h
-  line_sound (Networks old) (Rows new) h = absurd h
+  line_sound (Networks old) (Rows form new) h = absurd h
   line_sound (Hosts old) (Networks new) h = absurd h
-  line_sound (Hosts old) (Rows new) h = absurd h
-  line_sound (Rows old) (Networks new) h = absurd h
-  line_sound (Rows old) (Hosts new) h = absurd h
+  line_sound (Hosts old) (Rows form new) h = absurd h
+  line_sound (Rows form old) (Networks new) h = absurd h
+  line_sound (Rows form old) (Hosts new) h = absurd h
 
   pub line_faulty : (was now : Said) (n : ℕ) (e : LineError) → AddsBy bits line number was now (Err (Line n e)) → IsFaulty (kind_in was) bits line e
   line_faulty (Networks old) (Networks new) n e h = h.1
   line_faulty (Hosts old) (Hosts new) n e h = h.1
-  line_faulty (Rows old) (Rows new) n e h = h.1
+  line_faulty (Rows form old) (Rows same new) n e h = h.1.1
   line_faulty (Networks old) (Hosts new) n e h = absurd h
-  line_faulty (Networks old) (Rows new) n e h = absurd h
+  line_faulty (Networks old) (Rows form new) n e h = absurd h
   line_faulty (Hosts old) (Networks new) n e h = absurd h
-  line_faulty (Hosts old) (Rows new) n e h = absurd h
-  line_faulty (Rows old) (Networks new) n e h = absurd h
-  line_faulty (Rows old) (Hosts new) n e h = absurd h
+  line_faulty (Hosts old) (Rows form new) n e h = absurd h
+  line_faulty (Rows form old) (Networks new) n e h = absurd h
+  line_faulty (Rows form old) (Hosts new) n e h = absurd h
 
   said_behind : (was now : Said) → AddsBy bits line number was now (Ok tt) → (before : List (List ℕ)) → number ≡ length before + 1 → AllSaid bits before was
       → AllSaid bits (before ++ line ∷ []) now
@@ -127,14 +128,15 @@ module _ (bits : HostBits) (line : List ℕ) (number : ℕ) where
   )
   said_behind (Hosts old) (Hosts new) (one, has, is) before at are =
       subst (AreEntries [] 1 (before ++ line ∷ [])) (sym is) (line_behind [] 1 number before line old.items one (omega (arith, at)) are has)
-  said_behind (Rows old) (Rows new) (one, says, adds) before at (said, zip, stores) =
-      (said ++ one ∷ [], zip_behind (RowSays bits) before said line one zip says, stored_more old new said one stores adds)
+  said_behind (Rows form old) (Rows same new) (is, (one, says, adds)) before at (said, zip, stores) =
+      subst (λ (k : RowForm). AllSaid bits (before ++ line ∷ []) (Rows k new)) (sym is)
+      (said ++ one ∷ [], zip_behind (RowSays form bits) before said line one zip says, stored_more old new said one stores adds)
   said_behind (Networks old) (Hosts new) h before at are = absurd h
-  said_behind (Networks old) (Rows new) h before at are = absurd h
+  said_behind (Networks old) (Rows form new) h before at are = absurd h
   said_behind (Hosts old) (Networks new) h before at are = absurd h
-  said_behind (Hosts old) (Rows new) h before at are = absurd h
-  said_behind (Rows old) (Networks new) h before at are = absurd h
-  said_behind (Rows old) (Hosts new) h before at are = absurd h
+  said_behind (Hosts old) (Rows form new) h before at are = absurd h
+  said_behind (Rows form old) (Networks new) h before at are = absurd h
+  said_behind (Rows form old) (Hosts new) h before at are = absurd h
 
 -- ---- whether there is an error
 pub none_of : (a b : Bool) → (a || b) ≡ false → (a ≡ false) × (b ≡ false)
@@ -376,7 +378,7 @@ blank_field = (0, refl, λ i l. absurd (omega (arith, l)), λ l. absurd (omega (
 blank_sound : (kind : Kind) (bits : HostBits) → IsSound kind bits []
 blank_sound kinds.Networks bits = (blank_short, [], Blank, blank_field, refl)
 blank_sound kinds.Hosts bits = ([], 1, None, (blank_short, blank_field))
-blank_sound kinds.Rows bits = (None, (blank_short, ([], blank_field, refl)))
+blank_sound (kinds.Rows form) bits = (None, (blank_short, ([], blank_field, refl)))
 
 blank_told : (kind : Kind) (file : List ℕ) (bits : HostBits) → AreErrorsTold kind file (text_by bits []) []
 blank_told kind file bits = ([], inl (blank_sound kind bits, refl), refl)

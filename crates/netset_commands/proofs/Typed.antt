@@ -1,18 +1,22 @@
 -- Requests as they are typed are read as these requests.
-use Rattle.std.proofs.Common.{◌≡◌, refl, sym, ◌∙◌, ap, subst, inl, inr, ℕ, Bool, true, false, ◌||◌, ◌&&◌, List, [], ◌∷◌, ◌++◌, codes, slice_get, Option, Some, None, Result, Ok}
+use Rattle.std.proofs.Common.{◌≡◌, refl, sym, ◌∙◌, ap, subst, inl, inr, ℕ, Bool, true, false, ◌||◌, ◌&&◌, List, [], ◌∷◌, ◌++◌, codes, slice_get, append-nil, Option, Some, None, Result, Ok}
 use Rattle.std.specs.List.{list_all, list_any}
 use Rattle.std.proofs.lemmas.Bool.{true≢false}
+use Rattle.cidr.specs.declared.family.Family.TheVariants.{Ipv4, Ipv6}
 use Rattle.cidr_lists.specs.Formats.{IsBare, Style, format_name}
 use Rattle.cidr_lists.specs.Rules.{Question, Permitted, Shadowed, Compared}
+use Rattle.cidr_lists.specs.declared.columns.Separator.TheVariants.{WhiteSpace, Byte}
 use Rattle.cidr_lists.specs.declared.formats.LineFormat.TheVariants as by_line
-use Rattle.netset_commands.specs.Arguments.{Parts, and_then, question_by, asks_help, choice_by, choice_in, counted_request, extent_by, extra_operand, is_option, joined_arguments, line_request, lists_request, look_by, match_by, named_verb, only_operand, only_options, only_value, part_request, parts_from, read_request, style_in_values, takes, target_by, tells_two_ways, value_of, verb_request, word_parts}
+use Rattle.cidr_lists.specs.declared.forms.RowForm.{RowForm}
+use Rattle.cidr_lists.specs.declared.forms.RowForm.TheVariants.{Fields, Pfx2as, Routes}
+use Rattle.netset_commands.specs.Arguments.{Parts, and_then, question_by, asks_help, choice_by, choice_in, counted_request, extent_by, extra_operand, form_in, is_option, joined_arguments, line_request, lists_request, look_by, match_by, named_verb, only_operand, only_options, only_value, part_request, parts_from, read_request, style_in_values, takes, target_by, tells_two_ways, value_behind, value_of, verb_request, word_parts}
 use Rattle.netset_commands.specs.Commands.{Request, Lists, Styled, NotIn, Diff, Free, Acl, Split, Check, Which, Match, MatchEach, Look, Compile, Describe, Class, Single, Help, Version, input_name, reading_of}
 use Rattle.netset_commands.specs.Free.{Extent, First, Count, All}
 use Rattle.netset_commands.specs.Matching.{has, is_word}
 use Rattle.netset_commands.specs.Picking.{Choice, FirstField, FieldOf}
 use Rattle.netset_commands.specs.Single.{Show, Nth}
 use Rattle.netset_commands.specs.Table.{commands, name_of, options_of, takes_value}
-use Rattle.netset_commands.specs.Typed.{AreTyped, GoesWith, IsTyped, choice_words, style_words}
+use Rattle.netset_commands.specs.Typed.{AreTyped, GoesWith, IsTyped, choice_words, form_words, style_words}
 use Rattle.netset_commands.specs.declared.commands.arguments.Next.{Next}
 use Rattle.netset_commands.specs.declared.commands.arguments.Next.TheVariants.{Any, Value}
 use Rattle.netset_commands.specs.declared.commands.describe.Description.TheVariants.{Zones, Masks}
@@ -84,13 +88,34 @@ abbrev HasFields : Verb → Type 0
 HasFields command = (word_parts command Any (codes "--field") ≡ Ok (only_value (codes "--field"), Value))
     × (word_parts command Any (codes "--separator") ≡ Ok (only_value (codes "--separator"), Value))
 
-behind_choice : (command : Verb) (choice : Choice) (operands : List (List ℕ)) → HasFields command → list_any is_option operands ≡ false
+-- these before other words
+behind_choice : (command : Verb) (choice : Choice) (valued operands : List (List ℕ)) → HasFields command
+    → parts_from command (valued ++ operands) Any ≡ Ok (parts_with [] valued operands)
+    → parts_from command ((choice_words choice ++ valued) ++ operands) Any ≡ Ok (parts_with [] (choice_words choice ++ valued) operands)
+behind_choice command FirstField valued operands has is = is
+behind_choice command (FieldOf number None) valued operands has is = behind_values command (codes "--field") number valued operands has.0 is
+behind_choice command (FieldOf number (Some separator)) valued operands has is =
+    behind_values command (codes "--field") number (codes "--separator" ∷ separator ∷ valued) operands has.0
+    (behind_values command (codes "--separator") separator valued operands has.1 is)
+
+only_choice : (command : Verb) (choice : Choice) (operands : List (List ℕ)) → HasFields command → list_any is_option operands ≡ false
     → parts_from command (choice_words choice ++ operands) Any ≡ Ok (parts_with [] (choice_words choice) operands)
-behind_choice command FirstField operands has none = operands_alone command operands none
-behind_choice command (FieldOf number None) operands has none = behind_value command (codes "--field") number operands has.0 none
-behind_choice command (FieldOf number (Some separator)) operands has none =
-    behind_values command (codes "--field") number (codes "--separator" ∷ separator ∷ []) operands has.0
-    (behind_value command (codes "--separator") separator operands has.1 none)
+only_choice command choice operands has none =
+    subst (λ (k : List (List ℕ)). parts_from command (k ++ operands) Any ≡ Ok (parts_with [] k operands)) (append-nil (choice_words choice))
+    (behind_choice command choice [] operands has (operands_alone command operands none))
+
+-- the options that tell how rows are read, of a command that has them
+abbrev HasForms : Verb → Type 0
+HasForms command = (word_parts command Any (codes "--form") ≡ Ok (only_value (codes "--form"), Value))
+    × (word_parts command Any (codes "--table-separator") ≡ Ok (only_value (codes "--table-separator"), Value))
+
+behind_form : (command : Verb) (form : RowForm) (operands : List (List ℕ)) → HasForms command → list_any is_option operands ≡ false
+    → parts_from command (form_words form ++ operands) Any ≡ Ok (parts_with [] (form_words form) operands)
+behind_form command (Fields WhiteSpace) operands has none = operands_alone command operands none
+behind_form command (Fields (Byte c)) operands has none = behind_value command (codes "--table-separator") (c ∷ []) operands has.1 none
+behind_form command Pfx2as operands has none = behind_value command (codes "--form") (codes "pfx2as") operands has.0 none
+behind_form command (Routes Ipv4) operands has none = behind_value command (codes "--form") (codes "routes") operands has.0 none
+behind_form command (Routes Ipv6) operands has none = behind_value command (codes "--form") (codes "routes6") operands has.0 none
 
 -- ---- options
 -- the word is an option of the command
@@ -248,6 +273,70 @@ choice_asks command FirstField options operands goes = refl
 choice_asks command (FieldOf number None) options operands goes = ap (λ (b : Bool). choice_by command (Some number) b None) goes
 choice_asks command (FieldOf number (Some separator)) options operands goes = ap (λ (b : Bool). choice_by command (Some number) b (Some separator)) goes
 
+-- how the rows of a table are read
+form_told : (command : Verb) (form : RowForm) → form_in command (form_words form) ≡ Ok form
+form_told command (Fields WhiteSpace) = refl
+form_told command (Fields (Byte c)) = refl
+form_told command Pfx2as = refl
+form_told command (Routes Ipv4) = refl
+form_told command (Routes Ipv6) = refl
+
+-- no other value is told by it
+no_file_in : (command : Verb) (form : RowForm) → value_of command (codes "-o") (form_words form) ≡ Ok None
+no_file_in command (Fields WhiteSpace) = refl
+no_file_in command (Fields (Byte c)) = refl
+no_file_in command Pfx2as = refl
+no_file_in command (Routes Ipv4) = refl
+no_file_in command (Routes Ipv6) = refl
+
+no_field_in : (command : Verb) (form : RowForm) (found : Option (List ℕ)) → value_behind command (codes "--field") found (form_words form) ≡ Ok found
+no_field_in command (Fields WhiteSpace) found = refl
+no_field_in command (Fields (Byte c)) found = refl
+no_field_in command Pfx2as found = refl
+no_field_in command (Routes Ipv4) found = refl
+no_field_in command (Routes Ipv6) found = refl
+
+no_separator_in : (command : Verb) (form : RowForm) (found : Option (List ℕ)) → value_behind command (codes "--separator") found (form_words form) ≡ Ok found
+no_separator_in command (Fields WhiteSpace) found = refl
+no_separator_in command (Fields (Byte c)) found = refl
+no_separator_in command Pfx2as found = refl
+no_separator_in command (Routes Ipv4) found = refl
+no_separator_in command (Routes Ipv6) found = refl
+
+-- both, of `look`
+abbrev look_values : Choice → RowForm → List (List ℕ)
+look_values choice form = choice_words choice ++ form_words form
+
+look_form : (choice : Choice) (form : RowForm) → form_in verb.Look (look_values choice form) ≡ Ok form
+look_form FirstField form = form_told verb.Look form
+look_form (FieldOf number None) form = form_told verb.Look form
+look_form (FieldOf number (Some separator)) form = form_told verb.Look form
+
+look_file : (choice : Choice) (form : RowForm) → value_of verb.Look (codes "-o") (look_values choice form) ≡ Ok None
+look_file FirstField form = no_file_in verb.Look form
+look_file (FieldOf number None) form = no_file_in verb.Look form
+look_file (FieldOf number (Some separator)) form = no_file_in verb.Look form
+
+choice_found : (choice : Choice) (options values operands : List (List ℕ)) (number separator : Option (List ℕ)) → value_of verb.Look (codes "--field") values ≡ Ok number
+    → value_of verb.Look (codes "--separator") values ≡ Ok separator → choice_by verb.Look number (has (codes "--any") options) separator ≡ Ok choice
+    → choice_in verb.Look (parts_with options values operands) ≡ Ok choice
+choice_found choice options values operands number separator first second is =
+    let behind : Option (List ℕ) → Option (List ℕ) → Result Choice (List ℕ) = λ n s. choice_by verb.Look n (has (codes "--any") options) s in
+    ap (λ (r : Result (Option (List ℕ)) (List ℕ)). and_then r (λ n. and_then (value_of verb.Look (codes "--separator") values) (behind n))) first
+    ∙ (ap (λ (r : Result (Option (List ℕ)) (List ℕ)). and_then r (behind number)) second ∙ is)
+
+look_choice : (choice : Choice) (form : RowForm) (options operands : List (List ℕ)) → GoesWith choice options
+    → choice_in verb.Look (parts_with options (look_values choice form) operands) ≡ Ok choice
+look_choice FirstField form options operands goes =
+    choice_found FirstField options (look_values FirstField form) operands None None (no_field_in verb.Look form None) (no_separator_in verb.Look form None) refl
+look_choice (FieldOf number None) form options operands goes =
+    choice_found (FieldOf number None) options (look_values (FieldOf number None) form) operands (Some number) None (no_field_in verb.Look form (Some number))
+    (no_separator_in verb.Look form None) (ap (λ (b : Bool). choice_by verb.Look (Some number) b None) goes)
+look_choice (FieldOf number (Some separator)) form options operands goes =
+    choice_found (FieldOf number (Some separator)) options (look_values (FieldOf number (Some separator)) form) operands (Some number) (Some separator)
+    (no_field_in verb.Look form (Some number)) (no_separator_in verb.Look form (Some separator))
+    (ap (λ (b : Bool). choice_by verb.Look (Some number) b (Some separator)) goes)
+
 -- no file, where -k and --skip-bad are not both given
 none_by : (command : Verb) (keeps skips : Bool) → (keeps && skips) ≡ false → target_by command keeps skips None ≡ Ok None
 none_by command keeps false fine = refl
@@ -298,19 +387,22 @@ module _ (words options : List (List ℕ)) where
       → AreTyped verb.Match options (choice_words choice) operands words
       → match_by choice (parts_with options (choice_words choice) operands) (slice_get operands 2) ≡ request → Asks request
   match_asks choice operands request goes (is, all, no_page, none, enough) made =
-      line_asks verb.Match (choice_words choice) (choice_words choice) operands (is, all, no_page, none, enough) (behind_choice verb.Match choice operands (refl, refl) none) refl (no_output verb.Match choice) request
+      line_asks verb.Match (choice_words choice) (choice_words choice) operands (is, all, no_page, none, enough) (only_choice verb.Match choice operands (refl, refl) none) refl (no_output verb.Match choice) request
       (ap (λ (r : Result Choice (List ℕ)). and_then r (λ one. Ok (match_by one (parts_with options (choice_words choice) operands) (slice_get operands 2))))
       (choice_asks verb.Match choice options operands goes)
       ∙ ap (λ (k : Request). Ok k) made)
 
-  look_asks : (choice : Choice) (operands : List (List ℕ)) (request : Request) → GoesWith choice options
-      → AreTyped verb.Look options (choice_words choice) operands words → extra_operand verb.Look operands ≡ None
-      → look_by choice (parts_with options (choice_words choice) operands) ≡ request → Asks request
-  look_asks choice operands request goes (is, all, no_page, none, enough) fits made =
-      line_asks verb.Look (choice_words choice) (choice_words choice) operands (is, all, no_page, none, enough) (behind_choice verb.Look choice operands (refl, refl) none) fits
-      (no_output verb.Look choice) request
-      (ap (λ (r : Result Choice (List ℕ)). and_then r (λ one. Ok (look_by one (parts_with options (choice_words choice) operands)))) (choice_asks verb.Look choice options operands goes)
-      ∙ ap (λ (k : Request). Ok k) made)
+  look_asks : (choice : Choice) (form : RowForm) (operands : List (List ℕ)) (request : Request) → GoesWith choice options
+      → AreTyped verb.Look options (look_values choice form) operands words → extra_operand verb.Look operands ≡ None
+      → look_by choice form (parts_with options (look_values choice form) operands) ≡ request → Asks request
+  look_asks choice form operands request goes (is, all, no_page, none, enough) fits made =
+      let values = look_values choice form in
+      line_asks verb.Look values values operands (is, all, no_page, none, enough)
+      (behind_choice verb.Look choice (form_words form) operands (refl, refl) (behind_form verb.Look form operands (refl, refl) none)) fits (look_file choice form) request
+      (ap (λ (r : Result Choice (List ℕ)). and_then r (λ one. and_then (form_in verb.Look values) (λ f. Ok (look_by one f (parts_with options values operands)))))
+      (look_choice choice form options operands goes)
+      ∙ (ap (λ (r : Result RowForm (List ℕ)). and_then r (λ f. Ok (look_by choice f (parts_with options values operands)))) (look_form choice form)
+      ∙ ap (λ (k : Request). Ok k) made))
 
   pub typed_asks : (request : Request) → IsTyped words options request → Asks request
   typed_asks (Lists operation files) typed = plain_asks (verb.Lists operation) files (Lists operation files) typed refl (without_value operation files)
@@ -380,12 +472,15 @@ module _ (words options : List (List ℕ)) where
   typed_asks (MatchEach choice given list (first ∷ second ∷ files)) (same, goes, typed) =
       match_asks choice (list ∷ first ∷ second ∷ files) (MatchEach choice given list (first ∷ second ∷ files)) goes typed
       (ap (λ (k : List (List ℕ)). MatchEach choice k list (first ∷ second ∷ files)) (sym same))
-  typed_asks (Look choice given table file) (same, goes, inl typed) =
-      look_asks choice (table ∷ file ∷ []) (Look choice given table file) goes typed refl (ap (λ (k : List (List ℕ)). Look choice k table file) (sym same))
-  typed_asks (Look choice given table file) (same, goes, inr (input, typed)) =
-      look_asks choice (table ∷ []) (Look choice given table file) goes typed refl
-      (ap (λ (k : List (List ℕ)). Look choice k table input_name) (sym same) ∙ ap (λ (k : List ℕ). Look choice given table k) (sym input))
-  typed_asks (Compile table name) typed = plain_asks verb.Compile (table ∷ name ∷ []) (Compile table name) typed refl refl
+  typed_asks (Look choice form given table file) (same, goes, inl typed) =
+      look_asks choice form (table ∷ file ∷ []) (Look choice form given table file) goes typed refl (ap (λ (k : List (List ℕ)). Look choice form k table file) (sym same))
+  typed_asks (Look choice form given table file) (same, goes, inr (input, typed)) =
+      look_asks choice form (table ∷ []) (Look choice form given table file) goes typed refl
+      (ap (λ (k : List (List ℕ)). Look choice form k table input_name) (sym same) ∙ ap (λ (k : List ℕ). Look choice form given table k) (sym input))
+  typed_asks (Compile form table name) (is, all, no_page, none, enough) =
+      line_asks verb.Compile (form_words form) (form_words form) (table ∷ name ∷ []) (is, all, no_page, none, enough)
+      (behind_form verb.Compile form (table ∷ name ∷ []) (refl, refl) none) refl (no_file_in verb.Compile form) (Compile form table name)
+      (ap (λ (r : Result RowForm (List ℕ)). and_then r (λ f. Ok (Compile f table name))) (form_told verb.Compile form))
   typed_asks (Describe what operand) typed = plain_asks (verb.Describe what) (operand ∷ []) (Describe what operand) typed refl refl
   typed_asks (Class operand) typed = plain_asks verb.Class (operand ∷ []) (Class operand) typed refl refl
   typed_asks (Single (Show host)) typed = plain_asks verb.Show (host ∷ []) (Single (Show host)) typed refl refl

@@ -5,6 +5,10 @@ use Rattle.std.specs.List.{after_first, before_first, find, list_all, starts_wit
 use Rattle.cidr_io.specs.Shown.{excerpt}
 use Rattle.cidr_lists.specs.Formats.{Style, bare, format_of}
 use Rattle.cidr_lists.specs.Rules.{Question, Permitted, Shadowed, Compared}
+use Rattle.cidr.specs.declared.family.Family.TheVariants.{Ipv4, Ipv6}
+use Rattle.cidr_lists.specs.declared.columns.Separator.TheVariants.{WhiteSpace, Byte}
+use Rattle.cidr_lists.specs.declared.forms.RowForm.{RowForm}
+use Rattle.cidr_lists.specs.declared.forms.RowForm.TheVariants.{Fields, Pfx2as, Routes}
 use Rattle.cidr_lists.specs.declared.formats.Format.{Format}
 use Rattle.cidr_lists.specs.declared.formats.Format.TheVariants as format
 use Rattle.cidr_lists.specs.declared.formats.LineFormat.{LineFormat}
@@ -22,7 +26,7 @@ use Rattle.netset_commands.specs.declared.commands.operations.Operation.{Operati
 use Rattle.netset_commands.specs.declared.commands.table.Verb.{Verb}
 use Rattle.netset_commands.specs.declared.commands.table.Verb.TheVariants as verb
 use Rattle.netset_commands.specs.declared.errors.Misfit.{Misfit}
-use Rattle.netset_commands.specs.declared.errors.Misfit.TheVariants.{Unnamed, NoCommand, NoOption, Missing, Extra, NoFormat, NotPlain, NoField, Anywhere, Skipping, NoLineFormat, WithShadowed, WithDiff}
+use Rattle.netset_commands.specs.declared.errors.Misfit.TheVariants.{Unnamed, NoCommand, NoOption, Missing, Extra, NoFormat, NotPlain, NoField, Anywhere, Skipping, NoLineFormat, WithShadowed, WithDiff, NoForm, NotOneByte, WithForm}
 
 -- ---- the line of a word that is wrong
 abbrev pub misfit_text : Misfit → List ℕ
@@ -39,6 +43,9 @@ misfit_text Anywhere = codes ": not with --any, see: netset help "
 misfit_text Skipping = codes ": not with --skip-bad, see: netset help "
 misfit_text WithShadowed = codes ": not with --shadowed, see: netset help "
 misfit_text WithDiff = codes ": not with --diff, see: netset help "
+misfit_text NoForm = codes ": no such form, but pfx2as, routes and routes6, see: netset help "
+misfit_text NotOneByte = codes ": more or less than one byte, see: netset help "
+misfit_text WithForm = codes ": not with --form, see: netset help "
 
 -- the word or what is missing, what is wrong with it, and the command whose page is to be seen
 abbrev pub misuse_text : List ℕ → Misfit → List ℕ → List ℕ
@@ -318,12 +325,39 @@ choice_in command parts = and_then (value_of command (codes "--field") parts.val
 abbrev pub match_request : Parts → Result Request (List ℕ)
 match_request parts = and_then (choice_in verb.Match parts) (λ choice. Ok (match_by choice parts (slice_get parts.operands 2)))
 
+-- the form of a name
+abbrev pub named_form : Verb → List ℕ → Result RowForm (List ℕ)
+named_form command name = if is_word (codes "pfx2as") name then Ok Pfx2as
+    else if is_word (codes "routes") name then Ok (Routes Ipv4)
+    else if is_word (codes "routes6") name then Ok (Routes Ipv6)
+    else Err (misuse_text name NoForm (name_of command))
+
+-- that of fields with a byte between them
+abbrev pub parted_form : Verb → List ℕ → Result RowForm (List ℕ)
+parted_form command (byte ∷ []) = Ok (Fields (Byte byte))
+parted_form command text = Err (misuse_text text NotOneByte (name_of command))
+
+-- how the rows of a table are read, by the values of --form and --table-separator: one of these at most
+abbrev pub form_by : Verb → Option (List ℕ) → Option (List ℕ) → Result RowForm (List ℕ)
+form_by command None None = Ok (Fields WhiteSpace)
+form_by command None (Some separator) = parted_form command separator
+form_by command (Some name) None = named_form command name
+form_by command (Some name) (Some separator) = Err (misuse_text (codes "--table-separator") WithForm (name_of command))
+
+abbrev pub form_in : Verb → List (List ℕ) → Result RowForm (List ℕ)
+form_in command values = and_then (value_of command (codes "--form") values)
+    (λ name. and_then (value_of command (codes "--table-separator") values) (λ separator. form_by command name separator))
+
 -- the command look, of a table and a file or the standard input
-abbrev pub look_by : Choice → Parts → Request
-look_by choice parts = Look choice parts.options (operand_or parts.operands 0 []) (operand_or parts.operands 1 input_name)
+abbrev pub look_by : Choice → RowForm → Parts → Request
+look_by choice form parts = Look choice form parts.options (operand_or parts.operands 0 []) (operand_or parts.operands 1 input_name)
 
 abbrev pub look_request : Parts → Result Request (List ℕ)
-look_request parts = and_then (choice_in verb.Look parts) (λ choice. Ok (look_by choice parts))
+look_request parts = and_then (choice_in verb.Look parts) (λ choice. and_then (form_in verb.Look parts.values) (λ form. Ok (look_by choice form parts)))
+
+abbrev pub compile_request : Parts → Result Request (List ℕ)
+compile_request parts = and_then (form_in verb.Compile parts.values)
+    (λ form. Ok (Compile form (operand_or parts.operands 0 []) (operand_or parts.operands 1 [])))
 
 -- a command with as many operands as it takes
 abbrev pub verb_request : Verb → Parts → Result Request (List ℕ)
@@ -335,7 +369,7 @@ verb_request verb.Check parts = Ok (Check parts.operands)
 verb_request verb.Which parts = Ok (Which (operand_or parts.operands 0 []) (drop 1 parts.operands))
 verb_request verb.Match parts = match_request parts
 verb_request verb.Look parts = look_request parts
-verb_request verb.Compile parts = Ok (Compile (operand_or parts.operands 0 []) (operand_or parts.operands 1 []))
+verb_request verb.Compile parts = compile_request parts
 verb_request (verb.Describe what) parts = Ok (Describe what (operand_or parts.operands 0 []))
 verb_request verb.Class parts = Ok (Class (operand_or parts.operands 0 []))
 verb_request verb.Show parts = Ok (Single (Show (operand_or parts.operands 0 [])))

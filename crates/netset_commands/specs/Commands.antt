@@ -34,6 +34,7 @@ use Rattle.netset_commands.specs.declared.commands.AtFault.TheVariants.{Stop, Te
 use Rattle.netset_commands.specs.declared.commands.Reading.{Reading}
 use Rattle.cidr_lists.specs.declared.columns.Column.{Column}
 use Rattle.cidr_lists.specs.declared.fields.Asked.{Asked}
+use Rattle.cidr_lists.specs.declared.forms.RowForm.{RowForm}
 use Rattle.cidr_lists.specs.declared.lines.HostBits.{HostBits}
 use Rattle.cidr_lists.specs.declared.formats.LineFormat.{LineFormat}
 use Rattle.cidr_lists.specs.declared.sets.Form.{Form}
@@ -59,8 +60,8 @@ pub data Request : Type 0 where
   Which : List ℕ → List (List ℕ) → Request
   Match : Choice → List (List ℕ) → List ℕ → List ℕ → Request
   MatchEach : Choice → List (List ℕ) → List ℕ → List (List ℕ) → Request
-  Look : Choice → List (List ℕ) → List ℕ → List ℕ → Request
-  Compile : List ℕ → List ℕ → Request
+  Look : Choice → RowForm → List (List ℕ) → List ℕ → List ℕ → Request
+  Compile : RowForm → List ℕ → List ℕ → Request
   Describe : Description → List ℕ → Request
   Class : List ℕ → Request
   Single : SingleRequest → Request
@@ -89,8 +90,8 @@ lists_of (Check files) = read_files files
 lists_of (Which address files) = read_files files
 lists_of (Match choice options list file) = list ∷ []
 lists_of (MatchEach choice options list files) = list ∷ []
-lists_of (Look choice options table file) = table ∷ []
-lists_of (Compile table name) = table ∷ []
+lists_of (Look choice form options table file) = table ∷ []
+lists_of (Compile form table name) = table ∷ []
 lists_of (Describe what operand) = operand ∷ []
 lists_of request = []
 
@@ -98,7 +99,7 @@ lists_of request = []
 abbrev pub others_of : Request → List (List ℕ)
 others_of (Match choice options list file) = file ∷ []
 others_of (MatchEach choice options list files) = files
-others_of (Look choice options table file) = file ∷ []
+others_of (Look choice form options table file) = file ∷ []
 others_of (Acl asked file) = compared_with asked ++ file ∷ []
 others_of (Class operand) = operand ∷ []
 others_of request = []
@@ -237,9 +238,9 @@ IsAnswer contents (Match choice options list file) answer verdict =
 IsAnswer contents (MatchEach choice options list files) answer verdict = (column : Column) × IsChosen choice column
     × ((networks : Text) → contents list ≡ Some networks → HoldsOf networks
     (λ IsIn. IsMatchOfEach contents (Picks (has (codes "--any") options) column IsIn (has (codes "-v") options)) (written_of options) files answer verdict))
-IsAnswer contents (Look choice options table file) answer verdict = (asked : Asked) × IsAsked choice (has (codes "--any") options) asked
-    × ((rows text : Text) → contents table ≡ Some rows → contents file ≡ Some text → IsLook (has (codes "--keep") options) asked rows text.bytes answer verdict)
-IsAnswer contents (Compile table name) answer verdict = (answer ≡ []) × (verdict ≡ Yes)
+IsAnswer contents (Look choice form options table file) answer verdict = (asked : Asked) × IsAsked choice (has (codes "--any") options) asked
+    × ((rows text : Text) → contents table ≡ Some rows → contents file ≡ Some text → IsLook (has (codes "--keep") options) asked form rows text.bytes answer verdict)
+IsAnswer contents (Compile form table name) answer verdict = (answer ≡ []) × (verdict ≡ Yes)
 IsAnswer contents (Describe what operand) answer verdict = IsDescription contents what operand answer × (verdict ≡ Yes)
 IsAnswer contents (Class operand) answer verdict = IsClassOf contents operand answer verdict
 IsAnswer contents (Single request) answer verdict = IsSingleAnswer request answer verdict

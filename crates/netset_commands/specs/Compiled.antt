@@ -8,6 +8,7 @@ use Rattle.cidr_files.specs.Layout.{ipv4_parts, ipv6_parts, wide_words, words}
 use Rattle.cidr_files.specs.Tables.{IsFile, IsSmall, stored_networks, value_in}
 use Rattle.cidr_lists.specs.Lists.{Text}
 use Rattle.cidr_lists.specs.Tables.{IsTable}
+use Rattle.cidr_lists.specs.declared.forms.RowForm.{RowForm}
 
 -- the rows of a table in a file, where an address has w bits and bytes spell these numbers: each a network and its value
 pub record HasTheRows (w : ℕ) (numbers : List ℕ → List ℕ) (parts : List (List ℕ)) (rows : List (List Bool × List ℕ)) : Type 0 where
@@ -41,5 +42,5 @@ begins_file [] = false
 begins_file (byte ∷ bytes) = byte == 137
 
 -- what a file says as a table: the rows of its lines, or those of a file of look-ups
-abbrev pub SaysTable : Text → (Family → List (List Bool × List ℕ)) → Type 0
-SaysTable text table = IsTable text table ⊎ HasTable table text.bytes
+abbrev pub SaysTable : RowForm → Text → (Family → List (List Bool × List ℕ)) → Type 0
+SaysTable form text table = IsTable form text table ⊎ HasTable table text.bytes

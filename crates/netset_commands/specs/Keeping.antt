@@ -10,7 +10,8 @@ use Rattle.netset_commands.specs.Compiled.{begins_file}
 use Rattle.netset_commands.specs.Entries.{AddsEntry}
 use Rattle.cidr_lists.specs.Entries.{AreEntries}
 use Rattle.cidr_lists.specs.Lists.{Text, LineSays, lines_of, networks_in, text_by}
-use Rattle.cidr_lists.specs.Tables.{RowSays, Stores}
+use Rattle.cidr_lists.specs.Forms.{RowSays}
+use Rattle.cidr_lists.specs.Tables.{Stores}
 use Rattle.netset_commands.specs.LookUps.{AddsRow}
 use Rattle.netset_commands.specs.Matching.{is_word}
 use Rattle.netset_commands.specs.Reading.{AddsLine, IsStopped}
@@ -23,8 +24,8 @@ use Rattle.netset_commands.specs.declared.input.begun.Given.{Given}
 use Rattle.netset_commands.specs.declared.input.begun.Given.TheVariants.{Lines, Stored}
 use Rattle.netset_commands.specs.declared.input.keeping.Heard.{Heard}
 use Rattle.netset_commands.specs.declared.input.keeping.Kept.{Kept}
-use Rattle.cidr_lists.specs.declared.lines.Kind.{Kind}
-use Rattle.cidr_lists.specs.declared.lines.Kind.TheVariants as kind
+use Rattle.cidr_lists.specs.declared.forms.Kind.{Kind}
+use Rattle.cidr_lists.specs.declared.forms.Kind.TheVariants as kind
 use Rattle.netset_commands.specs.declared.input.keeping.Said.{Said}
 use Rattle.netset_commands.specs.declared.input.keeping.Said.TheVariants.{Networks, Hosts, Rows}
 use Rattle.cidr_lists.specs.declared.lines.HostBits.{HostBits}
@@ -35,15 +36,15 @@ use Rattle.cidr_lists.specs.Faults.{IsFaulty, AreErrors, AreTellings, IsPartTold
 abbrev pub kind_of : Request → Kind
 kind_of (Check files) = kind.Hosts
 kind_of (Which address files) = kind.Hosts
-kind_of (Look choice options table file) = kind.Rows
-kind_of (Compile table name) = kind.Rows
+kind_of (Look choice form options table file) = kind.Rows form
+kind_of (Compile form table name) = kind.Rows form
 kind_of request = kind.Networks
 
 -- whether its list may be a file of look-ups
 abbrev pub takes_file : Request → Bool
 takes_file (Match choice options list file) = true
 takes_file (MatchEach choice options list files) = true
-takes_file (Look choice options table file) = true
+takes_file (Look choice form options table file) = true
 takes_file request = false
 
 -- a list by its lines: a file of look-ups has none
@@ -101,14 +102,14 @@ IsGoodFile false request contents good = good ≡ contents
 abbrev pub kind_in : Said → Kind
 kind_in (Networks lists) = kind.Networks
 kind_in (Hosts entries) = kind.Hosts
-kind_in (Rows rows) = kind.Rows
+kind_in (Rows form rows) = kind.Rows form
 
 -- this is what the lines say, each entry in a file of no name
 abbrev pub AllSaid : HostBits → List (List ℕ) → Said → Type 0
 AllSaid bits lines (Networks lists) = (said : List (List IpCidr)) × AllZip (LineSays bits) lines said
     × ((family : Family) → listed lists family ≡ networks_in family said)
 AllSaid bits lines (Hosts entries) = AreEntries [] 1 lines entries.items
-AllSaid bits lines (Rows rows) = (said : List (Option (IpCidr × List ℕ))) × AllZip (RowSays bits) lines said × Stores rows said
+AllSaid bits lines (Rows form rows) = (said : List (Option (IpCidr × List ℕ))) × AllZip (RowSays form bits) lines said × Stores rows said
 
 -- nothing is said yet
 abbrev pub IsNothingSaid : Kind → Said → Type 0
@@ -118,13 +119,13 @@ IsNothingSaid kind said = (kind_in said ≡ kind) × ((bits : HostBits) → AllS
 abbrev pub AddsBy : HostBits → List ℕ → ℕ → Said → Said → Result (Unit {0}) ReadError → Type 0
 AddsBy bits line number (Networks old) (Networks new) r = AddsLine bits line number old new r
 AddsBy bits line number (Hosts old) (Hosts new) r = AddsEntry [] number line old.items new.items r
-AddsBy bits line number (Rows old) (Rows new) r = AddsRow bits line number old new r
+AddsBy bits line number (Rows form old) (Rows same new) r = (same ≡ form) × AddsRow form bits line number old new r
 AddsBy bits line number (Networks old) (Hosts new) r = ⊥
-AddsBy bits line number (Networks old) (Rows new) r = ⊥
+AddsBy bits line number (Networks old) (Rows form new) r = ⊥
 AddsBy bits line number (Hosts old) (Networks new) r = ⊥
-AddsBy bits line number (Hosts old) (Rows new) r = ⊥
-AddsBy bits line number (Rows old) (Networks new) r = ⊥
-AddsBy bits line number (Rows old) (Hosts new) r = ⊥
+AddsBy bits line number (Hosts old) (Rows form new) r = ⊥
+AddsBy bits line number (Rows form old) (Networks new) r = ⊥
+AddsBy bits line number (Rows form old) (Hosts new) r = ⊥
 
 -- lines more are said, where these were said before
 abbrev pub SaysMore : State → List ℕ → State → List ℕ → List ℕ → Type 0

@@ -4,6 +4,7 @@ use Rattle.cidr.specs.declared.family.Family.{Family}
 use Rattle.cidr_io.specs.Arguments.{AreArguments}
 use Rattle.cidr_lists.specs.Lists.{Text}
 use Rattle.cidr_lists.specs.Tables.{IsTable}
+use Rattle.cidr_lists.specs.declared.forms.RowForm.{RowForm}
 use Rattle.netset_commands.specs.Arguments.{Line, line_request}
 use Rattle.netset_commands.specs.Commands.{Request, Compile, IsAnswer}
 use Rattle.netset_commands.specs.Compiled.{IsTableFile}
@@ -14,20 +15,20 @@ use Rattle.netset_commands.specs.declared.output.answers.Verdict.{Verdict}
 use Rattle.netset_commands.specs.declared.output.answers.Verdict.TheVariants.{Yes, No}
 
 -- a file of the rows of a table was written under this name, and no other
-abbrev pub IsSaved : Option Text → List ℕ → Option (List (List ℕ × List ℕ)) → Option (List (List ℕ × List ℕ)) → Type 0
-IsSaved contents name old new = (bytes : List ℕ) × (new ≡ with_file name bytes old)
-    × ((text : Text) → contents ≡ Some text → (table : Family → List (List Bool × List ℕ)) × IsTable text table × IsTableFile table bytes)
+abbrev pub IsSaved : RowForm → Option Text → List ℕ → Option (List (List ℕ × List ℕ)) → Option (List (List ℕ × List ℕ)) → Type 0
+IsSaved form contents name old new = (bytes : List ℕ) × (new ≡ with_file name bytes old)
+    × ((text : Text) → contents ≡ Some text → (table : Family → List (List Bool × List ℕ)) × IsTable form text table × IsTableFile table bytes)
 
 -- what a request leaves in the folder, by its answer: only `compile` writes a file, if it has an answer
 abbrev pub Leaves : (List ℕ → Option Text) → Request → Option (List (List ℕ × List ℕ)) → Option (List (List ℕ × List ℕ)) → Result Verdict CommandError → Type 0
-Leaves contents (Compile table name) old new (Ok Yes) = IsSaved (contents table) name old new
-Leaves contents (Compile table name) old new (Ok No) = ⊥
+Leaves contents (Compile form table name) old new (Ok Yes) = IsSaved form (contents table) name old new
+Leaves contents (Compile form table name) old new (Ok No) = ⊥
 Leaves contents request old new r = new ≡ old
 
 -- the same by the exit status of a run
 abbrev pub LeavesBy : (List ℕ → Option Text) → Request → Option (List (List ℕ × List ℕ)) → Option (List (List ℕ × List ℕ)) → ℕ → Type 0
-LeavesBy contents (Compile table name) old new status =
-    ((status ≡ 0) × IsSaved (contents table) name old new) ⊎ ((status ≢ 0) × (new ≡ old))
+LeavesBy contents (Compile form table name) old new status =
+    ((status ≡ 0) × IsSaved form (contents table) name old new) ⊎ ((status ≢ 0) × (new ≡ old))
 LeavesBy contents request old new status = new ≡ old
 
 -- the same where the answer goes to the file of a name: it is written there where the status is that of an answer, and else

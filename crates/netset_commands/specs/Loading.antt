@@ -7,7 +7,7 @@ use Rattle.cidr_lists.specs.Faults.{AreTellings}
 use Rattle.cidr_lists.specs.Lists.{Text}
 use Rattle.netset_commands.specs.declared.errors.CommandError.{CommandError}
 use Rattle.netset_commands.specs.declared.input.keeping.Kept.{Kept}
-use Rattle.cidr_lists.specs.declared.lines.Kind.{Kind}
+use Rattle.cidr_lists.specs.declared.forms.Kind.{Kind}
 
 -- lists were read, and their lines in error told; where there is none, this is what they say, and, if that is wanted, what is
 -- read without them

@@ -11,12 +11,13 @@ use Rattle.cidr_io.specs.declared.sink.OutputFailed.{OutputFailed}
 use Rattle.cidr_table.specs.model.Prefixes.{IsLookedUp}
 use Rattle.cidr_io.specs.Collecting.{Collects}
 use Rattle.cidr_lists.specs.Lists.{IsTooLong, Text, lines_of}
-use Rattle.cidr_lists.specs.Fields.{IsBadRow}
-use Rattle.cidr_lists.specs.Tables.{IsTable, RowSays, Stores, Pushes, kept, value_at}
+use Rattle.cidr_lists.specs.Forms.{IsBadRow, RowSays}
+use Rattle.cidr_lists.specs.Tables.{IsTable, Stores, Pushes, kept, value_at}
 use Rattle.netset_commands.specs.Look.{IsUnreadTable}
 use Rattle.netset_commands.specs.Stored.{AreFileBytes, IsNoTable}
 use Rattle.cidr_lists.specs.LookUps.{IsBadAsked, LineLooks, LookUp, SaysAsked, found_line, is_found, look_line}
 use Rattle.cidr_lists.specs.declared.fields.Asked.{Asked}
+use Rattle.cidr_lists.specs.declared.forms.RowForm.{RowForm}
 use Rattle.netset_commands.specs.declared.errors.CommandError.{CommandError}
 use Rattle.netset_commands.specs.declared.errors.CommandError.TheVariants as error
 use Rattle.cidr_lists.specs.declared.errors.LineError.{LineError}
@@ -63,41 +64,41 @@ IsErrorAt IsBad line number Input = ⊥
 IsErrorAt IsBad line number NoMemory = Unit {0}
 
 -- the row that a line says, if it says one, comes behind those before
-abbrev pub AddsRow : HostBits → List ℕ → ℕ → Rows → Rows → Result (Unit {0}) ReadError → Type 0
-AddsRow bits line number old new (Ok _) = (said : Option (IpCidr × List ℕ)) × RowSays bits line said × Adds old new said
-AddsRow bits line number old new (Err e) = IsErrorAt (IsBadRow bits) line number e
+abbrev pub AddsRow : RowForm → HostBits → List ℕ → ℕ → Rows → Rows → Result (Unit {0}) ReadError → Type 0
+AddsRow form bits line number old new (Ok _) = (said : Option (IpCidr × List ℕ)) × RowSays form bits line said × Adds old new said
+AddsRow form bits line number old new (Err e) = IsErrorAt (IsBadRow form bits) line number e
 
 -- the rows that a text says, or its first line in error, or nothing of the text where reading has stopped
-abbrev pub ReadsRows : Text → Result Rows ReadError → Type 0
-ReadsRows text (Ok rows) = (said : List (Option (IpCidr × List ℕ)))
-    × AllZip (RowSays text.host_bits) (lines_of text.bytes) said × Stores rows said
-ReadsRows text (Err (Line number e)) = (said : List (Option (IpCidr × List ℕ)))
-    × AreBeforeError (RowSays text.host_bits) (IsBadRow text.host_bits) text.bytes said number e
-ReadsRows text (Err Input) = Unit {0}
-ReadsRows text (Err NoMemory) = Unit {0}
+abbrev pub ReadsRows : RowForm → Text → Result Rows ReadError → Type 0
+ReadsRows form text (Ok rows) = (said : List (Option (IpCidr × List ℕ)))
+    × AllZip (RowSays form text.host_bits) (lines_of text.bytes) said × Stores rows said
+ReadsRows form text (Err (Line number e)) = (said : List (Option (IpCidr × List ℕ)))
+    × AreBeforeError (RowSays form text.host_bits) (IsBadRow form text.host_bits) text.bytes said number e
+ReadsRows form text (Err Input) = Unit {0}
+ReadsRows form text (Err NoMemory) = Unit {0}
 
 -- the rows of a file, or why it is not read
-abbrev pub ReadsFileRows : Option Text → List ℕ → Result Rows CommandError → Type 0
-ReadsFileRows contents name (Ok rows) = (text : Text) → contents ≡ Some text → ReadsRows text (Ok rows)
-ReadsFileRows contents name (Err e) = IsUnreadTable contents name e
+abbrev pub ReadsFileRows : RowForm → Option Text → List ℕ → Result Rows CommandError → Type 0
+ReadsFileRows form contents name (Ok rows) = (text : Text) → contents ≡ Some text → ReadsRows form text (Ok rows)
+ReadsFileRows form contents name (Err e) = IsUnreadTable form contents name e
 
 -- the table of a file, or why it is not read
-abbrev pub ReadsTable : Option Text → List ℕ → Result Table CommandError → Type 0
-ReadsTable contents name (Ok table) = (text : Text) → contents ≡ Some text → IsTable text (kept table)
-ReadsTable contents name (Err e) = IsUnreadTable contents name e
+abbrev pub ReadsTable : RowForm → Option Text → List ℕ → Result Table CommandError → Type 0
+ReadsTable form contents name (Ok table) = (text : Text) → contents ≡ Some text → IsTable form text (kept table)
+ReadsTable form contents name (Err e) = IsUnreadTable form contents name e
 
 -- what a file has in the place of a table: lines, by the rows that they say, or the bytes of a file of look-ups; or why it is
 -- not read
-abbrev pub GivesRows : Option Text → List ℕ → Result (Given Rows) CommandError → Type 0
-GivesRows contents name (Ok (Lines rows)) = ReadsFileRows contents name (Ok rows)
-GivesRows contents name (Ok (Stored bytes)) = AreFileBytes contents bytes.items
-GivesRows contents name (Err e) = IsNoTable contents name e
+abbrev pub GivesRows : RowForm → Option Text → List ℕ → Result (Given Rows) CommandError → Type 0
+GivesRows form contents name (Ok (Lines rows)) = ReadsFileRows form contents name (Ok rows)
+GivesRows form contents name (Ok (Stored bytes)) = AreFileBytes contents bytes.items
+GivesRows form contents name (Err e) = IsNoTable form contents name e
 
 -- the same with the table of these rows
-abbrev pub GivesTable : Option Text → List ℕ → Result (Given Table) CommandError → Type 0
-GivesTable contents name (Ok (Lines table)) = ReadsTable contents name (Ok table)
-GivesTable contents name (Ok (Stored bytes)) = AreFileBytes contents bytes.items
-GivesTable contents name (Err e) = IsNoTable contents name e
+abbrev pub GivesTable : RowForm → Option Text → List ℕ → Result (Given Table) CommandError → Type 0
+GivesTable form contents name (Ok (Lines table)) = ReadsTable form contents name (Ok table)
+GivesTable form contents name (Ok (Stored bytes)) = AreFileBytes contents bytes.items
+GivesTable form contents name (Err e) = IsNoTable form contents name e
 
 -- an error of reading a file
 abbrev pub unread : Bor (List ℕ) → ReadError → CommandError

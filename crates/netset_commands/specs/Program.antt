@@ -43,6 +43,7 @@ use Rattle.netset_commands.specs.declared.commands.AtFault.TheVariants.{Stop, Te
 use Rattle.netset_commands.specs.declared.commands.Reading.{Reading}
 use Rattle.cidr_lists.specs.declared.columns.Column.{Column}
 use Rattle.cidr_lists.specs.declared.fields.Asked.{Asked}
+use Rattle.cidr_lists.specs.declared.forms.RowForm.{RowForm}
 use Rattle.cidr_lists.specs.declared.lines.HostBits.{HostBits}
 use Rattle.netset_commands.specs.declared.output.answers.Verdict.{Verdict}
 use Rattle.netset_commands.specs.declared.output.answers.Verdict.TheVariants.{Yes, No}
@@ -81,8 +82,8 @@ IsWrong (Free style extent pool len used) e = IsBadArgument (IsBadFree extent le
 IsWrong (Which text files) e = IsBadArgument (IsNoAddressArgument text) e
 IsWrong (Match choice options list file) e = IsBadArgument (IsBadChoice choice) e
 IsWrong (MatchEach choice options list files) e = IsBadArgument (IsBadChoice choice) e
-IsWrong (Look choice options table file) e = IsBadArgument (IsBadChoice choice) e
-IsWrong (Compile table name) e = IsSameFile table name e
+IsWrong (Look choice form options table file) e = IsBadArgument (IsBadChoice choice) e
+IsWrong (Compile form table name) e = IsSameFile table name e
 IsWrong request e = ⊥
 
 -- the error is that this file can't be read
@@ -120,8 +121,8 @@ IsRequestRefused contents (Match choice options list file) (Err e) = IsBadArgume
     ⊎ ((column : Column) × IsChosen choice column × (IsNotGiven (IsUnread contents (list ∷ [])) (contents list) list e ⊎ IsInputError file e))
 IsRequestRefused contents (MatchEach choice options list files) (Err e) = IsBadArgument (IsBadChoice choice) e
     ⊎ ((column : Column) × IsChosen choice column × IsNotGiven (IsUnread contents (list ∷ [])) (contents list) list e)
-IsRequestRefused contents (Look choice options table file) (Err e) = IsBadArgument (IsBadChoice choice) e
-    ⊎ ((asked : Asked) × IsAsked choice (has (codes "--any") options) asked × (IsNoTable (contents table) table e ⊎ IsInputError file e))
+IsRequestRefused contents (Look choice form options table file) (Err e) = IsBadArgument (IsBadChoice choice) e
+    ⊎ ((asked : Asked) × IsAsked choice (has (codes "--any") options) asked × (IsNoTable form (contents table) table e ⊎ IsInputError file e))
 IsRequestRefused contents (Describe what operand) (Err e) = IsNoLength what operand × IsUnreadOperand contents operand e
 IsRequestRefused contents (Class operand) (Err e) = IsUnclassed contents operand e
 IsRequestRefused contents (Single request) (Err e) = IsBadArgument (IsBadSingle request) e
@@ -152,22 +153,22 @@ IsMatchEachUntil contents choice options list before file answer e = (column : C
     (λ IsIn. IsEndedIn contents (Picks (has (codes "--any") options) column IsIn (has (codes "-v") options)) (written_of options) before file answer e))
 
 -- the same of `look`
-abbrev pub IsLookUntil : (List ℕ → Option Text) → Choice → List (List ℕ) → List ℕ → List ℕ → List ℕ → CommandError → Type 0
-IsLookUntil contents choice options table file answer e = (asked : Asked) × IsAsked choice (has (codes "--any") options) asked
-    × ((rows text : Text) → contents table ≡ Some rows → contents file ≡ Some text → IsLookCut (has (codes "--keep") options) asked rows text.bytes answer e)
+abbrev pub IsLookUntil : (List ℕ → Option Text) → Choice → RowForm → List (List ℕ) → List ℕ → List ℕ → List ℕ → CommandError → Type 0
+IsLookUntil contents choice form options table file answer e = (asked : Asked) × IsAsked choice (has (codes "--any") options) asked
+    × ((rows text : Text) → contents table ≡ Some rows → contents file ≡ Some text → IsLookCut (has (codes "--keep") options) asked form rows text.bytes answer e)
 
 -- the error is that the table that a text says is too large for a file, or that the file can't be written
-abbrev pub IsNoFile : Option Text → List ℕ → List ℕ → CommandError → Type 0
-IsNoFile contents table name (error.File file TooLarge) = (file.now ≡ table)
-    × ((text : Text) → contents ≡ Some text → (rows : Family → List (List Bool × List ℕ)) × IsTable text rows × IsTooLarge rows)
-IsNoFile contents table name (error.File file NotSaved) = file.now ≡ name
-IsNoFile contents table name e = ⊥
+abbrev pub IsNoFile : RowForm → Option Text → List ℕ → List ℕ → CommandError → Type 0
+IsNoFile form contents table name (error.File file TooLarge) = (file.now ≡ table)
+    × ((text : Text) → contents ≡ Some text → (rows : Family → List (List Bool × List ℕ)) × IsTable form text rows × IsTooLarge rows)
+IsNoFile form contents table name (error.File file NotSaved) = file.now ≡ name
+IsNoFile form contents table name e = ⊥
 
 -- what `compile` answers: yes, or the first of these errors; what it leaves in the folder is said in `Leaving`
-abbrev pub IsCompiled : (List ℕ → Option Text) → List ℕ → List ℕ → Result Verdict CommandError → Type 0
-IsCompiled contents table name (Ok verdict) = (table ≢ name) × (verdict ≡ Yes)
-IsCompiled contents table name (Err e) =
-    IsSameFile table name e ⊎ ((table ≢ name) × (IsUnreadTable (contents table) table e ⊎ IsNoFile (contents table) table name e))
+abbrev pub IsCompiled : (List ℕ → Option Text) → RowForm → List ℕ → List ℕ → Result Verdict CommandError → Type 0
+IsCompiled contents form table name (Ok verdict) = (table ≢ name) × (verdict ≡ Yes)
+IsCompiled contents form table name (Err e) =
+    IsSameFile table name e ⊎ ((table ≢ name) × (IsUnreadTable form (contents table) table e ⊎ IsNoFile form (contents table) table name e))
 
 -- what becomes of a request and of the sink
 abbrev pub AnswersRequest : (List ℕ → Option Text) → Request → State → State → Result Verdict CommandError → Type 0
@@ -176,16 +177,16 @@ AnswersRequest contents (Match choice options list file) old new r =
 AnswersRequest contents (MatchEach choice options list files) old new r = AnswersWhole contents (MatchEach choice options list files) old new r
     ⊎ ((before after : List (List ℕ)) × (file : List ℕ) × (files ≡ before ++ file ∷ after)
     × IsCutShort (IsMatchEachUntil contents choice options list before file) file old new r)
-AnswersRequest contents (Look choice options table file) old new r =
-    AnswersWhole contents (Look choice options table file) old new r ⊎ IsCutShort (IsLookUntil contents choice options table file) file old new r
-AnswersRequest contents (Compile table name) old new r = (new ≡ old) × IsCompiled contents table name r
+AnswersRequest contents (Look choice form options table file) old new r =
+    AnswersWhole contents (Look choice form options table file) old new r ⊎ IsCutShort (IsLookUntil contents choice form options table file) file old new r
+AnswersRequest contents (Compile form table name) old new r = (new ≡ old) × IsCompiled contents form table name r
 AnswersRequest contents (Class operand) old new r =
     AnswersWhole contents (Class operand) old new r ⊎ IsCutShort (IsClassUntil contents operand) operand old new r
 AnswersRequest contents request old new r = AnswersWhole contents request old new r
 
 -- a request is given up only for its cause; `compile` alone writes a file
 abbrev pub IsCaused : (List ℕ → Option Text) → Refusals → Request → Result Verdict CommandError → Type 0
-IsCaused contents refused (Compile table name) (Err (error.File file NotSaved)) = refused.folder ≡ true
+IsCaused contents refused (Compile form table name) (Err (error.File file NotSaved)) = refused.folder ≡ true
 IsCaused contents refused request r = IfErr r (Cause (FileMayFail contents) refused.memory)
 
 -- the lists of the files, read this way

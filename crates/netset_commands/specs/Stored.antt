@@ -11,6 +11,7 @@ use Rattle.cidr_files.specs.declared.faults.Fault.TheVariants as fault
 use Rattle.cidr_files.specs.declared.faults.TableFault.{TableFault}
 use Rattle.cidr_files.specs.declared.faults.TableFault.TheVariants as in_table
 use Rattle.cidr_files.specs.declared.layout.Table.{Table}
+use Rattle.cidr_lists.specs.declared.forms.RowForm.{RowForm}
 use Rattle.cidr_lists.specs.Lists.{Text}
 use Rattle.netset_commands.specs.Compiled.{HasTable, begins_file}
 use Rattle.netset_commands.specs.Look.{IsUnreadTable}
@@ -43,8 +44,8 @@ IsNotGiven IsOther contents name (error.Line file number e) = IsOther (error.Lin
 IsNotGiven IsOther contents name e = IsOther e
 
 -- the same of a table
-abbrev pub IsNoTable : Option Text → List ℕ → CommandError → Type 0
-IsNoTable contents name e = IsNotGiven (IsUnreadTable contents name) contents name e
+abbrev pub IsNoTable : RowForm → Option Text → List ℕ → CommandError → Type 0
+IsNoTable form contents name e = IsNotGiven (IsUnreadTable form contents name) contents name e
 
 -- ---- what private functions promise
 -- the rows of a table in a file, from one on that has this place: each network by its bits, and its value

@@ -6,7 +6,7 @@ use Rattle.netset_commands.specs.declared.commands.describe.Description.{Descrip
 use Rattle.netset_commands.specs.declared.commands.describe.Description.TheVariants.{Zones, Masks}
 use Rattle.netset_commands.specs.declared.commands.operations.Operation.{Operation}
 use Rattle.netset_commands.specs.declared.commands.operations.Operation.TheVariants.{Merge, Nets, Minus, And, Not, Ranges, Count}
-use Rattle.netset_commands.specs.declared.commands.table.TheConstants.{COMMANDS, MERGE, NETS, MINUS, AND, NOT, RANGES, COUNT, DIFF, FREE, ACL, CHECK, WHICH, MATCH, LOOK, COMPILE, REVERSE, MASK, CLASS, SHOW, SPLIT, NTH, HELP, VERSION, OPTIONS, HOST_BITS, KEEP_GOING, SKIP_BAD, FORMAT, OUTPUT, LISTS}
+use Rattle.netset_commands.specs.declared.commands.table.TheConstants.{COMMANDS, MERGE, NETS, MINUS, AND, NOT, RANGES, COUNT, DIFF, FREE, ACL, CHECK, WHICH, MATCH, LOOK, COMPILE, REVERSE, MASK, CLASS, SHOW, SPLIT, NTH, HELP, VERSION, OPTIONS, HOST_BITS, KEEP_GOING, SKIP_BAD, FORMS, FORMAT, OUTPUT, LISTS}
 use Rattle.netset_commands.specs.declared.commands.table.Verb.{Verb}
 use Rattle.netset_commands.specs.declared.commands.table.Verb.TheVariants.{Lists, Diff, Free, Acl, Check, Which, Match, Look, Compile, Describe, Class, Show, Split, Nth, Help, Version}
 use denote.Ref.{Bor}
@@ -33,13 +33,9 @@ pub record Row : Type 0 where
 abbrev pub row : List ℕ → List (List ℕ) → List (List ℕ) → List (List ℕ) → Option ℕ → List ℕ → Row
 row name options values needed most about = record { name = name; options = options; values = values; needed = needed; most = most; about = about }
 
--- the options without a value: of the commands that read lists of networks, with those of `match` before, of the others that
--- read lists, and of all others
+-- the options without a value: of the commands that read lists of networks, of the others that read lists, and of all others
 abbrev pub list_options : List (List ℕ)
 list_options = codes "--host-bits" ∷ codes "--masks" ∷ codes "-k" ∷ codes "--skip-bad" ∷ codes "-h" ∷ codes "--help" ∷ []
-
-abbrev pub match_options : List (List ℕ)
-match_options = codes "--any" ∷ codes "-v" ∷ codes "-c" ∷ codes "-q" ∷ list_options
 
 abbrev pub keep_options : List (List ℕ)
 keep_options = codes "-k" ∷ codes "--skip-bad" ∷ codes "-h" ∷ codes "--help" ∷ []
@@ -81,9 +77,9 @@ row_of Free = row (codes "free") (codes "--all" ∷ list_options) (codes "--coun
 row_of Acl = row (codes "acl") (codes "--shadowed" ∷ codes "--host-bits" ∷ codes "--masks" ∷ help_options) (codes "--diff" ∷ style_values) (codes "RULES" ∷ []) (Some 1) ACL.now
 row_of Check = row (codes "check") keep_options [] [] None CHECK.now
 row_of Which = row (codes "which") keep_options [] (codes "ADDR" ∷ []) None WHICH.now
-row_of Match = row (codes "match") match_options (codes "--field" ∷ codes "--separator" ∷ []) (codes "LIST" ∷ []) None MATCH.now
-row_of Look = row (codes "look") (codes "--any" ∷ codes "--keep" ∷ list_options) (codes "--field" ∷ codes "--separator" ∷ []) (codes "TABLE" ∷ []) (Some 2) LOOK.now
-row_of Compile = row (codes "compile") (codes "--host-bits" ∷ codes "--masks" ∷ codes "-k" ∷ help_options) [] (codes "TABLE" ∷ codes "OUT" ∷ []) (Some 2) COMPILE.now
+row_of Match = row (codes "match") (codes "--any" ∷ codes "-v" ∷ codes "-c" ∷ codes "-q" ∷ list_options) (codes "--field" ∷ codes "--separator" ∷ []) (codes "LIST" ∷ []) None MATCH.now
+row_of Look = row (codes "look") (codes "--any" ∷ codes "--keep" ∷ list_options) (codes "--field" ∷ codes "--separator" ∷ codes "--form" ∷ codes "--table-separator" ∷ []) (codes "TABLE" ∷ []) (Some 2) LOOK.now
+row_of Compile = row (codes "compile") (codes "--host-bits" ∷ codes "--masks" ∷ codes "-k" ∷ help_options) (codes "--form" ∷ codes "--table-separator" ∷ []) (codes "TABLE" ∷ codes "OUT" ∷ []) (Some 2) COMPILE.now
 row_of Class = row (codes "class") help_options [] (codes "ADDR|FILE" ∷ []) (Some 1) CLASS.now
 row_of Show = row (codes "show") help_options [] (codes "HOST" ∷ []) (Some 1) SHOW.now
 row_of Split = row (codes "split") list_options style_values (codes "NET|FILE" ∷ codes "LEN" ∷ []) (Some 2) SPLIT.now
@@ -120,6 +116,6 @@ note_of command option note = if has option (options_of command) || takes_value 
 -- the page of a command, or of all
 abbrev pub help_text : Option Verb → List ℕ
 help_text (Some command) =
-    concat (about_of command ∷ note_of command (codes "--host-bits") HOST_BITS.now ∷ note_of command (codes "-k") KEEP_GOING.now
-    ∷ note_of command (codes "--skip-bad") SKIP_BAD.now ∷ note_of command (codes "--prefix") FORMAT.now ∷ note_of command (codes "-o") OUTPUT.now ∷ [])
-help_text None = flat_map about_of commands ++ concat (OPTIONS.now ∷ HOST_BITS.now ∷ KEEP_GOING.now ∷ SKIP_BAD.now ∷ FORMAT.now ∷ OUTPUT.now ∷ LISTS.now ∷ [])
+    concat (about_of command ∷ note_of command (codes "--host-bits") HOST_BITS.now ∷ note_of command (codes "-k") KEEP_GOING.now ∷ note_of command (codes "--skip-bad") SKIP_BAD.now
+    ∷ note_of command (codes "--form") FORMS.now ∷ note_of command (codes "--prefix") FORMAT.now ∷ note_of command (codes "-o") OUTPUT.now ∷ [])
+help_text None = flat_map about_of commands ++ concat (OPTIONS.now ∷ HOST_BITS.now ∷ KEEP_GOING.now ∷ SKIP_BAD.now ∷ FORMS.now ∷ FORMAT.now ∷ OUTPUT.now ∷ LISTS.now ∷ [])

@@ -2,8 +2,12 @@
 -- else.
 use Rattle.std.specs.Prelude.{◌≡◌, ◌⊎◌, ◌||◌, ℕ, true, false, List, [], ◌∷◌, ◌++◌, codes, Option, Some, None}
 use Rattle.std.specs.List.{flat_map, list_all, list_any}
+use Rattle.cidr.specs.declared.family.Family.TheVariants.{Ipv4, Ipv6}
 use Rattle.cidr_io.specs.Writing.{State, Whole, Tells}
 use Rattle.cidr_lists.specs.Lists.{Text}
+use Rattle.cidr_lists.specs.declared.columns.Separator.TheVariants.{WhiteSpace, Byte}
+use Rattle.cidr_lists.specs.declared.forms.RowForm.{RowForm}
+use Rattle.cidr_lists.specs.declared.forms.RowForm.TheVariants.{Fields, Pfx2as, Routes}
 use Rattle.cidr_lists.specs.Formats.{IsBare, Style, format_name, line_style}
 use Rattle.cidr_lists.specs.Rules.{compared_with, is_shadowed, style_asked}
 use Rattle.netset_commands.specs.Arguments.{asks_help, is_option, missing_operand, takes, tells_two_ways}
@@ -41,6 +45,14 @@ abbrev pub GoesWith : Choice → List (List ℕ) → Type 0
 GoesWith FirstField options = Unit {0}
 GoesWith (FieldOf number separator) options = has (codes "--any") options ≡ false
 
+-- the option of `look` and `compile` that tells how the rows of a table are read, with its value
+abbrev pub form_words : RowForm → List (List ℕ)
+form_words (Fields WhiteSpace) = []
+form_words (Fields (Byte separator)) = codes "--table-separator" ∷ (separator ∷ []) ∷ []
+form_words Pfx2as = codes "--form" ∷ codes "pfx2as" ∷ []
+form_words (Routes Ipv4) = codes "--form" ∷ codes "routes" ∷ []
+form_words (Routes Ipv6) = codes "--form" ∷ codes "routes6" ∷ []
+
 -- the option that tells a style, with its value
 abbrev pub style_words : Option Style → List (List ℕ)
 style_words None = []
@@ -67,9 +79,9 @@ IsTyped words options (Match choice given list file) =
 IsTyped words options (MatchEach choice given list (first ∷ second ∷ files)) = (given ≡ options) × GoesWith choice options
     × AreTyped verb.Match options (choice_words choice) (list ∷ first ∷ second ∷ files) words
 IsTyped words options (MatchEach choice given list files) = ⊥
-IsTyped words options (Look choice given table file) =
-    (given ≡ options) × GoesWith choice options × AreTypedFor verb.Look options (choice_words choice) table file words
-IsTyped words options (Compile table name) = AreTyped verb.Compile options [] (table ∷ name ∷ []) words
+IsTyped words options (Look choice form given table file) =
+    (given ≡ options) × GoesWith choice options × AreTypedFor verb.Look options (choice_words choice ++ form_words form) table file words
+IsTyped words options (Compile form table name) = AreTyped verb.Compile options (form_words form) (table ∷ name ∷ []) words
 IsTyped words options (Describe what operand) = AreTyped (verb.Describe what) options [] (operand ∷ []) words
 IsTyped words options (Class operand) = AreTyped verb.Class options [] (operand ∷ []) words
 IsTyped words options (Single (Show host)) = AreTyped verb.Show options [] (host ∷ []) words
@@ -78,13 +90,9 @@ IsTyped words options (Help None) = AreTyped verb.Help options [] [] words
 IsTyped words options (Help (Some command)) = AreTyped verb.Help options [] (name_of command ∷ []) words
 IsTyped words options Version = AreTyped verb.Version options [] [] words
 
--- the answer to a request was written whole, and nothing was told of an error
-abbrev pub HasAnswered : (List ℕ → Option Text) → Request → Verdict → State → State → State → State → Type 0
-HasAnswered contents request verdict out new_out err new_err =
-    (answer : List ℕ) × IsAnswer contents request answer verdict × Whole out new_out answer × Tells err new_err []
-
--- a run with these arguments has answered what they ask for, its lists read as the options say, if its status is that of an answer
+-- a run with these arguments, whose status is that of an answer, has written this answer whole, its lists read as the options
+-- say, and told nothing of an error
 abbrev pub AnswersTyped : Option (List (List ℕ)) → (List ℕ → Option (List ℕ)) → State → State → State → State → ℕ → Type 0
 AnswersTyped words contents out new_out err new_err status = (given options : List (List ℕ)) (request : Request) (verdict : Verdict)
     → words ≡ Some given → IsTyped given options request → status ≡ answer_status verdict
-    → HasAnswered (contents_by (bits_of options) contents) request verdict out new_out err new_err
+    → (answer : List ℕ) × IsAnswer (contents_by (bits_of options) contents) request answer verdict × Whole out new_out answer × Tells err new_err []

@@ -41,7 +41,8 @@ use crate::commands::table::Verb;
 use cidr::IpCidr;
 use cidr_io::memory::Memory;
 use cidr_lists::formats::{LineFormat, Style};
-use cidr_lists::lines::{HostBits, Kind};
+use cidr_lists::forms::{Kind, RowForm};
+use cidr_lists::lines::HostBits;
 use std::alloc::{AllocError, Global};
 
 /// A command and its arguments.
@@ -69,10 +70,11 @@ pub enum Command<'a> {
     Match(Choice<'a>, &'a [&'a str], &'a str, &'a str),
     /// The field, the options, the list, and the files of which lines are picked.
     MatchEach(Choice<'a>, &'a [&'a str], &'a str, &'a [&'a str]),
-    /// The field, the options, and the longest networks of the first file that have the addresses of the second one.
-    Look(Choice<'a>, &'a [&'a str], &'a str, &'a str),
-    /// The table that is compiled, and the file that is written.
-    Compile(&'a str, &'a str),
+    /// The field, how rows are read, the options, and the longest networks of the first file that have the addresses of the
+    /// second one.
+    Look(Choice<'a>, RowForm, &'a [&'a str], &'a str, &'a str),
+    /// How rows are read, the table that is compiled, and the file that is written.
+    Compile(RowForm, &'a str, &'a str),
     /// What is told of a network, an address or the networks of a list.
     Describe(Description, &'a str),
     /// What an address, or the addresses of a file, are for.
@@ -181,8 +183,8 @@ impl<'a> Command<'a> {
             }
             Command::Match(_, _, list, _)
             | Command::MatchEach(_, _, list, _)
-            | Command::Look(_, _, list, _)
-            | Command::Compile(list, _)
+            | Command::Look(_, _, _, list, _)
+            | Command::Compile(_, list, _)
             | Command::Split(_, list, _)
             | Command::Describe(_, list) => names.push(*list)?,
             Command::Acl(_, _)
@@ -211,8 +213,8 @@ impl<'a> Command<'a> {
             | Command::Which(_, _)
             | Command::Match(_, _, _, _)
             | Command::MatchEach(_, _, _, _)
-            | Command::Look(_, _, _, _)
-            | Command::Compile(_, _)
+            | Command::Look(_, _, _, _, _)
+            | Command::Compile(_, _, _)
             | Command::Class(_)
             | Command::Single(_)
             | Command::Help(_)
@@ -244,7 +246,7 @@ impl<'a> Command<'a> {
                 memory.push(&mut names, *file)?;
             }
             Command::Match(_, _, _, file)
-            | Command::Look(_, _, _, file)
+            | Command::Look(_, _, _, _, file)
             | Command::Acl(Question::Permitted(_), file)
             | Command::Acl(Question::Shadowed, file)
             | Command::Class(file) => {
@@ -275,7 +277,7 @@ impl<'a> Command<'a> {
     {
         match self {
             Command::Check(_) | Command::Which(_, _) => Kind::Hosts,
-            Command::Look(_, _, _, _) | Command::Compile(_, _) => Kind::Rows,
+            Command::Look(_, form, _, _, _) | Command::Compile(form, _, _) => Kind::Rows(*form),
             _ => Kind::Networks,
         }
     }

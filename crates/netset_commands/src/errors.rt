@@ -59,6 +59,12 @@ pub enum Misfit {
     WithShadowed,
     /// It is an option that does not go with `--diff`.
     WithDiff,
+    /// There is no form of tables of this name.
+    NoForm,
+    /// It is to part fields, and not one byte.
+    NotOneByte,
+    /// It is an option that does not go with `--form`.
+    WithForm,
 }
 
 /// Why the arguments are no command.

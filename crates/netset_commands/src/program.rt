@@ -137,10 +137,12 @@ fn answer<'a, M: Memory, F: Sources, D: Folder, O: Sink>(
         Command::MatchEach(choice, options, list, files) => {
             match_each(memory, sources, choice, options, list, files, out)
         }
-        Command::Look(choice, options, table, file) => {
-            look(memory, sources, choice, options, table, file, out)
+        Command::Look(choice, form, options, table, file) => {
+            look(memory, sources, choice, form, options, table, file, out)
         }
-        Command::Compile(table, name) => compile(memory, sources, table, name, folder),
+        Command::Compile(form, table, name) => {
+            compile(memory, sources, form, table, name, folder)
+        }
         Command::Describe(what, operand) => describe(memory, sources, what, operand, out),
         Command::Class(operand) => class(memory, sources, operand, out),
         Command::Single(single) => answer_single(single, out),
@@ -172,13 +174,13 @@ fn wrong_argument<'a>(command: Command<'a>) -> Option<CommandError<'a>>
         },
         Command::Match(choice, _, _, _)
         | Command::MatchEach(choice, _, _, _)
-        | Command::Look(choice, _, _, _) => {
+        | Command::Look(choice, _, _, _, _) => {
             match column_of(choice) {
                 Ok(_) => None,
                 Err(e) => Some(e),
             }
         }
-        Command::Compile(table, name) => same_file(table, name),
+        Command::Compile(_, table, name) => same_file(table, name),
         Command::Lists(_, _)
         | Command::Styled(_, _, _)
         | Command::Diff(_, _, _)

@@ -19,14 +19,15 @@ use Rattle.cidr_lists.specs.ReadBack.{AreUnions}
 use Rattle.cidr_lists.specs.Sets.{printed_sets}
 use Rattle.cidr_lists.specs.declared.columns.Column.{Column}
 use Rattle.cidr_lists.specs.declared.columns.Separator.{Separator}
-use Rattle.cidr_lists.specs.declared.columns.Separator.TheVariants.{Byte}
+use Rattle.cidr_lists.specs.declared.columns.Separator.TheVariants.{WhiteSpace, Byte}
 use Rattle.cidr_lists.specs.declared.errors.LineError.{LineError}
 use Rattle.cidr_lists.specs.declared.fields.Asked.{Asked}
 use Rattle.cidr_lists.specs.declared.fields.Asked.TheVariants.{First}
+use Rattle.cidr_lists.specs.declared.forms.RowForm.TheVariants.{Fields}
 use Rattle.cidr_lists.specs.declared.formats.Format.TheVariants.{Nft}
 use Rattle.cidr_lists.specs.declared.formats.LineFormat.TheVariants.{Json, Plain}
 use Rattle.cidr_lists.specs.declared.lines.HostBits.{HostBits}
-use Rattle.cidr_lists.specs.declared.lines.Kind.TheVariants.{Networks}
+use Rattle.cidr_lists.specs.declared.forms.Kind.TheVariants.{Networks}
 use Rattle.cidr_lists.specs.declared.lines.HostBits.TheVariants.{Refused}
 use Rattle.netset_commands.specs.Causes.{Refusals}
 use Rattle.netset_commands.specs.Commands.{Acl, Diff, HoldsOf, IsDiff, IsMadeOf, Lists, Look, Match, ReadsInputTwice, reading_of}
@@ -208,16 +209,16 @@ look_words = codes "look" ∷ codes "table" ∷ codes "file" ∷ []
 
 pub look_printed : (contents : List ℕ → Option (List ℕ)) (table file : List ℕ) (run : Finished) → contents (codes "table") ≡ Some table
     → contents (codes "file") ≡ Some file → HasRun look_words contents run → run.status ≡ 0
-    → HasPrinted (λ answer. IsLook false First (text_by Refused table) file answer Yes) run
+    → HasPrinted (λ answer. IsLook false First (Fields WhiteSpace) (text_by Refused table) file answer Yes) run
 look_printed contents table file run first second (answered, runs) ended =
-    let (answer, (asked, of, is), whole, quiet) = answered look_words [] (Look FirstField [] (codes "table") (codes "file")) Yes refl (refl, tt, inl (refl, refl, refl, refl, refl)) ended in
-    printed_by (λ answer. IsLook false First (text_by Refused table) file answer Yes) run answer
-    (subst (λ (k : Asked). IsLook false k (text_by Refused table) file answer Yes) of
+    let (answer, (asked, of, is), whole, quiet) = answered look_words [] (Look FirstField (Fields WhiteSpace) [] (codes "table") (codes "file")) Yes refl (refl, tt, inl (refl, refl, refl, refl, refl)) ended in
+    printed_by (λ answer. IsLook false First (Fields WhiteSpace) (text_by Refused table) file answer Yes) run answer
+    (subst (λ (k : Asked). IsLook false k (Fields WhiteSpace) (text_by Refused table) file answer Yes) of
     (is (text_by Refused table) (text_by Refused file) (told_text contents (codes "table") table first) (told_text contents (codes "file") file second))) whole quiet
 
 pub looks_printed : (words : List (List ℕ)) (contents : List ℕ → Option (List ℕ)) (table file : List ℕ) (r : Option Finished) → words ≡ look_words
     → contents (codes "table") ≡ Some table → contents (codes "file") ≡ Some file → IfSome r (HasRun words contents)
-    → IfSome r (λ run. run.status ≡ 0 → HasPrinted (λ answer. IsLook false First (text_by Refused table) file answer Yes) run)
+    → IfSome r (λ run. run.status ≡ 0 → HasPrinted (λ answer. IsLook false First (Fields WhiteSpace) (text_by Refused table) file answer Yes) run)
 looks_printed words contents table file None same first second h = tt
 looks_printed words contents table file (Some run) same first second h =
     look_printed contents table file run first second (subst (λ (k : List (List ℕ)). HasRun k contents run) same h)

@@ -11,7 +11,7 @@ use Rattle.cidr_lists.specs.Rules.{AreRuleChanges}
 use Rattle.cidr_lists.specs.declared.columns.Column.{Column}
 use Rattle.cidr_lists.specs.declared.columns.Separator.TheVariants.{Byte}
 use Rattle.cidr_lists.specs.declared.errors.LineError.{LineError}
-use Rattle.cidr_lists.specs.declared.lines.Kind.TheVariants.{Networks}
+use Rattle.cidr_lists.specs.declared.forms.Kind.TheVariants.{Networks}
 use Rattle.cidr_lists.specs.declared.formats.LineFormat.TheVariants.{Plain}
 use Rattle.netset_commands.specs.Causes.{Refusals}
 use Rattle.netset_commands.specs.Commands.{HoldsOf}

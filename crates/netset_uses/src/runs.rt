@@ -1,6 +1,8 @@
 //! Runs of `netset`: what they print, and what they tell of an error.
 ghost use Rattle.std.specs.Prelude.{◌≡◌, ◌≢◌, [], ◌∷◌, codes, false, map, IfSome, None, Some};
+ghost use Rattle.cidr_lists.specs.declared.columns.Separator.TheVariants.{WhiteSpace};
 ghost use Rattle.cidr_lists.specs.declared.fields.Asked.TheVariants.{First};
+ghost use Rattle.cidr_lists.specs.declared.forms.RowForm.TheVariants.{Fields};
 ghost use Rattle.cidr_lists.specs.Lists.{text_by};
 ghost use Rattle.cidr_lists.specs.declared.lines.HostBits.TheVariants.{Refused};
 ghost use Rattle.cidr_lists.specs.Formats.{bare};
@@ -89,7 +91,7 @@ pub fn merge_good(alloc: Global, list: &[u8]) -> Option<Finished>
 /// network of the table that has it, and the value of that.
 pub fn look(alloc: Global, table: &[u8], file: &[u8]) -> Option<Finished>
     ensures { IfSome result (λ run. run.status ≡ 0
-        → HasPrinted (λ answer. IsLook false First (text_by Refused table.now) file.now answer Yes) run) }
+        → HasPrinted (λ answer. IsLook false First (Fields WhiteSpace) (text_by Refused table.now) file.now answer Yes) run) }
 {
     let files = [
         TextFile {

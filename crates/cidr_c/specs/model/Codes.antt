@@ -113,10 +113,9 @@ line_code line_error.TooLong = 27
 line_code (line_error.NotUtf8 text) = not_utf8
 line_code (line_error.NoNetwork bad e) = parse_code e
 line_code (line_error.NoAddress bad e) = address_code e
-line_code line_error.NoField = 14
-line_code (line_error.NoAction text) = 14
 line_code (line_error.TwoFamilies text) = 28
 line_code (line_error.Reversed text) = 29
+line_code other = 14
 
 -- a comparison as a number
 abbrev pub order_code : Ordering → ℕ

@@ -1,7 +1,7 @@
 //! The words of a command line as options and operands, and the command that they are.
 ghost use Rattle.std.specs.Prelude.{◌≡◌, ◌<◌, [], Ok, Err, Bool, true, false, length, drop, MatchOption, MatchResult, option_map, slice_get, unwrap_or};
 ghost use Rattle.std.specs.List.{after_first, before_first};
-ghost use Rattle.netset_commands.specs.Arguments.{asks_help, choice_by, choice_in, chosen_style, extent_by, extra_operand, free_request, fresh, full_name, help_request, is_equals, is_option, is_plain, is_topic, letter_parts, line_parts, lists_request, long_parts, look_by, look_request, made_request, match_by, match_request, missing_operand, misuse_text, named_format, named_verb, no_option, no_parts, operand_or, part_request, parts_from, question_by, short_option, short_parts, some_style, split_request, style_in_values, style_of, taken_value, takes, target_by, target_in, topic_parts, value_of, verb_of, verb_request, word_parts, acl_request, chosen_line_format, compared_in, diff_request, line_format_in, named_line_format, not_given, permitted_in, shadowed_in, without_value};
+ghost use Rattle.netset_commands.specs.Arguments.{asks_help, choice_by, choice_in, chosen_style, compile_request, extent_by, extra_operand, form_by, form_in, free_request, fresh, full_name, help_request, is_equals, is_option, is_plain, is_topic, letter_parts, line_parts, lists_request, long_parts, look_by, look_request, made_request, match_by, match_request, missing_operand, misuse_text, named_form, named_format, named_verb, no_option, no_parts, operand_or, part_request, parted_form, parts_from, question_by, short_option, short_parts, some_style, split_request, style_in_values, style_of, taken_value, takes, target_by, target_in, topic_parts, value_of, verb_of, verb_request, word_parts, acl_request, chosen_line_format, compared_in, diff_request, line_format_in, named_line_format, not_given, permitted_in, shadowed_in, without_value};
 ghost use Rattle.netset_commands.specs.Command.{AddsParts, IsUsageError, choice_of, extent_of, given, misuse_line, given_parts, question_of, request_of};
 ghost use Rattle.netset_commands.specs.Matching.{is_word};
 ghost use Rattle.netset_commands.specs.Table.{name_of, takes_value, texts};
@@ -19,8 +19,11 @@ use crate::commands::table::{
     Verb, commands, most_of, name_of, needed_of, options_of, takes_value,
 };
 use crate::errors::{Misfit, Misuse, UsageError};
+use cidr::Family;
 use cidr_io::memory::Memory;
+use cidr_lists::columns::Separator;
 use cidr_lists::formats::{Format, LineFormat, Style, format_of};
+use cidr_lists::forms::RowForm;
 use std::alloc::Global;
 
 /// What the next word behind a command is.
@@ -854,26 +857,109 @@ fn match_command<'a>(parts: &'a Parts<'a>) -> Result<Command<'a>, Misuse<'a>>
     Ok(match_by(choice, parts))
 }
 
+/// The form of tables of a name.
+fn named_form<'a>(command: Verb, name: &'a str) -> Result<RowForm, Misuse<'a>>
+    ensures { MatchResult result (λ form. named_form command name.now ≡ Ok form)
+        (λ misuse. named_form command name.now ≡ Err (misuse_line misuse)) }
+{
+    if name == "pfx2as" {
+        return Ok(RowForm::Pfx2as);
+    }
+    if name == "routes" {
+        return Ok(RowForm::Routes(Family::Ipv4));
+    }
+    if name == "routes6" {
+        return Ok(RowForm::Routes(Family::Ipv6));
+    }
+    Err(Misuse {
+        word: name,
+        why: Misfit::NoForm,
+        command: name_of(command),
+    })
+}
+
+/// The form of tables of fields with a byte between them.
+fn parted_form<'a>(command: Verb, separator: &'a str) -> Result<RowForm, Misuse<'a>>
+    ensures { MatchResult result (λ form. parted_form command separator.now ≡ Ok form)
+        (λ misuse. parted_form command separator.now ≡ Err (misuse_line misuse)) }
+{
+    match separator.as_bytes() {
+        [byte] => Ok(RowForm::Fields(Separator::Byte(*byte))),
+        _ => Err(Misuse {
+            word: separator,
+            why: Misfit::NotOneByte,
+            command: name_of(command),
+        }),
+    }
+}
+
+/// How the rows of a table are read, by the values of `--form` and `--table-separator`.
+fn form_by<'a>(
+    command: Verb,
+    name: Option<&'a str>,
+    separator: Option<&'a str>,
+) -> Result<RowForm, Misuse<'a>>
+    ensures { MatchResult result (λ form. form_by command (given name.entry) (given separator.entry) ≡ Ok form)
+        (λ misuse. form_by command (given name.entry) (given separator.entry) ≡ Err (misuse_line misuse)) }
+{
+    match (name, separator) {
+        (None, None) => Ok(RowForm::Fields(Separator::WhiteSpace)),
+        (None, Some(separator)) => parted_form(command, separator),
+        (Some(name), None) => named_form(command, name),
+        (Some(_), Some(_)) => Err(Misuse {
+            word: "--table-separator",
+            why: Misfit::WithForm,
+            command: name_of(command),
+        }),
+    }
+}
+
+/// The same by the options with a value.
+fn form_in<'a>(command: Verb, values: &[&'a str]) -> Result<RowForm, Misuse<'a>>
+    ensures { MatchResult result (λ form. form_in command (texts values.now) ≡ Ok form)
+        (λ misuse. form_in command (texts values.now) ≡ Err (misuse_line misuse)) }
+{
+    let name = value_of(command, "--form", values)?;
+    let separator = value_of(command, "--table-separator", values)?;
+    form_by(command, name, separator)
+}
+
 /// The command `look`, of a table and a file or the standard input.
-fn look_by<'a>(choice: Choice<'a>, parts: &'a Parts<'a>) -> Command<'a>
-    ensures { request_of result ≡ look_by (choice_of choice.entry) (given_parts parts.now) }
+fn look_by<'a>(choice: Choice<'a>, form: RowForm, parts: &'a Parts<'a>) -> Command<'a>
+    ensures { request_of result ≡ look_by (choice_of choice.entry) form (given_parts parts.now) }
 {
     let operands = parts.operands.as_slice();
     Command::Look(
         choice,
+        form,
         parts.options.as_slice(),
         operand_or(operands, 0, ""),
         operand_or(operands, 1, "-"),
     )
 }
 
-/// The command `look` with the field that it looks up.
+/// The command `look` with the field that it looks up and how the rows of its table are read.
 fn look_command<'a>(parts: &'a Parts<'a>) -> Result<Command<'a>, Misuse<'a>>
     ensures { MatchResult result (λ command. look_request (given_parts parts.now) ≡ Ok (request_of command))
         (λ misuse. look_request (given_parts parts.now) ≡ Err (misuse_line misuse)) }
 {
     let choice = choice_in(Verb::Look, parts)?;
-    Ok(look_by(choice, parts))
+    let form = form_in(Verb::Look, parts.values.as_slice())?;
+    Ok(look_by(choice, form, parts))
+}
+
+/// The command `compile` with how the rows of its table are read.
+fn compile_command<'a>(parts: &'a Parts<'a>) -> Result<Command<'a>, Misuse<'a>>
+    ensures { MatchResult result (λ command. compile_request (given_parts parts.now) ≡ Ok (request_of command))
+        (λ misuse. compile_request (given_parts parts.now) ≡ Err (misuse_line misuse)) }
+{
+    let operands = parts.operands.as_slice();
+    let form = form_in(Verb::Compile, parts.values.as_slice())?;
+    Ok(Command::Compile(
+        form,
+        operand_or(operands, 0, ""),
+        operand_or(operands, 1, ""),
+    ))
 }
 
 /// The command with as many operands as it takes.
@@ -893,10 +979,7 @@ fn verb_command<'a>(verb: Verb, parts: &'a Parts<'a>) -> Result<Command<'a>, Mis
         }
         Verb::Match => match_command(parts),
         Verb::Look => look_command(parts),
-        Verb::Compile => Ok(Command::Compile(
-            operand_or(operands, 0, ""),
-            operand_or(operands, 1, ""),
-        )),
+        Verb::Compile => compile_command(parts),
         Verb::Describe(what) => Ok(Command::Describe(what, operand_or(operands, 0, ""))),
         Verb::Class => Ok(Command::Class(operand_or(operands, 0, ""))),
         Verb::Show => Ok(Command::Single(Single::Show(operand_or(operands, 0, "")))),

@@ -11,6 +11,7 @@ use crate::output::answers::Verdict;
 use crate::output::compiled::compiled;
 use crate::output::folder::Folder;
 use cidr_io::memory::Memory;
+use cidr_lists::forms::RowForm;
 
 /// The error of a table that is to be written over by its own file, if the two names are the same.
 pub fn same_file<'a>(table: &'a str, name: &'a str) -> Option<CommandError<'a>>
@@ -26,19 +27,20 @@ pub fn same_file<'a>(table: &'a str, name: &'a str) -> Option<CommandError<'a>>
 pub fn compile<'a, M: Memory, F: Sources, D: Folder>(
     memory: &mut M,
     sources: &F,
+    form: RowForm,
     table: &'a str,
     name: &'a str,
     folder: &mut D,
 ) -> Result<Verdict, CommandError<'a>>
-    ensures compiled { IsCompiled (F.contents sources.now) table.now name.now result }
-    ensures leaves { Leaves (F.contents sources.now) (Compile table.now name.now) (D.saved folder.old) (D.saved folder.new) result }
+    ensures compiled { IsCompiled (F.contents sources.now) form table.now name.now result }
+    ensures leaves { Leaves (F.contents sources.now) (Compile form table.now name.now) (D.saved folder.old) (D.saved folder.new) result }
     ensures cause { IsCaused (F.contents sources.now) (record { memory = M.refused memory.new; folder = D.refused folder.new })
-        (Compile table.now name.now) result }
+        (Compile form table.now name.now) result }
 {
     if let Some(e) = same_file(table, name) {
         return Err(e);
     }
-    let rows = read_table(memory, sources, table)?;
+    let rows = read_table(memory, sources, form, table)?;
     let file = compiled(memory.alloc(), &rows);
     let file = memory.watch(file)?;
     let Some(bytes) = file else {

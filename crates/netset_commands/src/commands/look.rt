@@ -29,6 +29,7 @@ use cidr_io::sink::{OutputFailed, Sink};
 use cidr_io::source::Source;
 use cidr_lists::errors::LineError;
 use cidr_lists::fields::{Asked, asked_in};
+use cidr_lists::forms::RowForm;
 
 /// Why look-ups end early.
 #[derive(Debug, Drop)]
@@ -289,18 +290,19 @@ pub fn look<'a, M: Memory, F: Sources, O: Sink>(
     memory: &mut M,
     sources: &F,
     choice: Choice<'a>,
+    form: RowForm,
     options: &[&str],
     table: &'a str,
     file: &'a str,
     out: &mut O,
 ) -> Result<Verdict, CommandError<'a>>
-    ensures answers { AnswersRequest (F.contents sources.now) (Look (choice_of choice.entry) (map (λ w. w.now) options.now) table.now file.now)
+    ensures answers { AnswersRequest (F.contents sources.now) (Look (choice_of choice.entry) form (map (λ w. w.now) options.now) table.now file.now)
         (O.state out.old) (O.state out.new) result }
     ensures cause { IfErr result (Cause (FileMayFail (F.contents sources.now)) (M.refused memory.new)) }
 {
     let place = asked_of(choice, has(options, "--any"))?;
     let keeps = has(options, "--keep");
-    match give_table(memory, sources, table)? {
+    match give_table(memory, sources, form, table)? {
         Given::Lines(rows) => look_in(memory, sources, &rows, keeps, place, file, out),
         Given::Stored(bytes) => {
             let stored = Stored::check(memory, table, bytes.as_slice())?;

@@ -91,7 +91,7 @@ const MATCH: &str =
     "netset match [--any] [--field N] [--separator C] [-v] [-c] [-q] LIST [FILE..]\n                        the lines of FILE whose first field lies in LIST, --field N whose\n                        field N does, --separator C of fields with byte C between them and\n                        not white space; --any the lines that have an address of LIST\n                        anywhere; -v all the other lines, -c only their number, -q only the\n                        status; of more than one file each line behind its name and a colon\n";
 
 const LOOK: &str =
-    "netset look [--any] [--field N] [--separator C] [--keep] TABLE [FILE]\n                        the longest network of the first field of each line of FILE in the\n                        lines NET VALUE of TABLE, and its value; --field N of field N,\n                        --separator C of fields with byte C between them, --any of the first\n                        address anywhere; --keep writes the lines of FILE, each with the\n                        network and value behind it\n";
+    "netset look [--any] [--field N] [--separator C] [--keep] TABLE [FILE]\n                        the longest network of the first field of each line of FILE in the\n                        rows NET VALUE of TABLE, and its value; --field N of field N,\n                        --separator C of fields with byte C between them, --any of the first\n                        address anywhere; --keep writes the lines of FILE, each with the\n                        network and value behind it\n";
 
 const COMPILE: &str =
     "netset compile TABLE OUT\n                        writes the table into the file OUT, which look and match take in the\n                        place of TABLE and LIST, and read none of its lines\n";
@@ -127,6 +127,9 @@ pub const KEEP_GOING: &str =
 pub const SKIP_BAD: &str =
     "--skip-bad              each line of a list in error is told, and the answer is that of the other\n                        lines; the status is 2 then, or 3; it goes neither with -k nor with -o\n";
 
+pub const FORMS: &str =
+    "--form NAME             how the rows of a table are read: pfx2as, an address, its prefix length\n                        and the value, as CAIDA has them; routes and routes6, as ip route\n                        prints those of IPv4 and of IPv6, and default is all addresses\n--table-separator C     byte C stands between the network of a row and its value, as in CSV\n                        without quotes, and not white space\n";
+
 pub const FORMAT: &str =
     "--format NAME           how the networks are written: plain, json, nft, ipset, iptables,\n                        cisco, juniper or bird\n--prefix TEXT, --suffix TEXT\n                        with the format plain, what stands in front of a network and behind\n";
 
@@ -138,7 +141,7 @@ pub const OPTIONS: &str =
     "\nOptions stand anywhere behind the command; those of one letter may be joined, as -vc:\n";
 
 pub const LISTS: &str =
-    "-h, --help              what this page says of the command\n--                      what is behind it are no options\n--host-bits and --masks are for commands that read lists, but check and which, -k for all that read\nlists but acl, --skip-bad for these but compile; --format, --prefix and --suffix are for merge,\nnets, minus, and, not, acl, free and split, -o for these, ranges, count, diff, reverse and mask.\n\nA line of a list is a network, an address or a range FIRST-LAST, and may end in a comment\nfrom # or ; on. The file - is the standard input, which is also read where no file is named.\nStatus: 0 done, 1 none, a difference or findings, 2 usage, a wrong argument, a file that\ncannot be read or a line in error, 3 output or memory.\n";
+    "-h, --help              what this page says of the command\n--                      what is behind it are no options\n--host-bits and --masks are for commands that read lists, but check and which, -k for all that read\nlists but acl, --skip-bad for these but compile; --format, --prefix and --suffix are for merge,\nnets, minus, and, not, acl, free and split, -o for these, ranges, count, diff, reverse and mask,\n--form and --table-separator for look and compile.\n\nA line of a list is a network, an address or a range FIRST-LAST, and may end in a comment\nfrom # or ; on. The file - is the standard input, which is also read where no file is named.\nStatus: 0 done, 1 none, a difference or findings, 2 usage, a wrong argument, a file that\ncannot be read or a line in error, 3 output or memory.\n";
 
 /// The commands, in their order on the page.
 pub fn commands() -> &'static [Verb]
@@ -225,8 +228,8 @@ pub fn options_of(command: Verb) -> &'static [&'static str]
 }
 
 /// The options of a command that have a value: the network of `not --in`, how networks are written, how many networks
-/// `free --count` tells, the access list of `acl --diff`, the field that `match` and `look` read, and where the answer is
-/// written.
+/// `free --count` tells, the access list of `acl --diff`, the field that `match` and `look` read, how `look` and `compile`
+/// read the rows of a table, and where the answer is written.
 fn values_of(command: Verb) -> &'static [&'static str]
     ensures { texts result.now ≡ values_of command }
 {
@@ -239,7 +242,9 @@ fn values_of(command: Verb) -> &'static [&'static str]
         Verb::Lists(_) | Verb::Split => &["--format", "--prefix", "--suffix", "-o"],
         Verb::Free => &["--count", "--format", "--prefix", "--suffix", "-o"],
         Verb::Acl => &["--diff", "--format", "--prefix", "--suffix", "-o"],
-        Verb::Match | Verb::Look => &["--field", "--separator"],
+        Verb::Match => &["--field", "--separator"],
+        Verb::Look => &["--field", "--separator", "--form", "--table-separator"],
+        Verb::Compile => &["--form", "--table-separator"],
         _ => &[],
     }
 }

@@ -16,7 +16,8 @@ use cidr_io::memory::Memory;
 use cidr_io::sink::Sink;
 use cidr_io::source::Source;
 use cidr_lists::entries::{Entry, Place};
-use cidr_lists::lines::{HostBits, Kind};
+use cidr_lists::forms::{Kind, RowForm};
+use cidr_lists::lines::HostBits;
 use cidr_lists::lists::Lists;
 use cidr_lists::rows::Rows;
 use std::alloc::{AllocError, Global};
@@ -28,7 +29,8 @@ pub enum Said {
     Networks(Lists),
     /// Each entry stands in a file of no name.
     Hosts(Vec<Entry<'static>>),
-    Rows(Rows),
+    /// Rows that were read in this form.
+    Rows(RowForm, Rows),
 }
 
 impl Said {
@@ -39,7 +41,7 @@ impl Said {
         match kind {
             Kind::Networks => Said::Networks(Lists::new(alloc)),
             Kind::Hosts => Said::Hosts(Vec::new(alloc)),
-            Kind::Rows => Said::Rows(Rows::new(alloc)),
+            Kind::Rows(form) => Said::Rows(form, Rows::new(alloc)),
         }
     }
 
@@ -59,7 +61,9 @@ impl Said {
             Said::Hosts(hosts) => {
                 entries::add_line(memory, Place { file: "", number }, line, hosts)
             }
-            Said::Rows(rows) => rows::add_line(memory, host_bits, number, line, rows),
+            Said::Rows(form, rows) => {
+                rows::add_line(memory, *form, host_bits, number, line, rows)
+            }
         }
     }
 }

@@ -8,34 +8,33 @@ use crate::errors::ReadError;
 use cidr_io::lines::{LineReader, is_too_long};
 use cidr_io::memory::Memory;
 use cidr_io::source::Source;
-use cidr_lists::columns::{network_in, split_row};
 use cidr_lists::errors::LineError;
+use cidr_lists::forms::{RowForm, row_of};
 use cidr_lists::lines::HostBits;
 use cidr_lists::rows::Rows;
 
 /// Adds the network and the value that a line says, if it says them.
 pub fn add_line<M: Memory>(
     memory: &mut M,
+    form: RowForm,
     host_bits: HostBits,
     number: u64,
     line: &[u8],
     rows: &mut Rows,
 ) -> Result<(), ReadError>
-    ensures adds { AddsRow host_bits line.now number rows.old rows.new result }
+    ensures adds { AddsRow form host_bits line.now number rows.old rows.new result }
     ensures cause { IfErr result (ReadCause ⊥ (M.refused memory.new)) }
 {
     if is_too_long(line) {
         return Err(ReadError::Line(number, LineError::TooLong));
     }
-    let Some((first, value)) = split_row(line) else {
-        return Ok(());
-    };
-    match network_in(host_bits, first) {
-        Ok(network) => {
+    match row_of(form, host_bits, line) {
+        Ok(Some((network, value))) => {
             let pushed = rows.push(&network, value);
             memory.watch(pushed)?;
             Ok(())
         }
+        Ok(None) => Ok(()),
         Err(e) => Err(ReadError::Line(number, e)),
     }
 }
@@ -43,16 +42,17 @@ pub fn add_line<M: Memory>(
 /// Reads the rows of a table to its end or to its first line in error.
 fn read_lines<M: Memory, S: Source + Drop>(
     memory: &mut M,
+    form: RowForm,
     host_bits: HostBits,
     reader: &mut LineReader<S>,
 ) -> Result<Rows, ReadError>
-    ensures reads { IfSome reader.old.left (λ bytes. ReadsRows (text_by host_bits bytes) result) }
+    ensures reads { IfSome reader.old.left (λ bytes. ReadsRows form (text_by host_bits bytes) result) }
     ensures cause { IfErr result (ReadCause (TextFails reader.old.left) (M.refused memory.new)) }
 {
     let mut rows = Rows::new(memory.alloc());
     for number in 1..u64::MAX {
         let has_more = reader.read_line(memory)?;
-        add_line(memory, host_bits, number, reader.line(), &mut rows)?;
+        add_line(memory, form, host_bits, number, reader.line(), &mut rows)?;
         if !has_more {
             return Ok(rows);
         }
@@ -63,12 +63,13 @@ fn read_lines<M: Memory, S: Source + Drop>(
 /// Reads the rows of a table in blocks, to its end or to its first line in error.
 pub fn read_rows<M: Memory, S: Source + Drop>(
     memory: &mut M,
+    form: RowForm,
     host_bits: HostBits,
     source: S,
 ) -> Result<Rows, ReadError>
-    ensures reads { IfSome (S.left source) (λ bytes. ReadsRows (text_by host_bits bytes) result) }
+    ensures reads { IfSome (S.left source) (λ bytes. ReadsRows form (text_by host_bits bytes) result) }
     ensures cause { IfErr result (ReadCause (TextFails (S.left source)) (M.refused memory.new)) }
 {
     let mut reader = LineReader::new(memory, source)?;
-    read_lines(memory, host_bits, &mut reader)
+    read_lines(memory, form, host_bits, &mut reader)
 }

@@ -1,7 +1,7 @@
 //! Reading tables, and the longest network of a table that an address is in.
-ghost use Rattle.std.specs.Prelude.{◌≡◌, Bool, List, ℕ, Option, None, Some, length, option_copied, option_map, IfErr};
+ghost use Rattle.std.specs.Prelude.{◌≡◌, Bool, List, ℕ, Option, None, Some, length, option_copied, option_map, true, IfErr};
 ghost use Rattle.cidr.specs.declared.addr.ip.IpAddr.{IpAddr as Address};
-ghost use Rattle.cidr.specs.declared.family.Family.{Family};
+ghost use Rattle.cidr.specs.declared.family.Family.{Family as AddressFamily};
 ghost use Rattle.cidr_io.specs.Collecting.{Collects};
 ghost use Rattle.netset_commands.specs.Causes.{Cause, FileMayFail};
 ghost use Rattle.cidr_lists.specs.LookUps.{found_line};
@@ -16,10 +16,12 @@ use crate::input::files::Sources;
 use crate::input::keeping::Said;
 use crate::input::rows::read_rows;
 use arrayvec::ArrayString;
-use cidr::{BitString, IpAddr, Ipv4Cidr, Ipv6Cidr};
+use cidr::{BitString, Family, IpAddr, Ipv4Cidr, Ipv6Cidr};
 use cidr_io::block::Block;
 use cidr_io::memory::Memory;
 use cidr_io::sink::{OutputFailed, Sink};
+use cidr_lists::columns::Separator;
+use cidr_lists::forms::RowForm;
 use cidr_lists::printing::block_text;
 use cidr_lists::rows::{Rows, Span, value_of};
 use cidr_lists::table::Table;
@@ -34,7 +36,7 @@ pub struct Answer {
 /// A table in which addresses are looked up.
 pub trait LookUps {
     /// Its rows of each family.
-    ghost rows: { Self → Family → List (List Bool × List ℕ) };
+    ghost rows: { Self → AddressFamily → List (List Bool × List ℕ) };
     /// This was found of an address.
     ghost is_found: { Self → Address → Option Answer → Type 0 };
 
@@ -179,20 +181,45 @@ pub fn unread<'a>(file: &'a str, e: ReadError) -> CommandError<'a>
     }
 }
 
+/// Whether fields are parted the same way.
+fn is_same_separator(one: Separator, other: Separator) -> bool
+    ensures { result ≡ true → one ≡ other }
+{
+    match (one, other) {
+        (Separator::WhiteSpace, Separator::WhiteSpace) => true,
+        (Separator::Byte(one), Separator::Byte(other)) => one == other,
+        _ => false,
+    }
+}
+
+/// Whether rows are read the same way.
+fn is_same_form(one: RowForm, other: RowForm) -> bool
+    ensures { result ≡ true → one ≡ other }
+{
+    match (one, other) {
+        (RowForm::Fields(one), RowForm::Fields(other)) => is_same_separator(one, other),
+        (RowForm::Pfx2as, RowForm::Pfx2as) => true,
+        (RowForm::Routes(Family::Ipv4), RowForm::Routes(Family::Ipv4)) => true,
+        (RowForm::Routes(Family::Ipv6), RowForm::Routes(Family::Ipv6)) => true,
+        _ => false,
+    }
+}
+
 /// Reads the rows of a file.
 fn read_opened<'a, M: Memory, F: Sources>(
     memory: &mut M,
     sources: &F,
+    form: RowForm,
     file: &'a str,
 ) -> Result<Rows, CommandError<'a>>
-    ensures reads { ReadsFileRows (F.contents sources.now file.now) file.now result }
+    ensures reads { ReadsFileRows form (F.contents sources.now file.now) file.now result }
     ensures cause { IfErr result (Cause (FileMayFail (F.contents sources.now)) (M.refused memory.new)) }
 {
     let reader = match sources.open(file) {
         Ok(reader) => reader,
         Err(why) => return Err(CommandError::Input(file, why)),
     };
-    match read_rows(memory, sources.host_bits(), reader) {
+    match read_rows(memory, form, sources.host_bits(), reader) {
         Ok(rows) => Ok(rows),
         Err(e) => Err(unread(file, e)),
     }
@@ -202,9 +229,10 @@ fn read_opened<'a, M: Memory, F: Sources>(
 fn read_given<'a, M: Memory, F: Sources>(
     memory: &mut M,
     sources: &F,
+    form: RowForm,
     file: &'a str,
 ) -> Result<Given<Rows>, CommandError<'a>>
-    ensures gives { GivesRows (F.contents sources.now file.now) file.now result }
+    ensures gives { GivesRows form (F.contents sources.now file.now) file.now result }
     ensures cause { IfErr result (Cause (FileMayFail (F.contents sources.now)) (M.refused memory.new)) }
 {
     let begun = begin_file(sources, file)?;
@@ -212,7 +240,7 @@ fn read_given<'a, M: Memory, F: Sources>(
         let bytes = read_whole(memory, file, begun)?;
         return Ok(Given::Stored(bytes));
     }
-    match read_rows(memory, sources.host_bits(), begun) {
+    match read_rows(memory, form, sources.host_bits(), begun) {
         Ok(rows) => Ok(Given::Lines(rows)),
         Err(e) => Err(unread(file, e)),
     }
@@ -222,13 +250,14 @@ fn read_given<'a, M: Memory, F: Sources>(
 fn give_rows<'a, M: Memory, F: Sources>(
     memory: &mut M,
     sources: &F,
+    form: RowForm,
     file: &'a str,
 ) -> Result<Given<Rows>, CommandError<'a>>
-    ensures gives { GivesRows (F.contents sources.now file.now) file.now result }
+    ensures gives { GivesRows form (F.contents sources.now file.now) file.now result }
     ensures cause { IfErr result (Cause (FileMayFail (F.contents sources.now)) (M.refused memory.new)) }
 {
     match sources.kept(file) {
-        Some(Given::Lines(Said::Rows(kept))) => {
+        Some(Given::Lines(Said::Rows(said, kept))) if is_same_form(*said, form) => {
             let rows = kept.copy(memory.alloc());
             let rows = memory.watch(rows)?;
             Ok(Given::Lines(rows))
@@ -238,7 +267,7 @@ fn give_rows<'a, M: Memory, F: Sources>(
             let bytes = memory.watch(bytes)?;
             Ok(Given::Stored(bytes))
         }
-        _ => read_given(memory, sources, file),
+        _ => read_given(memory, sources, form, file),
     }
 }
 
@@ -246,12 +275,13 @@ fn give_rows<'a, M: Memory, F: Sources>(
 pub fn give_table<'a, M: Memory, F: Sources>(
     memory: &mut M,
     sources: &F,
+    form: RowForm,
     file: &'a str,
 ) -> Result<Given<Table>, CommandError<'a>>
-    ensures gives { GivesTable (F.contents sources.now file.now) file.now result }
+    ensures gives { GivesTable form (F.contents sources.now file.now) file.now result }
     ensures cause { IfErr result (Cause (FileMayFail (F.contents sources.now)) (M.refused memory.new)) }
 {
-    match give_rows(memory, sources, file)? {
+    match give_rows(memory, sources, form, file)? {
         Given::Lines(rows) => {
             let table = Table::of_rows(memory.alloc(), rows);
             let table = memory.watch(table)?;
@@ -265,18 +295,19 @@ pub fn give_table<'a, M: Memory, F: Sources>(
 fn rows_of<'a, M: Memory, F: Sources>(
     memory: &mut M,
     sources: &F,
+    form: RowForm,
     file: &'a str,
 ) -> Result<Rows, CommandError<'a>>
-    ensures reads { ReadsFileRows (F.contents sources.now file.now) file.now result }
+    ensures reads { ReadsFileRows form (F.contents sources.now file.now) file.now result }
     ensures cause { IfErr result (Cause (FileMayFail (F.contents sources.now)) (M.refused memory.new)) }
 {
     match sources.kept(file) {
-        Some(Given::Lines(Said::Rows(kept))) => {
+        Some(Given::Lines(Said::Rows(said, kept))) if is_same_form(*said, form) => {
             let rows = kept.copy(memory.alloc());
             let rows = memory.watch(rows)?;
             Ok(rows)
         }
-        _ => read_opened(memory, sources, file),
+        _ => read_opened(memory, sources, form, file),
     }
 }
 
@@ -284,12 +315,13 @@ fn rows_of<'a, M: Memory, F: Sources>(
 pub fn read_table<'a, M: Memory, F: Sources>(
     memory: &mut M,
     sources: &F,
+    form: RowForm,
     file: &'a str,
 ) -> Result<Table, CommandError<'a>>
-    ensures reads { ReadsTable (F.contents sources.now file.now) file.now result }
+    ensures reads { ReadsTable form (F.contents sources.now file.now) file.now result }
     ensures cause { IfErr result (Cause (FileMayFail (F.contents sources.now)) (M.refused memory.new)) }
 {
-    let rows = rows_of(memory, sources, file)?;
+    let rows = rows_of(memory, sources, form, file)?;
     let table = Table::of_rows(memory.alloc(), rows);
     let table = memory.watch(table)?;
     Ok(table)

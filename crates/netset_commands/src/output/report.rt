@@ -260,6 +260,11 @@ fn misfit_text(why: Misfit) -> ArrayString<128>
         Misfit::Skipping => text.push_str(": not with --skip-bad, see: netset help "),
         Misfit::WithShadowed => text.push_str(": not with --shadowed, see: netset help "),
         Misfit::WithDiff => text.push_str(": not with --diff, see: netset help "),
+        Misfit::NoForm => text.push_str(
+            ": no such form, but pfx2as, routes and routes6, see: netset help ",
+        ),
+        Misfit::NotOneByte => text.push_str(": more or less than one byte, see: netset help "),
+        Misfit::WithForm => text.push_str(": not with --form, see: netset help "),
     }
     text
 }

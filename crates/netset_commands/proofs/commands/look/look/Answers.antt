@@ -32,7 +32,7 @@ returns-in_err-stored-in-Stored-clause-answers g c =
       inr (
         c.in_ok-place.place,
         rw c.has.ensures at c.in_ok-place.ensures,
-        inl (no_file (IsUnreadTable (g.F.Sources.contents c.args.sources.now c.args.table.now) c.args.table.now)
+        inl (no_file (IsUnreadTable c.args.form (g.F.Sources.contents c.args.sources.now c.args.table.now) c.args.table.now)
             (g.F.Sources.contents c.args.sources.now c.args.table.now) c.args.table.now c.as_slice.result.now _ tt
             (subst (AreFileBytes (g.F.Sources.contents c.args.sources.now c.args.table.now)) (sym c.as_slice.ensures.value) (rw c.in-Stored.is at c.in_ok-rows.ensures.gives))
             c.in_err-stored-in-Stored.ensures.checks),
@@ -42,14 +42,14 @@ returns-in_err-stored-in-Stored-clause-answers g c =
 pub returns-in-Lines-clause-answers : goal.returns-in-Lines-clause-answers
 returns-in-Lines-clause-answers g c =
     let gives = rw c.in-Lines.is at c.in_ok-rows.ensures.gives in
-    told_file (g.F.Sources.contents c.args.sources.now) (choice_of c.args.choice) (map (λ w. w.now) c.args.options.now) c.args.table.now c.args.file.now c.in_ok-place.place c.has-keeps.result
+    told_file (g.F.Sources.contents c.args.sources.now) (choice_of c.args.choice) c.args.form (map (λ w. w.now) c.args.options.now) c.args.table.now c.args.file.now c.in_ok-place.place c.has-keeps.result
     _ (g.O.Sink.state c.args.out.now) (g.O.Sink.state c.look_in.new.out) (rw c.has.ensures at c.in_ok-place.ensures) c.has-keeps.ensures
     (λ text is. inl (gives text is)) c.look_in.result c.look_in.ensures.tells
 
 pub returns-in_ok-stored-in-Stored-clause-answers : goal.returns-in_ok-stored-in-Stored-clause-answers
 returns-in_ok-stored-in-Stored-clause-answers g c =
-    told_file (g.F.Sources.contents c.args.sources.now) (choice_of c.args.choice) (map (λ w. w.now) c.args.options.now) c.args.table.now c.args.file.now c.in_ok-place.place c.has-keeps.result
+    told_file (g.F.Sources.contents c.args.sources.now) (choice_of c.args.choice) c.args.form (map (λ w. w.now) c.args.options.now) c.args.table.now c.args.file.now c.in_ok-place.place c.has-keeps.result
     _ (g.O.Sink.state c.args.out.now) (g.O.Sink.state c.look_in-in-Stored.new.out) (rw c.has.ensures at c.in_ok-place.ensures) c.has-keeps.ensures
-    (says_table (g.F.Sources.contents c.args.sources.now c.args.table.now) c.in-Stored.bytes.items
+    (says_table c.args.form (g.F.Sources.contents c.args.sources.now c.args.table.now) c.in-Stored.bytes.items
     (by_family c.in_ok-stored-in-Stored.stored) (rw c.in-Stored.is at c.in_ok-rows.ensures.gives)
     (rw c.as_slice.ensures.value at c.in_ok-stored-in-Stored.ensures.checks)) c.look_in-in-Stored.result c.look_in-in-Stored.ensures.tells

@@ -5,8 +5,9 @@ use Rattle.netset_commands.proofs.input.table.give_rows.Goals as goal
 
 pub returns-in_ok-rows-in-Some-Lines-Rows-clause-gives : goal.returns-in_ok-rows-in-Some-Lines-Rows-clause-gives
 returns-in_ok-rows-in-Some-Lines-Rows-clause-gives g c =
-    rows_copied (g.F.Sources.contents c.args.sources.now c.args.file.now) c.args.file.now c.in-Some-Lines-Rows.kept c.in_ok-rows-in-Some-Lines-Rows.rows
-    (rw (c.in-Some-Lines-Rows.field-0-is, c.in-Some-Lines-Rows.field-0-0-is) at c.in-Some-Lines-Rows.ensures) (rw (sym c.in_ok-rows-in-Some-Lines-Rows.ensures.made) at c.copy-rows.ensures)
+    rows_copied c.args.form c.in-Some-Lines-Rows.said (g.F.Sources.contents c.args.sources.now c.args.file.now) c.args.file.now c.in-Some-Lines-Rows.kept
+    c.in_ok-rows-in-Some-Lines-Rows.rows (rw (c.in-Some-Lines-Rows.field-0-is, c.in-Some-Lines-Rows.field-0-0-is) at c.in-Some-Lines-Rows.ensures) (c.is_same_form.ensures c.if-is_same_form.true)
+    (rw (sym c.in_ok-rows-in-Some-Lines-Rows.ensures.made) at c.copy-rows.ensures)
 
 pub returns-in_err-rows-in-Some-Lines-Rows-clause-cause : goal.returns-in_err-rows-in-Some-Lines-Rows-clause-cause
 returns-in_err-rows-in-Some-Lines-Rows-clause-cause g c =

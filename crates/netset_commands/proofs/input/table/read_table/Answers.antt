@@ -5,7 +5,7 @@ use Rattle.netset_commands.proofs.input.table.read_table.Goals as goal
 
 pub returns-clause-reads : goal.returns-clause-reads
 returns-clause-reads g c =
-    table_read (g.F.Sources.contents c.args.sources.now c.args.file.now) c.args.file.now c.in_ok-rows.rows c.in_ok-table.table c.in_ok-rows.ensures.reads
+    table_read c.args.form (g.F.Sources.contents c.args.sources.now c.args.file.now) c.args.file.now c.in_ok-rows.rows c.in_ok-table.table c.in_ok-rows.ensures.reads
     (rw (sym c.in_ok-table.ensures.made) at c.of_rows-table.ensures)
 
 pub returns-in_err-rows-clause-cause : goal.returns-in_err-rows-clause-cause

@@ -1,3 +1,4 @@
+use Rattle.std.proofs.Common.{refl}
 use Rattle.netset_commands.proofs.input.keeping.Said.add_line.Goals as goal
 
 pub returns-in-Networks-clause-adds : goal.returns-in-Networks-clause-adds
@@ -7,4 +8,4 @@ pub returns-in-Hosts-clause-adds : goal.returns-in-Hosts-clause-adds
 returns-in-Hosts-clause-adds g c = rw c.in-Hosts.is c.add_line-in-Hosts.ensures.adds
 
 pub returns-in-Rows-clause-adds : goal.returns-in-Rows-clause-adds
-returns-in-Rows-clause-adds g c = rw c.in-Rows.is c.add_line-in-Rows.ensures.adds
+returns-in-Rows-clause-adds g c = rw c.in-Rows.is (refl, c.add_line-in-Rows.ensures.adds)

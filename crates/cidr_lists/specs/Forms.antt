@@ -1,0 +1,88 @@
+-- How a row of a table has a network and its value: as two fields; as the files of routes and origins that CAIDA publishes
+-- ("Routeviews Prefix-to-AS mappings", pfx2as); or as `ip route` of iproute2 prints routes (ip-route(8)).
+use Rattle.std.specs.Prelude.{◌≡◌, ◌≢◌, ◌⊎◌, ◌==◌, ℕ, ◌<◌, Bool, true, false, if◌then◌else◌, List, [], ◌∷◌, ◌++◌, codes, length, Option, Some, None}
+use Rattle.std.specs.Str.{bytes_eq}
+use Rattle.cidr.specs.either.IpAddress.{IsIpText}
+use Rattle.cidr.specs.texts.NetworkText.{slash}
+use Rattle.cidr.specs.texts.PrintedAddress.{ip_text}
+use Rattle.cidr.specs.declared.addr.ip.IpAddr.{IpAddr}
+use Rattle.cidr.specs.declared.cidr.combined.IpCidr.{IpCidr}
+use Rattle.cidr.specs.declared.family.Family.{Family}
+use Rattle.cidr.specs.declared.family.Family.TheVariants.{Ipv4, Ipv6}
+use Rattle.cidr_io.specs.Shown.{byte_excerpt}
+use Rattle.cidr_lists.specs.Lists.{IsBadLineBy, IsNetworkBy, IsTooLong}
+use Rattle.cidr_lists.specs.Fields.{AreFirstAndRest, HasNoFields, IsNoAddressField, IsNoNetworkField, IsRowSplit}
+use Rattle.cidr_lists.specs.declared.columns.Separator.{Separator}
+use Rattle.cidr_lists.specs.declared.columns.Separator.TheVariants.{WhiteSpace}
+use Rattle.cidr_lists.specs.declared.errors.LineError.{LineError}
+use Rattle.cidr_lists.specs.declared.errors.LineError.TheVariants.{NoField, NoLength, Quoted}
+use Rattle.cidr_lists.specs.declared.forms.RowForm.{RowForm}
+use Rattle.cidr_lists.specs.declared.forms.RowForm.TheVariants.{Fields, Pfx2as, Routes}
+use Rattle.cidr_lists.specs.declared.lines.HostBits.{HostBits}
+
+-- what parts the first field of a row from the rest
+abbrev pub separator_of : RowForm → Separator
+separator_of (Fields separator) = separator
+separator_of Pfx2as = WhiteSpace
+separator_of (Routes family) = WhiteSpace
+
+-- ---- the text of a network
+-- of a route: `default` is the network of all addresses
+abbrev pub default_text : Family → List ℕ
+default_text Ipv4 = codes "0.0.0.0/0"
+default_text Ipv6 = codes "::/0"
+
+abbrev pub route_text : Family → List ℕ → List ℕ
+route_text family first = if bytes_eq first (codes "default") then default_text family else first
+
+-- of an address and a length in a field of its own
+abbrev pub with_length : IpAddr → List ℕ → List ℕ
+with_length address len = ip_text address ++ slash ∷ len
+
+-- ---- a row
+-- a network and its value, by the first field of a row and the rest of it
+abbrev pub PartsSay : RowForm → HostBits → List ℕ → List ℕ → IpCidr → List ℕ → Type 0
+PartsSay (Fields separator) bits first rest network value = IsNetworkBy bits first network × (value ≡ rest)
+PartsSay Pfx2as bits first rest network value = (address : IpAddr) × (len : List ℕ) × IsIpText first address × AreFirstAndRest rest len value
+    × IsNetworkBy bits (with_length address len) network
+PartsSay (Routes family) bits first rest network value = IsNetworkBy bits (route_text family first) network × (value ≡ rest)
+
+-- the line says nothing, being blank or a comment, or a network and its value
+abbrev pub RowFieldsSay : RowForm → HostBits → List ℕ → Option (IpCidr × List ℕ) → Type 0
+RowFieldsSay form bits line None = HasNoFields (separator_of form) line
+RowFieldsSay form bits line (Some (network, value)) = (first rest : List ℕ) × IsRowSplit (separator_of form) line first rest
+    × PartsSay form bits first rest network value
+
+-- the same of a line that is not too long
+abbrev pub RowSays : RowForm → HostBits → List ℕ → Option (IpCidr × List ℕ) → Type 0
+RowSays form bits line said = ¬ (IsTooLong line) × RowFieldsSay form bits line said
+
+-- ---- a row in error
+-- `b'"'`
+abbrev pub begins_quoted : List ℕ → Bool
+begins_quoted [] = false
+begins_quoted (byte ∷ bytes) = byte == 34
+
+-- the first field is quoted, or else it is no network
+abbrev pub IsBadCell : HostBits → List ℕ → LineError → Type 0
+IsBadCell bits first (Quoted text) = (begins_quoted first ≡ true) × (text.bytes ≡ byte_excerpt first)
+IsBadCell bits first e = (begins_quoted first ≡ false) × IsNoNetworkField bits first e
+
+-- the field of the length behind an address is missing; or it is longer than any length or mask; or the two are no network
+abbrev pub IsBadLength : HostBits → IpAddr → List ℕ → LineError → Type 0
+IsBadLength bits address len NoField = len ≡ []
+IsBadLength bits address len (NoLength text) = (45 < length len) × (text.bytes ≡ byte_excerpt len)
+IsBadLength bits address len e = (len ≢ []) × IsNoNetworkField bits (with_length address len) e
+
+-- the row is in error by its first field, or else by the next one
+abbrev pub IsBadParts : RowForm → HostBits → List ℕ → List ℕ → LineError → Type 0
+IsBadParts (Fields separator) bits first rest e = IsBadCell bits first e
+IsBadParts Pfx2as bits first rest e = IsNoAddressField first e
+    ⊎ ((address : IpAddr) × (len value : List ℕ) × IsIpText first address × AreFirstAndRest rest len value × IsBadLength bits address len e)
+IsBadParts (Routes family) bits first rest e = IsNoNetworkField bits (route_text family first) e
+
+abbrev pub HasBadNetwork : RowForm → HostBits → List ℕ → LineError → Type 0
+HasBadNetwork form bits line e = (first rest : List ℕ) × IsRowSplit (separator_of form) line first rest × IsBadParts form bits first rest e
+
+abbrev pub IsBadRow : RowForm → HostBits → List ℕ → LineError → Type 0
+IsBadRow form bits line e = IsBadLineBy (HasBadNetwork form bits) line e

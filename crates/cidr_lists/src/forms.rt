@@ -1,0 +1,199 @@
+//! What the lines of lists and tables are, and the row of a table that a line says.
+ghost use Rattle.std.specs.Prelude.{◌≡◌, ◌≤◌, ◌+◌, ◌++◌, MatchResult, length, option_map};
+ghost use Rattle.cidr_lists.specs.Forms.{HasBadNetwork, IsBadCell, IsBadLength, IsBadParts, PartsSay, RowFieldsSay, begins_quoted, default_text, route_text, separator_of, with_length};
+ghost use Rattle.cidr_lists.specs.Lists.{IsNetworkBy};
+ghost use Rattle.cidr_lists.specs.declared.forms.RowForm.TheVariants.{Pfx2as};
+
+use crate::columns::{Separator, address_in, network_in, parts_of, split_row};
+use crate::errors::LineError;
+use crate::lines::HostBits;
+use arrayvec::ArrayVec;
+use cidr::{Family, IpAddr, IpCidr};
+use cidr_io::shown::byte_excerpt;
+
+/// How a row of a table has its network and its value.
+#[derive(Clone, Copy, Debug, Drop, PartialEq)]
+pub enum RowForm {
+    /// The first field is the network, and the rest of the line is the value: `10.0.0.0/8 west`, or with a comma
+    /// `10.0.0.0/8,AS1,west`. A field in quotes is not read.
+    Fields(Separator),
+    /// As the files of CAIDA that map prefixes to autonomous systems (pfx2as) have it: an address, its prefix length and
+    /// the value, with white space between them, as `192.0.2.0 24 64500`.
+    Pfx2as,
+    /// As `ip route` prints the routes of a family: the first word is the network, where `default` is that of all addresses,
+    /// and the rest of the line is the value, as `default via 192.0.2.1 dev eth0`.
+    Routes(Family),
+}
+
+/// What the lines of a list are.
+#[derive(Clone, Copy, Debug, Drop, PartialEq)]
+pub enum Kind {
+    /// Networks, addresses and ranges.
+    Networks,
+    /// Networks and hosts.
+    Hosts,
+    /// Networks, each with a value.
+    Rows(RowForm),
+}
+
+/// What parts the first field of a row from the rest.
+fn separator_of(form: RowForm) -> Separator
+    ensures { result ≡ separator_of form }
+{
+    match form {
+        RowForm::Fields(separator) => separator,
+        RowForm::Pfx2as | RowForm::Routes(_) => Separator::WhiteSpace,
+    }
+}
+
+/// The text of the network of all addresses.
+fn default_text(family: Family) -> &'static [u8]
+    ensures { result.now ≡ default_text family }
+{
+    match family {
+        Family::Ipv4 => b"0.0.0.0/0",
+        Family::Ipv6 => b"::/0",
+    }
+}
+
+/// The text of the network of a route, by its first word.
+fn route_text(family: Family, first: &[u8]) -> &[u8]
+    ensures { result.now ≡ route_text family first.now }
+{
+    if first == b"default".as_slice() {
+        default_text(family)
+    } else {
+        first
+    }
+}
+
+/// Whether a field begins with a quote.
+fn begins_quoted(field: &[u8]) -> bool
+    ensures { result ≡ begins_quoted field.now }
+{
+    match field {
+        [] => false,
+        [first, ..] => *first == b'"',
+    }
+}
+
+/// The network that a first field is.
+fn cell_network(host_bits: HostBits, first: &[u8]) -> Result<IpCidr, LineError>
+    ensures { MatchResult result (IsNetworkBy host_bits first.now) (IsBadCell host_bits first.now) }
+{
+    if begins_quoted(first) {
+        return Err(LineError::Quoted(byte_excerpt(first)));
+    }
+    match network_in(host_bits, first) {
+        Ok(network) => Ok(network),
+        Err(e) => Err(e),
+    }
+}
+
+/// No prefix length and no mask has more bytes.
+const LONGEST: usize = 45;
+
+/// Appends bytes for which there is room.
+fn append(text: &mut ArrayVec<u8, 85>, bytes: &[u8])
+    requires { length text.old.items + length bytes.now ≤ 85 }
+    ensures { text.new.items ≡ text.old.items ++ bytes.now }
+{
+    let added = text.try_extend_from_slice(bytes);
+    prove!(added.is_ok());
+}
+
+/// The text of an address with a prefix length or a mask.
+fn with_length(address: &IpAddr, len: &[u8]) -> ArrayVec<u8, 85>
+    requires { length len.now ≤ 45 }
+    ensures { result.items ≡ with_length address.now len.now }
+{
+    let mut text = ArrayVec::new();
+    append(&mut text, address.to_text().as_str().as_bytes());
+    append(&mut text, b"/");
+    append(&mut text, len);
+    text
+}
+
+/// The network of an address with a prefix length in a field of its own.
+fn network_with(host_bits: HostBits, address: &IpAddr, len: &[u8]) -> Result<IpCidr, LineError>
+    ensures { MatchResult result (IsNetworkBy host_bits (with_length address.now len.now)) (IsBadLength host_bits address.now len.now) }
+{
+    if len.is_empty() {
+        return Err(LineError::NoField);
+    }
+    if len.len() > LONGEST {
+        return Err(LineError::NoLength(byte_excerpt(len)));
+    }
+    match network_in(host_bits, with_length(address, len).as_slice()) {
+        Ok(network) => Ok(network),
+        Err(e) => Err(e),
+    }
+}
+
+/// The row of an address, whose prefix length and value stand in the rest of the line.
+fn prefix_row<'a>(
+    host_bits: HostBits,
+    first: &[u8],
+    rest: &'a [u8],
+) -> Result<(IpCidr, &'a [u8]), LineError>
+    ensures { MatchResult result (λ row. PartsSay Pfx2as host_bits first.now rest.now row.0 row.1.now)
+        (IsBadParts Pfx2as host_bits first.now rest.now) }
+{
+    match address_in(first) {
+        Ok(address) => {
+            let (len, value) = parts_of(rest);
+            match network_with(host_bits, &address, len) {
+                Ok(network) => Ok((network, value)),
+                Err(e) => Err(e),
+            }
+        }
+        Err(e) => Err(e),
+    }
+}
+
+/// The row of a first field and the rest of the line.
+fn row_in<'a>(
+    form: RowForm,
+    host_bits: HostBits,
+    first: &[u8],
+    rest: &'a [u8],
+) -> Result<(IpCidr, &'a [u8]), LineError>
+    ensures { MatchResult result (λ row. PartsSay form host_bits first.now rest.now row.0 row.1.now)
+        (IsBadParts form host_bits first.now rest.now) }
+{
+    match form {
+        RowForm::Fields(_) => match cell_network(host_bits, first) {
+            Ok(network) => Ok((network, rest)),
+            Err(e) => Err(e),
+        },
+        RowForm::Pfx2as => prefix_row(host_bits, first, rest),
+        RowForm::Routes(family) => match network_in(host_bits, route_text(family, first)) {
+            Ok(network) => Ok((network, rest)),
+            Err(e) => Err(e),
+        },
+    }
+}
+
+/// The network and the value of a row of a table; `None` for a line that is blank or a comment, which begins with `#` or
+/// `;`, unless this parts fields. Only a whole line is a comment, so that a value may have any bytes. A line of more than
+/// 1 MiB is for the caller to find.
+///
+/// The errors are `Quoted`, for `RowForm::Fields`; then, for `RowForm::Pfx2as`, `NotUtf8` or `NoAddress` of the first
+/// field, `NoField` where no length stands behind it, and `NoLength` of one of more than 45 bytes; and then `NotUtf8` and
+/// `NoNetwork` of the network. It takes time in the length of the line and allocates nothing.
+pub fn row_of(
+    form: RowForm,
+    host_bits: HostBits,
+    line: &[u8],
+) -> Result<Option<(IpCidr, &[u8])>, LineError>
+    ensures { MatchResult result (λ said. RowFieldsSay form host_bits line.now (option_map (λ row. (row.0, row.1.now)) said))
+        (HasBadNetwork form host_bits line.now) }
+{
+    let Some((first, rest)) = split_row(separator_of(form), line) else {
+        return Ok(None);
+    };
+    match row_in(form, host_bits, first, rest) {
+        Ok(row) => Ok(Some(row)),
+        Err(e) => Err(e),
+    }
+}
