@@ -21,11 +21,11 @@ use Rattle.cidr_forwarding.proofs.Passes.{read_even, read_halves, read_low, read
 use Rattle.cidr_forwarding.proofs.Calls.{rows_same, bits_same}
 use Rattle.cidr_forwarding.proofs.Final.{plan_is, rows_ascend, rows_within, fits_of, fits_both}
 
-both_true : (b c : Bool) → (b && c) ≡ true → (b ≡ true) × (c ≡ true)
+pub both_true : (b c : Bool) → (b && c) ≡ true → (b ≡ true) × (c ≡ true)
 both_true true c h = (refl, h)
 both_true false c h = absurd (true≢false (sym h))
 
-true_both : (b c : Bool) → b ≡ true → c ≡ true → (b && c) ≡ true
+pub true_both : (b c : Bool) → b ≡ true → c ≡ true → (b && c) ≡ true
 true_both true c h k = k
 true_both false c h k = absurd (true≢false (sym h))
 
@@ -40,6 +40,11 @@ module _ {X : Type 0} where
     OfHalves : t ≡ Halves l r → IsOfHalves t l r
     OfEven : (x : X) → t ≡ Even x → l ≡ Even x → r ≡ Even x → IsOfHalves t l r
 
+  pub some_address : (t : Region X) (IsAddress : List Bool → Type 0) → Fits t IsAddress → (a : List Bool) × IsAddress a
+  some_address (Even x) IsAddress fits = fits
+  some_address (Halves l r) IsAddress fits =
+      let s = some_address l (λ a. IsAddress (false ∷ a)) fits.1 in (false ∷ s.0, s.1)
+
 module _ {X : Type 0} (same : X → X → Bool) where
   pub agree_halves : (t l r u k s : Region X) → IsOfHalves t l r → IsOfHalves u k s → agree same t u ≡ (agree same l k && agree same r s)
   agree_halves t l r u k s (OfHalves e) (OfHalves f) = ap₂ (agree same) e f
@@ -53,11 +58,6 @@ module _ {X : Type 0} (same : X → X → Bool) where
 
   -- ---- of the addresses
   module _ (decides : (x y : X) → Decides (same x y) (x ≡ y)) where
-    some_address : (t : Region X) (IsAddress : List Bool → Type 0) → Fits t IsAddress → (a : List Bool) × IsAddress a
-    some_address (Even x) IsAddress fits = fits
-    some_address (Halves l r) IsAddress fits =
-        let s = some_address l (λ a. IsAddress (false ∷ a)) fits.1 in (false ∷ s.0, s.1)
-
     all_at : (x : X) (u : Region X) (IsAddress : List Bool → Type 0) → Fits u IsAddress → all_are same x u ≡ true
         → (a : List Bool) → IsAddress a → x ≡ at u a
     all_at x (Even y) IsAddress fits h a m = (decides x y).0 h

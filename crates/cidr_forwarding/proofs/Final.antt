@@ -17,6 +17,7 @@ use Rattle.cidr_forwarding.specs.Choices.{put, is_free}
 use Rattle.cidr_forwarding.specs.Plans.{tails, planned, IsNode, AreOf, put_rows}
 use Rattle.cidr_table.proofs.MapLaws.{contains_first, contains_later, contains_cases, contains_nothing}
 use Rattle.cidr_forwarding.proofs.Looking.{seen_as}
+use Rattle.cidr_forwarding.proofs.Placing.{in_bits_push}
 use Rattle.cidr_forwarding.proofs.Regions.{Fits}
 use Rattle.cidr_forwarding.proofs.Shapes.{fits_width, fits_ip, AreIp}
 use Rattle.cidr_forwarding.proofs.Order.{Ascend}
@@ -29,11 +30,6 @@ module _ {V : Type 0} where
   strip_push [] p o = refl
   strip_push ((q, None) ∷ xs) p o = strip_push xs p o
   strip_push ((q, Some v) ∷ xs) p o = ap (λ l. (q, v) ∷ l) (strip_push xs p o)
-
-module _ {C Y : Type 0} (bits : C → List Bool) where
-  in_bits_push : (xs : List (C × Y)) (x : C × Y) → in_bits bits (xs ++ x ∷ []) ≡ in_bits bits xs ++ (bits x.0, x.1) ∷ []
-  in_bits_push [] x = refl
-  in_bits_push (y ∷ xs) x = ap (λ l. (bits y.0, y.1) ∷ l) (in_bits_push xs x)
 
 module _ {C V : Type 0} (bits : C → List Bool) (all : List (C × Option V)) (i : ℕ) (x : C × Option V) (within : i < length all) (is : x ≡ get_or all i x) (out : List (C × V))
     (so_far : in_bits bits out ≡ strip (in_bits bits (take i all))) where
@@ -52,7 +48,7 @@ module _ {C V : Type 0} (bits : C → List Bool) (all : List (C × Option V)) (i
   more_none s = sym (next ∙ ap (λ o. in_bits bits out ++ strip ((bits x.0, o) ∷ [])) s ∙ append-nil (in_bits bits out))
 
 module _ {C Y : Type 0} (bits : C → List Bool) where
-  length_bits_of : (rows : List (C × Y)) → length (in_bits bits rows) ≡ length rows
+  pub length_bits_of : (rows : List (C × Y)) → length (in_bits bits rows) ≡ length rows
   length_bits_of [] = refl
   length_bits_of (r ∷ rows) = ap suc (length_bits_of rows)
 
@@ -81,11 +77,11 @@ module _ {C V : Type 0} (bits : C → List Bool) where
   unfolding planned
   planned_is d w c rows e = ap (λ n. region n c (tails bits d rows)) (sym e)
 
-  networks_within : (w : ℕ) (rows : List (C × V)) → AreNetworksOf bits w rows → AllFitWidth w (seen_as Some (in_bits bits rows))
+  pub networks_within : (w : ℕ) (rows : List (C × V)) → AreNetworksOf bits w rows → AllFitWidth w (seen_as Some (in_bits bits rows))
   networks_within w [] h = tt
   networks_within w (r ∷ rows) h = (h r (contains_first r rows), networks_within w rows (λ x m. h x (contains_later r x rows m)))
 
-  are_ip : (rows : List (C × V)) → AreIpRows bits rows → AreIp (seen_as Some (in_bits bits rows))
+  pub are_ip : (rows : List (C × V)) → AreIpRows bits rows → AreIp (seen_as Some (in_bits bits rows))
   are_ip [] h = tt
   are_ip (r ∷ rows) h = (h r (contains_first r rows), are_ip rows (λ x m. h x (contains_later r x rows m)))
 
@@ -183,7 +179,7 @@ module _ {C V : Type 0} (bits : C → List Bool) (eq : V → V → Bool) (decide
         by u f = holed_at u f rows node IsIpAddressBits (fits_both bits u f rows node h) out e
 
     -- ---- of any table
-    networks_of : (some : List (C × V)) → AllFitWidth 129 (tails bits 0 some) → AreNetworksOf bits 129 some
+    pub networks_of : (some : List (C × V)) → AllFitWidth 129 (tails bits 0 some) → AreNetworksOf bits 129 some
     networks_of [] h row m = absurd (contains_nothing row m)
     networks_of (r ∷ some) h row m = elim (contains_cases r row some m) [
       | inl e ↦ subst (λ (x : C × V). length (bits x.0) ≤ 129) e h.0

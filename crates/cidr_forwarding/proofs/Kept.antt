@@ -31,23 +31,23 @@ module _ {X : Type 0} where
       low_deeper w (below false rows) (below true rows) (own c rows) (region v (own c rows) (below false rows)) (region v (own c rows) (below true rows))
       (low_region v w (own c rows) (below false rows) (within_below w false rows h)) (low_region v w (own c rows) (below true rows) (within_below w true rows h))
 
-  within_under : (w : ℕ) (b : Bool) (rows : List (List Bool × X)) → AllFitWidth w rows → AllFitWidth (suc w) (under b rows)
+  pub within_under : (w : ℕ) (b : Bool) (rows : List (List Bool × X)) → AllFitWidth w rows → AllFitWidth (suc w) (under b rows)
   within_under w b [] h = tt
   within_under w b (r ∷ rows) h = (omega (arith, h.0), within_under w b rows h.1)
 
-  within_append : (w : ℕ) (xs ys : List (List Bool × X)) → AllFitWidth w xs → AllFitWidth w ys → AllFitWidth w (xs ++ ys)
+  pub within_append : (w : ℕ) (xs ys : List (List Bool × X)) → AllFitWidth w xs → AllFitWidth w ys → AllFitWidth w (xs ++ ys)
   within_append w [] ys h k = k
   within_append w (x ∷ xs) ys h k = (h.0, within_append w xs ys h.1 k)
 
-  ip_append : (xs ys : List (List Bool × X)) → AreIp xs → AreIp ys → AreIp (xs ++ ys)
+  pub ip_append : (xs ys : List (List Bool × X)) → AreIp xs → AreIp ys → AreIp (xs ++ ys)
   ip_append [] ys h k = k
   ip_append (x ∷ xs) ys h k = (h.0, ip_append xs ys h.1 k)
 
-  ip_low : (rows : List (List Bool × X)) → AllFitWidth 32 rows → AreIp (under false rows)
+  pub ip_low : (rows : List (List Bool × X)) → AllFitWidth 32 rows → AreIp (under false rows)
   ip_low [] h = tt
   ip_low (r ∷ rows) h = (h.0, ip_low rows h.1)
 
-  ip_high : (rows : List (List Bool × X)) → AllFitWidth 128 rows → AreIp (under true rows)
+  pub ip_high : (rows : List (List Bool × X)) → AllFitWidth 128 rows → AreIp (under true rows)
   ip_high [] h = tt
   ip_high (r ∷ rows) h = (h.0, ip_high rows h.1)
 

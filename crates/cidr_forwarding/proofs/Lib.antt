@@ -20,3 +20,5 @@ pub mod Final
 pub mod Sorted
 pub mod Calls
 pub mod Agreement
+pub mod Listing
+pub mod Apart

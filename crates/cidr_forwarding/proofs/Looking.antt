@@ -18,7 +18,7 @@ begins_nothing p h = take_nothing (length p) p h
 pub begins_bit : (b : Bool) (a : List Bool) (c : Bool) (p : List Bool) → BeginsWith (b ∷ a) (c ∷ p) → (c ≡ b) × BeginsWith a p
 begins_bit b a c p h = let f : b ∷ take (length p) a ≡ c ∷ p = h in (cc, cc)
 
-begins_longer : (b : Bool) (a p : List Bool) → BeginsWith a p → BeginsWith (b ∷ a) (b ∷ p)
+pub begins_longer : (b : Bool) (a p : List Bool) → BeginsWith a p → BeginsWith (b ∷ a) (b ∷ p)
 begins_longer b a p h = ap (λ l. b ∷ l) h
 
 module _ {V : Type 0} where

@@ -14,7 +14,7 @@ less_not_itself [] h = cc
 less_not_itself (false ∷ p) h = less_not_itself p h
 less_not_itself (true ∷ p) h = less_not_itself p h
 
-no_keys : IsStrictlySortedBy bit_cmp []
+pub no_keys : IsStrictlySortedBy bit_cmp []
 unfolding IsStrictlySortedBy
 no_keys = tt
 

@@ -88,6 +88,13 @@ module _ {Y : Type 0} where
   behind_under q b [] = refl
   behind_under q b (x ∷ xs) = ap₂ (λ p l. (p, x.1) ∷ l) (sym (append_assoc q (b ∷ []) x.0)) (behind_under q b xs)
 
+  -- what is behind the bits of both halves
+  pub behind_halves : (q lower upper : List Bool) (lows highs : List (List Bool × Y)) → lower ≡ q ++ false ∷ [] → upper ≡ q ++ true ∷ []
+      → behind q (under false lows ++ under true highs) ≡ behind lower lows ++ behind upper highs
+  behind_halves q lower upper lows highs lo up =
+      behind_append q (under false lows) (under true highs)
+      ∙ ap₂ (λ x y. x ++ y) (behind_under q false lows ∙ ap (λ p. behind p lows) (sym lo)) (behind_under q true highs ∙ ap (λ p. behind p highs) (sym up))
+
   pub under_behind : (b : Bool) (p : List Bool) (xs : List (List Bool × Y)) → under b (behind p xs) ≡ behind (b ∷ p) xs
   under_behind b p [] = refl
   under_behind b p (x ∷ xs) = ap (λ l. (b ∷ (p ++ x.0), x.1) ∷ l) (under_behind b p xs)
@@ -109,7 +116,7 @@ module _ {Y : Type 0} where
   behind_nothing (x ∷ xs) = ap (λ l. x ∷ l) (behind_nothing xs)
 
 module _ {C Y : Type 0} (bits : C → List Bool) where
-  in_bits_push : (xs : List (C × Y)) (x : C × Y) → in_bits bits (xs ++ x ∷ []) ≡ in_bits bits xs ++ (bits x.0, x.1) ∷ []
+  pub in_bits_push : (xs : List (C × Y)) (x : C × Y) → in_bits bits (xs ++ x ∷ []) ≡ in_bits bits xs ++ (bits x.0, x.1) ∷ []
   in_bits_push [] x = refl
   in_bits_push (y ∷ xs) x = ap (λ l. (bits y.0, y.1) ∷ l) (in_bits_push xs x)
 
@@ -166,9 +173,7 @@ module _ {C V : Type 0} (bits : C → List Bool) (eq : V → V → Bool) (holes 
   ended_halves l r value now low high lower upper e h lo up a b =
       let n : fill_rows eq holes t value ≡ under false (put_rows eq holes l value) ++ under true (put_rows eq holes r value) = ap (λ u. fill_rows eq holes u value) e ∙ fill_halves eq holes l r value in
       let m : behind q (fill_rows eq holes t value) ≡ behind lower (put_rows eq holes l value) ++ behind upper (put_rows eq holes r value) =
-      ap (behind q) n ∙ behind_append q (under false (put_rows eq holes l value)) (under true (put_rows eq holes r value))
-      ∙ ap₂ (λ x y. x ++ y) (behind_under q false (put_rows eq holes l value) ∙ ap (λ p. behind p (put_rows eq holes l value)) (sym lo))
-      (behind_under q true (put_rows eq holes r value) ∙ ap (λ p. behind p (put_rows eq holes r value)) (sym up)) in
+      ap (behind q) n ∙ behind_halves q lower upper (put_rows eq holes l value) (put_rows eq holes r value) lo up in
       b ∙ ap (λ x. x ++ behind upper (put_rows eq holes r value)) a
       ∙ append_assoc (in_bits bits now) (behind lower (put_rows eq holes l value)) (behind upper (put_rows eq holes r value))
       ∙ ap (λ x. in_bits bits now ++ x) (sym m) ∙ h

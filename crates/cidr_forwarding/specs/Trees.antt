@@ -1,5 +1,5 @@
 -- Rows by the next bit of their networks, and a forwarding as a tree of halves.
-use Rattle.std.specs.Prelude.{ℕ, zero, suc, ◌≤◌, ◌&&◌, Bool, true, false, List, [], ◌∷◌, length, drop}
+use Rattle.std.specs.Prelude.{ℕ, zero, suc, ◌≤◌, ◌&&◌, Bool, true, false, cond, List, [], ◌∷◌, ◌++◌, length, drop, Option, Some, None}
 
 -- how many bits two lists begin with alike
 abbrev pub common : List Bool → List Bool → ℕ
@@ -91,3 +91,36 @@ module _ {X : Type 0} (same : X → X → Bool) where
   agree (Even x) t = all_are x t
   agree (Halves l r) (Even y) = agree l (Even y) && agree r (Even y)
   agree (Halves l r) (Halves k s) = agree l k && agree r s
+
+-- ---- where two forwardings differ
+module _ {X : Type 0} where
+  -- two forwardings as one, whose values are those of both
+  abbrev pub with_all : X → Region X → Region (X × X)
+  with_all x (Even y) = Even (x, y)
+  with_all x (Halves l r) = Halves (with_all x l) (with_all x r)
+
+  abbrev pub paired : Region X → Region X → Region (X × X)
+  paired (Even x) t = with_all x t
+  paired (Halves l r) (Even y) = Halves (paired l (Even y)) (paired r (Even y))
+  paired (Halves l r) (Halves k s) = Halves (paired l k) (paired r s)
+
+module _ {X : Type 0} (same : X → X → Bool) where
+  -- the values of both halves, if they are the same
+  abbrev pub shared_values : Option (X × X) → Option (X × X) → Option (X × X)
+  shared_values None high = None
+  shared_values (Some x) None = None
+  shared_values (Some x) (Some y) = cond (same x.0 y.0 && same x.1 y.1) (Some x) None
+
+  -- the values of a network that has one value in each forwarding
+  abbrev pub sole_values : Region (X × X) → Option (X × X)
+  sole_values (Even x) = Some x
+  sole_values (Halves l r) = shared_values (sole_values l) (sole_values r)
+
+  -- one row where they differ, or none; else the rows of the halves
+  abbrev pub listed : Option (X × X) → List (List Bool × (X × X)) → List (List Bool × (X × X))
+  listed (Some x) inside = cond (same x.0 x.1) [] (([], x) ∷ [])
+  listed None inside = inside
+
+  abbrev pub differing : Region (X × X) → List (List Bool × (X × X))
+  differing (Even x) = listed (Some x) []
+  differing (Halves l r) = listed (sole_values (Halves l r)) (under false (differing l) ++ under true (differing r))

@@ -21,10 +21,12 @@
 #![tactic(auto)]
 
 mod candidates;
+mod differing;
 mod halves;
 mod plan;
 mod same;
 mod tables;
 
+pub use differing::{Answers, differences};
 pub use same::forwards_same;
 pub use tables::SmallestTable;

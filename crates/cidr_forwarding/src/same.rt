@@ -1,5 +1,5 @@
 //! Whether two tables forward each address to the same value.
-ghost use Rattle.std.specs.Prelude.{◌≡◌, ◌↔◌, ℕ, ◌<◌, ◌≤◌, IsTrue, None, false, length};
+ghost use Rattle.std.specs.Prelude.{◌≡◌, ◌↔◌, ℕ, ◌+◌, ◌<◌, ◌≤◌, IsTrue, None, false, length};
 ghost use Rattle.std.specs.Option.{option_eq};
 ghost use Rattle.cidr.specs.either.IpAddress.{TellsEqual};
 ghost use Rattle.cidr.specs.model.Network.{HasWidth};
@@ -78,7 +78,7 @@ fn agree<C: NetworkBits + Copy, V: Copy + Eq>(
 }
 
 /// Whether there are no rows of more bits.
-fn are_ended<C: NetworkBits + Copy, V: Copy>(
+pub(crate) fn are_ended<C: NetworkBits + Copy, V: Copy>(
     rest: &[(C, V)],
     other_rest: &[(C, V)],
     depth: usize,
@@ -90,6 +90,7 @@ fn are_ended<C: NetworkBits + Copy, V: Copy>(
     ensures none { IsTrue result → length rest.now ≤ 0 }
     ensures other_none { IsTrue result → length other_rest.now ≤ 0 }
     ensures room { result ≡ false → depth < 129 }
+    ensures some { result ≡ false → 0 < length rest.now + length other_rest.now }
 {
     // No key has more than 129 bits.
     if depth < 129 {

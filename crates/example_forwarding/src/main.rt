@@ -5,7 +5,7 @@
 use cidr::Ipv4Cidr;
 use cidr::errors::NetworkParseError;
 use cidr_fib::{ForwardingError, ForwardingTable};
-use cidr_forwarding::{SmallestTable, forwards_same};
+use cidr_forwarding::{SmallestTable, differences, forwards_same};
 use cidr_table::LpmTable;
 use std::alloc::AllocError;
 use std::io;
@@ -36,6 +36,7 @@ fn without_holes(rt: &HostRuntime) -> Result<(), Failure> {
     println!(rt; "{}", forwards_same(&routes, &smallest))?; // true
     routes.set("10.1.0.0/16".parse()?, 3)?;
     println!(rt; "{}", forwards_same(&routes, &smallest))?; // false
+    println!(rt; "{:?}", differences(rt.alloc(), &routes, &smallest)?)?; // [(10.1.0.0/16, (Some(3), Some(2)))]
     Ok(())
 }
 
