@@ -1,5 +1,8 @@
-//! Look-up tables in a file: the names of networks, and what a check says of files that were cut or changed.
+//! Look-up tables in a file: the names of networks, and what a check says of files that were cut or changed. Then those in
+//! arrays.
 #![tactic(auto)]
+
+mod arrays;
 
 use cidr::{Ipv4Addr, Ipv6Addr};
 use cidr_arrays::{Key, Word};
@@ -32,7 +35,7 @@ fn main(rt: HostRuntime) -> Result<(), Failure> {
         "of {} changed files {refused} are refused, and {same} have the same rows",
         file.len()
     )?;
-    Ok(())
+    Ok(arrays::show(&rt)?)
 }
 
 /// A file of names of networks.

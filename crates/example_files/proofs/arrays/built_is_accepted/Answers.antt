@@ -3,7 +3,7 @@ use Rattle.std.proofs.lemmas.List.{length-map}
 use Rattle.cidr_arrays.specs.Arrays.{key_networks}
 use Rattle.cidr_arrays.specs.FaultLaws.{accepted}
 use Rattle.cidr_arrays.specs.declared.key.Key.{Key}
-use Rattle.example_arrays.proofs.built_is_accepted.Goals as goal
+use Rattle.example_files.proofs.arrays.built_is_accepted.Goals as goal
 
 pub returns : goal.returns
 returns c =

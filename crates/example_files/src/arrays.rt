@@ -1,6 +1,4 @@
 //! A look-up table in arrays: which of three networks an address is in, by arrays on the stack.
-#![tactic(auto)]
-
 ghost use Rattle.std.specs.Prelude.{IfOk, IsOk};
 ghost use Rattle.cidr.specs.model.Bits.{bits};
 ghost use Rattle.cidr_table.specs.model.Prefixes.{IsLongestMatch};
@@ -10,7 +8,8 @@ use cidr::Ipv4Addr;
 use cidr_arrays::{BuildError, Fault, Key, build, check, lookup};
 use std::io;
 
-fn main(rt: HostRuntime) -> Result<(), io::Error> {
+/// Looks up in arrays, and checks them.
+pub fn show(rt: &HostRuntime) -> io::Result<()> {
     let keys = [
         network(Ipv4Addr::new(10, 0, 0, 0), 8),
         network(Ipv4Addr::new(10, 1, 0, 0), 16),
