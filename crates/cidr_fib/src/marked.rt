@@ -90,17 +90,15 @@ struct Told {
 
 impl MarkedRanges {
     /// Whether this form is quick for such ranges, and takes few bytes for so many rows: at most an eighth of them may
-    /// begin elsewhere than a block, and at most an eighth stand before the first one of whole parts. Behind that one no
-    /// leaf is put in place of a code that is still read.
+    /// begin elsewhere than a block, and at most an eighth of the parts may be lost.
     pub(crate) fn fits(starts: &[u32], rows: usize) -> bool {
         let bytes = starts
             .len()
             .saturating_mul(4)
             .saturating_add(16 * PARTS as usize);
-        let most = starts.len() / 8;
         bytes <= rows.saturating_mul(MOST_BYTES)
-            && elsewhere(starts) <= most
-            && first_whole(starts) <= most
+            && elsewhere(starts) <= starts.len() / 8
+            && lost(starts) <= PARTS as usize / 8
     }
 
     /// What the ranges with these starts and codes tell: a pass over both. The leaves are put where the codes stand.
@@ -211,21 +209,28 @@ fn elsewhere(starts: &[u32]) -> usize {
     count
 }
 
-/// Where the first range stands that begins and ends where parts do, so that it has no leaf, or how many ranges there are.
-fn first_whole(starts: &[u32]) -> usize {
+/// How many parts are lost: those that a range goes on into, up to the first range that begins and ends where parts do.
+/// Such a range has no leaf, so that behind it none is put in place of a code that is still read.
+fn lost(starts: &[u32]) -> usize {
+    let mut count = 0usize;
     for place in 1..starts.len() {
-        if (starts[place - 1] | starts[place]) % 0x4000 == 0 {
-            return place - 1;
+        let (first, next) = (starts[place - 1], starts[place]);
+        if (first | next) % 0x4000 == 0 {
+            return count;
+        }
+        if first % 0x4000 != 0 {
+            let parts = (next / 0x4000).saturating_sub(first / 0x4000 + 1);
+            count = count.wrapping_add(parts as usize);
         }
     }
-    starts.len()
+    count
 }
 
 impl Entries {
     /// Those of ranges with these starts, in place of whose codes the leaves are put. A range has one leaf at most, and a
     /// block in which ranges begin has one that stands for one of them. Where all ranges up to one have leaves, that of the
     /// last is put in place of its own code: if it goes on into a part, its code is lost there, and the rows are searched.
-    /// `fits` takes no table with many such ranges.
+    /// `fits` takes no table with many such parts.
     fn of(alloc: Global, starts: &[u32], leaves: &mut [u32]) -> Result<Entries, AllocError>
         ensures all { IfOk result (λ made. length made.entries.items ≡ 2 ^ 18) }
         ensures told { IfOk result (λ made.
