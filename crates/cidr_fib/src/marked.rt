@@ -38,6 +38,12 @@ const PLACE: u32 = 1 << 31;
 /// The bytes that a row may take.
 const MOST_BYTES: usize = 15;
 
+/// How many of 2^32 numbers may be lost.
+const MOST_LOST: u64 = 1 << 28;
+
+/// How many of 2^32 numbers a part has.
+const PART_STARTS: u32 = 1 << 14;
+
 /// What ranges tell of parts and blocks. It takes four bytes for each part and for each leaf, and twelve for a part that
 /// has leaves.
 #[derive(Drop)]
@@ -90,7 +96,7 @@ struct Told {
 
 impl MarkedRanges {
     /// Whether this form is quick for such ranges, and takes few bytes for so many rows: at most an eighth of them may
-    /// begin elsewhere than a block, and at most an eighth of the parts may be lost.
+    /// begin elsewhere than a block, and at most a sixteenth of all numbers may be lost.
     pub(crate) fn fits(starts: &[u32], rows: usize) -> bool {
         let bytes = starts
             .len()
@@ -98,7 +104,7 @@ impl MarkedRanges {
             .saturating_add(16 * PARTS as usize);
         bytes <= rows.saturating_mul(MOST_BYTES)
             && elsewhere(starts) <= starts.len() / 8
-            && lost(starts) <= PARTS as usize / 8
+            && lost(starts) <= MOST_LOST
     }
 
     /// What the ranges with these starts and codes tell: a pass over both. The leaves are put where the codes stand.
@@ -209,19 +215,18 @@ fn elsewhere(starts: &[u32]) -> usize {
     count
 }
 
-/// How many parts are lost: those that a range goes on into, up to the first range that begins and ends where parts do.
-/// Such a range has no leaf, so that behind it none is put in place of a code that is still read.
-fn lost(starts: &[u32]) -> usize {
-    let mut count = 0usize;
+/// How many numbers are lost, in 2^32: those from the first part on that a range goes on into, up to the first range that
+/// begins and ends where parts do. Such a range has no leaf, so that behind it none is put in place of a code that is still
+/// read.
+fn lost(starts: &[u32]) -> u64 {
+    let mut count = 0u64;
     for place in 1..starts.len() {
         let (first, next) = (starts[place - 1], starts[place]);
-        if (first | next) % 0x4000 == 0 {
+        if (first | next) % PART_STARTS == 0 {
             return count;
         }
-        if first % 0x4000 != 0 {
-            let parts = (next / 0x4000).saturating_sub(first / 0x4000 + 1);
-            count = count.wrapping_add(parts as usize);
-        }
+        let part = (u64::from(first / PART_STARTS) + 1) * u64::from(PART_STARTS);
+        count = count.saturating_add(u64::from(next).saturating_sub(part));
     }
     count
 }
@@ -230,7 +235,7 @@ impl Entries {
     /// Those of ranges with these starts, in place of whose codes the leaves are put. A range has one leaf at most, and a
     /// block in which ranges begin has one that stands for one of them. Where all ranges up to one have leaves, that of the
     /// last is put in place of its own code: if it goes on into a part, its code is lost there, and the rows are searched.
-    /// `fits` takes no table with many such parts.
+    /// `fits` takes no table in which much is lost so.
     fn of(alloc: Global, starts: &[u32], leaves: &mut [u32]) -> Result<Entries, AllocError>
         ensures all { IfOk result (λ made. length made.entries.items ≡ 2 ^ 18) }
         ensures told { IfOk result (λ made.
