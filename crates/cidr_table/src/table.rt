@@ -151,8 +151,9 @@ impl<C: NetworkBits + Copy, V> LpmTable<C, V> {
 
     /// Sets the value under a key and returns the one that was there, or `None` where there was none.
     ///
-    /// A new key shifts the rows after it, O(n), some 13 µs among 100,000 rows of 12 bytes and 350 µs among 900,000,
-    /// and allocates where there is no room for one more row, see `capacity`. `from_rows` takes many rows at once.
+    /// A new key shifts the rows after it, O(n), some 38 µs among 100,000 rows of 12 bytes and 550 µs among 900,000 (a
+    /// vector of Rust takes 12 and 300), and allocates where there is no room for one more row, see `capacity`.
+    /// `from_rows` takes many rows at once.
     /// Where an allocation fails, it returns the key and the value as the error and the rows are as they were.
     /// Replacing a value never fails and takes no memory.
     ///
