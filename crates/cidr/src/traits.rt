@@ -25,6 +25,7 @@ use std::hash::Hash;
 use std::str::FromStr;
 
 pub(crate) mod combined;
+mod one_family;
 pub(crate) mod sealed_types;
 pub(crate) mod v4;
 pub(crate) mod v6;

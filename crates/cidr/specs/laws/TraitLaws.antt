@@ -1,12 +1,12 @@
 -- What the four traits say of values, at the types of one family and at those of either.
 use Rattle.std.proofs.Common.{◌≡◌, ◌↔◌, ℕ, Bool, false, List, Some, Ok, Err, IsTrue, refl, sym, ap}
-use Rattle.cidr.specs.either.ByFamily.{IsKnownBy, ReadsByFamily, PrintsByFamily}
+use Rattle.cidr.specs.either.ByFamily.{IsKnownBy, IsHostOrderByFamily, ReadsByFamily, PrintsByFamily}
 use Rattle.cidr.specs.either.IpAddress.{IsIpText, address_family, plain_bits}
 use Rattle.cidr.specs.either.IpHost.{host_family, host_parts}
 use Rattle.cidr.specs.either.IpNetwork.{network_family, network_prefix}
 use Rattle.cidr.specs.either.IpPair.{pair_family, pair_parts}
 use Rattle.cidr.specs.either.IpText.{IsIpNetworkText, IsIpHostText, ReadsIpNetwork, ReadsIpHost, ip_network_text, ip_host_text}
-use Rattle.cidr.specs.model.Host.{Host}
+use Rattle.cidr.specs.model.Host.{Host, host_cmp}
 use Rattle.cidr.specs.model.Pair.{Pair}
 use Rattle.cidr.specs.texts.AddressText.{IsAddressText, Reads, address_error}
 use Rattle.cidr.specs.texts.HostText.{IsHostText, ReadsHost}
@@ -90,6 +90,11 @@ ip_pair_known (pair.V4 a) (pair.V4 b) f h = ap pair.V4 h
 ip_pair_known (pair.V4 a) (pair.V6 b) f h = absurd (families_differ f)
 ip_pair_known (pair.V6 a) (pair.V4 b) f h = absurd (families_differ (sym f))
 ip_pair_known (pair.V6 a) (pair.V6 b) f h = ap pair.V6 h
+
+-- ---- order
+pub ordered_hosts : (family : Family) → IsHostOrderByFamily (λ h. family) (λ h. h) host_cmp
+ordered_hosts Ipv4 a b = refl
+ordered_hosts Ipv6 a b = refl
 
 -- ---- reading
 pub reads_address : (family : Family) → ReadsByFamily IsAddressText (λ a. family) (λ a. a) (Reads (IsAddressText family) (address_error family))

@@ -1,5 +1,5 @@
 -- What is printed of networks, hosts and pairs.
-use Rattle.std.specs.Prelude.{ℕ, Bool, List, [], ◌∷◌, ◌++◌, length, codes, decimal, ◌==◌, if◌then◌else◌}
+use Rattle.std.specs.Prelude.{◌≡◌, ◌+◌, ◌<◌, ◌≤◌, ℕ, Bool, List, [], ◌∷◌, ◌++◌, length, codes, decimal, ◌==◌, if◌then◌else◌, Result, Ok, Err}
 use Rattle.cidr.specs.model.Network.{width_of, first_of}
 use Rattle.cidr.specs.model.Host.{Host}
 use Rattle.cidr.specs.model.Pair.{Pair, first_of_pair, second_of_pair}
@@ -35,6 +35,11 @@ plain_text family network =
 abbrev pub longest_text : Family → ℕ
 longest_text Ipv4 = 18
 longest_text Ipv6 = 43
+
+-- of a text with room for so many bytes: these stand behind the old ones, or where they have no room it is as it was
+abbrev pub IsAppended : {E : Type 0} → ℕ → List ℕ → List ℕ → List ℕ → Result (Unit {0}) E → Type 0
+IsAppended room printed old new (Ok done) = (length old + length printed ≤ room) × (new ≡ old ++ printed)
+IsAppended room printed old new (Err e) = (room < length old + length printed) × (new ≡ old)
 
 -- two strings in parentheses, with a comma and a space between them
 abbrev pub in_parentheses : List ℕ → List ℕ → List ℕ

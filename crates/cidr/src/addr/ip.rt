@@ -2,6 +2,7 @@
 ghost use Rattle.std.specs.Prelude.{◌≡◌, ◌↔◌, ◌≤◌, length, IsTrue, Some};
 ghost use Rattle.cidr.specs.texts.AddressText.{Reads};
 ghost use Rattle.cidr.specs.either.IpAddress.{address_family, IsIpText};
+ghost use Rattle.cidr.specs.texts.Printed.{IsAppended};
 ghost use Rattle.cidr.specs.texts.PrintedAddress.{ip_text};
 ghost use Rattle.cidr.specs.texts.Messages.{ip_error};
 ghost use Rattle.cidr.specs.declared.addr.ip.IpAddr.TheVariants.{V4, V6};
@@ -69,6 +70,24 @@ impl IpAddr {
         match self {
             IpAddr::V4(address) => address.to_text(),
             IpAddr::V6(address) => address.to_text(),
+        }
+    }
+
+    /// Appends the printed string, as `to_text` gives it, to one that the caller has. Where there is no room for the whole
+    /// of it, it fails, and the string is as it was.
+    ///
+    /// ```
+    /// let mut text = ArrayString::<39>::new();
+    /// "2001:DB8::1".parse::<IpAddr>()?.write_to(&mut text)?;
+    /// text // 2001:db8::1
+    /// ```
+    pub fn write_to<const CAP: usize>(&self, text: &mut ArrayString<CAP>) -> fmt::Result
+        ensures written { IsAppended CAP (ip_text self.now) text.old.bytes text.new.bytes result }
+        ensures len { length (ip_text self.now) ≤ 39 }
+    {
+        match self {
+            IpAddr::V4(address) => address.write_to(text),
+            IpAddr::V6(address) => address.write_to(text),
         }
     }
 }

@@ -9,10 +9,12 @@ ghost use Rattle.cidr.specs.model.Address.{octet_bits, octets_of};
 ghost use Rattle.cidr.specs.texts.Ipv4Text.{IsIpv4Text};
 ghost use Rattle.cidr.specs.texts.AddressText.{Reads};
 ghost use Rattle.cidr.specs.texts.PrintedAddress.{ipv4_text};
+ghost use Rattle.cidr.specs.texts.Printed.{IsAppended};
 
 use crate::addr::decimal::{push_decimal, push_decimal_dot};
 use crate::addr::error::AddrParseError;
 use crate::addr::read_v4::read_ipv4;
+use crate::text::print::append;
 use arrayvec::ArrayString;
 use std::cmp::Ordering;
 use std::fmt;
@@ -134,6 +136,25 @@ impl Ipv4Addr {
         let mut text = ArrayString::new();
         self.push_to(&mut text);
         text
+    }
+
+    /// Appends the printed string, as `to_text` gives it, to one that the caller has. Where there is no room for the whole
+    /// of it, it fails, and the string is as it was.
+    ///
+    /// ```
+    /// let mut text = ArrayString::<15>::new();
+    /// Ipv4Addr::new(192, 0, 2, 1).write_to(&mut text)?;
+    /// text // 192.0.2.1
+    /// ```
+    pub fn write_to<const CAP: usize>(&self, text: &mut ArrayString<CAP>) -> fmt::Result
+        ensures written { IsAppended CAP (ipv4_text self.now) text.old.bytes text.new.bytes result }
+        ensures len { length (ipv4_text self.now) ≤ 15 }
+    {
+        if CAP - text.len() < 15 {
+            return append(text, self.to_text().as_str());
+        }
+        self.push_to(text);
+        Ok(())
     }
 }
 

@@ -10,12 +10,14 @@ ghost use Rattle.cidr.specs.texts.AddressText.{Reads};
 ghost use Rattle.cidr.specs.texts.Ipv6Text.{IsIpv6Text};
 ghost use Rattle.cidr.specs.texts.Canonical.{IsCanonicalText, mapped_groups};
 ghost use Rattle.cidr.specs.texts.PrintedAddress.{ipv6_text};
+ghost use Rattle.cidr.specs.texts.Printed.{IsAppended};
 
 use crate::addr::error::AddrParseError;
 use crate::addr::print_v6::push_hex_groups;
 use crate::addr::read_v6::read_ipv6;
 use crate::addr::v4::Ipv4Addr;
 use crate::arithmetic::halves::Halves;
+use crate::text::print::append;
 use arrayvec::ArrayString;
 use std::cmp::Ordering;
 use std::fmt;
@@ -201,6 +203,25 @@ impl Ipv6Addr {
         let mut text = ArrayString::new();
         self.push_to(&mut text);
         text
+    }
+
+    /// Appends the printed string, as `to_text` gives it, to one that the caller has. Where there is no room for the whole
+    /// of it, it fails, and the string is as it was.
+    ///
+    /// ```
+    /// let mut text = ArrayString::<39>::new();
+    /// "2001:DB8::1".parse::<Ipv6Addr>()?.write_to(&mut text)?;
+    /// text // 2001:db8::1
+    /// ```
+    pub fn write_to<const CAP: usize>(&self, text: &mut ArrayString<CAP>) -> fmt::Result
+        ensures written { IsAppended CAP (ipv6_text self.now) text.old.bytes text.new.bytes result }
+        ensures len { length (ipv6_text self.now) ≤ 39 }
+    {
+        if CAP - text.len() < 39 {
+            return append(text, self.to_text().as_str());
+        }
+        self.push_to(text);
+        Ok(())
     }
 }
 

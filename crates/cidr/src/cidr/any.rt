@@ -15,6 +15,7 @@ use crate::cidr::network::{Ipv4Cidr, Ipv6Cidr};
 use crate::errors::NetworkParseError;
 use crate::family::Family;
 use crate::inet::combined::IpInet;
+use crate::text::print::append;
 use crate::text::with_length::WithLength;
 use arrayvec::ArrayString;
 use std::fmt;
@@ -44,7 +45,7 @@ impl AnyIpCidr {
     ghost use Rattle.cidr.specs.model.Host.{first_host, last_host};
     ghost use Rattle.cidr.specs.either.IpAddress.{ip_address_bits};
     ghost use Rattle.cidr.specs.model.Network.{first_of, last_of, mask_of, BeginsWith, HoldsAll};
-    ghost use Rattle.cidr.specs.texts.Printed.{plain_text};
+    ghost use Rattle.cidr.specs.texts.Printed.{plain_text, IsAppended};
     ghost use Rattle.cidr.specs.declared.family.Family.TheVariants.{Ipv4, Ipv6};
 
     /// The network of the first `len` bits of an address, of its family.
@@ -288,6 +289,21 @@ impl AnyIpCidr {
             None => any_text(),
             Some(network) => network.to_text(),
         }
+    }
+
+    /// Appends the printed string, as `to_text` gives it, to one that the caller has. Where there is no room for the whole
+    /// of it, it fails, and the string is as it was.
+    ///
+    /// ```
+    /// let mut text = ArrayString::<43>::new();
+    /// AnyIpCidr::Any.write_to(&mut text)?;
+    /// text // any
+    /// ```
+    pub fn write_to<const CAP: usize>(&self, text: &mut ArrayString<CAP>) -> fmt::Result
+        ensures written { IsAppended CAP (any_network_text plain_text self.now) text.old.bytes text.new.bytes result }
+        ensures len { length (any_network_text plain_text self.now) ≤ 43 }
+    {
+        append(text, self.to_text().as_str())
     }
 
     /// The network, to be printed with its prefix length also where that is full. `Any` stays `any`.

@@ -15,6 +15,7 @@ use crate::family::Family;
 use crate::inet::combined::IpInet;
 use crate::inet_iterator::InetIterator;
 use crate::inet_pair::combined::IpInetPair;
+use crate::text::print::append;
 use crate::text::read::{cut_at_last_slash, read_length};
 use crate::text::with_length::WithLength;
 use arrayvec::ArrayString;
@@ -42,7 +43,7 @@ impl IpCidr {
     ghost use Rattle.cidr.specs.model.Host.{first_host, last_host};
     ghost use Rattle.cidr.specs.either.IpAddress.{ip_address_bits};
     ghost use Rattle.cidr.specs.model.Network.{width_of, first_of, last_of, mask_of, BeginsWith, HoldsAll};
-    ghost use Rattle.cidr.specs.texts.Printed.{plain_text};
+    ghost use Rattle.cidr.specs.texts.Printed.{plain_text, IsAppended};
     ghost use Rattle.cidr.specs.model.Walk.{network_hosts, network_walk, HasExactly};
     ghost use Rattle.cidr.specs.declared.family.Family.TheVariants.{Ipv4, Ipv6};
 
@@ -290,6 +291,21 @@ impl IpCidr {
             IpCidr::V4(network) => network.to_text(),
             IpCidr::V6(network) => network.to_text(),
         }
+    }
+
+    /// Appends the printed string, as `to_text` gives it, to one that the caller has. Where there is no room for the whole
+    /// of it, it fails, and the string is as it was.
+    ///
+    /// ```
+    /// let mut text = ArrayString::<43>::new();
+    /// "192.0.2.1/32".parse::<IpCidr>()?.write_to(&mut text)?;
+    /// text // 192.0.2.1
+    /// ```
+    pub fn write_to<const CAP: usize>(&self, text: &mut ArrayString<CAP>) -> fmt::Result
+        ensures written { IsAppended CAP (ip_network_text plain_text self.now) text.old.bytes text.new.bytes result }
+        ensures len { length (ip_network_text plain_text self.now) ≤ 43 }
+    {
+        append(text, self.to_text().as_str())
     }
 
     /// The network, to be printed with its prefix length also where that is full.

@@ -17,7 +17,7 @@ use crate::family::Family;
 use crate::inet::host::Host;
 use crate::inet_pair::host_pair::HostPair;
 use crate::internal_traits::address_bits::{AddressBits, AddressText};
-use crate::text::print::{forced, plain};
+use crate::text::print::{append, forced, plain};
 use crate::text::read::{cut_at_last_slash, read_length};
 use crate::text::with_length::WithLength;
 use arrayvec::ArrayString;
@@ -332,7 +332,7 @@ impl<A: AddressBits> Network<A> {
 }
 
 impl<A: AddressText> Network<A> {
-    ghost use Rattle.cidr.specs.texts.Printed.{plain_text, longest_text};
+    ghost use Rattle.cidr.specs.texts.Printed.{plain_text, longest_text, IsAppended};
 
     /// The printed string, without a full prefix length, in an `ArrayString`, so that nothing is allocated. It has at
     /// most 18 bytes in IPv4 and 43 in IPv6. Parsing it gives the same network.
@@ -348,6 +348,21 @@ impl<A: AddressText> Network<A> {
         ensures spells { IsNetworkText A.FAMILY result.bytes self.now }
     {
         plain(self.first_address(), self.network_length())
+    }
+
+    /// Appends the printed string, as `to_text` gives it, to one that the caller has. Where there is no room for the whole
+    /// of it, it fails, and the string is as it was.
+    ///
+    /// ```
+    /// let mut text = ArrayString::<43>::new();
+    /// "192.0.2.48/28".parse::<Ipv4Cidr>()?.write_to(&mut text)?;
+    /// text // 192.0.2.48/28
+    /// ```
+    pub fn write_to<const CAP: usize>(&self, text: &mut ArrayString<CAP>) -> fmt::Result
+        ensures written { IsAppended CAP (plain_text A.FAMILY self.now) text.old.bytes text.new.bytes result }
+        ensures len { length (plain_text A.FAMILY self.now) ≤ longest_text A.FAMILY }
+    {
+        append(text, self.to_text().as_str())
     }
 }
 

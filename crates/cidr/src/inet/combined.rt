@@ -6,7 +6,7 @@ ghost use Rattle.cidr.specs.either.IpHost.{host_family, host_parts, host_by, lon
 ghost use Rattle.cidr.specs.either.IpText.{IsIpHostText, ip_host_text};
 ghost use Rattle.cidr.specs.model.Host.{host_part, host_count, with_host_part};
 ghost use Rattle.cidr.specs.model.Network.{width_of};
-ghost use Rattle.cidr.specs.texts.Printed.{plain_host_text, forced_host_text};
+ghost use Rattle.cidr.specs.texts.Printed.{plain_host_text, forced_host_text, IsAppended};
 ghost use Rattle.cidr.specs.declared.inet.combined.IpInet.TheVariants.{V4, V6};
 
 use crate::addr::ip::IpAddr;
@@ -16,6 +16,7 @@ use crate::cidr::combined::IpCidr;
 use crate::errors::{NetworkLengthTooLongError, NetworkParseError};
 use crate::family::Family;
 use crate::inet::host::{Ipv4Inet, Ipv6Inet};
+use crate::text::print::append;
 use crate::text::read::{cut_at_last_slash, read_length};
 use crate::text::with_length::WithLength;
 use arrayvec::ArrayString;
@@ -397,6 +398,21 @@ impl IpInet {
             IpInet::V4(host) => host.to_text(),
             IpInet::V6(host) => host.to_text(),
         }
+    }
+
+    /// Appends the printed string, as `to_text` gives it, to one that the caller has. Where there is no room for the whole
+    /// of it, it fails, and the string is as it was.
+    ///
+    /// ```
+    /// let mut text = ArrayString::<43>::new();
+    /// "10.4.3.2/8".parse::<IpInet>()?.write_to(&mut text)?;
+    /// text // 10.4.3.2/8
+    /// ```
+    pub fn write_to<const CAP: usize>(&self, text: &mut ArrayString<CAP>) -> fmt::Result
+        ensures written { IsAppended CAP (ip_host_text plain_host_text self.now) text.old.bytes text.new.bytes result }
+        ensures len { length (ip_host_text plain_host_text self.now) ≤ 43 }
+    {
+        append(text, self.to_text().as_str())
     }
 
     /// The host, to be printed with its prefix length also where that is full.

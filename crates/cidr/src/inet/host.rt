@@ -15,7 +15,7 @@ use crate::cidr::network::Network;
 use crate::errors::{NetworkLengthTooLongError, NetworkParseError};
 use crate::family::Family;
 use crate::internal_traits::address_bits::{AddressBits, AddressText};
-use crate::text::print::{forced, plain};
+use crate::text::print::{append, forced, plain};
 use crate::text::read::{cut_at_last_slash, read_length};
 use crate::text::with_length::WithLength;
 use arrayvec::ArrayString;
@@ -382,7 +382,7 @@ impl<A: AddressBits> Host<A> {
 
 impl<A: AddressText> Host<A> {
     ghost use Rattle.cidr.specs.texts.HostText.{IsHostText};
-    ghost use Rattle.cidr.specs.texts.Printed.{plain_host_text, longest_text};
+    ghost use Rattle.cidr.specs.texts.Printed.{plain_host_text, longest_text, IsAppended};
 
     /// The printed string, with all bits of the address and without a full prefix length, in an `ArrayString`, so that
     /// nothing is allocated. It has at most 18 bytes in IPv4 and 43 in IPv6. Parsing it gives the same host.
@@ -397,6 +397,21 @@ impl<A: AddressText> Host<A> {
         ensures spells { IsHostText A.FAMILY result.bytes self.now }
     {
         plain(self.address, self.len)
+    }
+
+    /// Appends the printed string, as `to_text` gives it, to one that the caller has. Where there is no room for the whole
+    /// of it, it fails, and the string is as it was.
+    ///
+    /// ```
+    /// let mut text = ArrayString::<43>::new();
+    /// "10.4.3.2/8".parse::<Ipv4Inet>()?.write_to(&mut text)?;
+    /// text // 10.4.3.2/8
+    /// ```
+    pub fn write_to<const CAP: usize>(&self, text: &mut ArrayString<CAP>) -> fmt::Result
+        ensures written { IsAppended CAP (plain_host_text A.FAMILY self.now) text.old.bytes text.new.bytes result }
+        ensures len { length (plain_host_text A.FAMILY self.now) ≤ longest_text A.FAMILY }
+    {
+        append(text, self.to_text().as_str())
     }
 }
 

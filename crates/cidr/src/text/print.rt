@@ -2,11 +2,12 @@
 ghost use Rattle.std.specs.Prelude.{◌≡◌, ◌+◌, ◌≤◌, ◌++◌, length};
 ghost use Rattle.cidr.specs.model.Host.{host_of};
 ghost use Rattle.cidr.specs.model.Network.{width_of};
-ghost use Rattle.cidr.specs.texts.Printed.{length_text, plain_host_text, forced_host_text, longest_text, in_parentheses};
+ghost use Rattle.cidr.specs.texts.Printed.{length_text, plain_host_text, forced_host_text, longest_text, in_parentheses, IsAppended};
 
 use crate::addr::decimal::push_decimal;
 use crate::internal_traits::address_bits::AddressText;
 use arrayvec::ArrayString;
+use std::fmt;
 
 /// Appends a slash and the prefix length.
 #[inline(always)]
@@ -63,4 +64,16 @@ pub(crate) fn parenthesized(first: &str, second: &str) -> ArrayString<90>
     text.push_str(second);
     text.push(')');
     text
+}
+
+/// Appends a string where there is room for it.
+#[inline(always)]
+pub(crate) fn append<const CAP: usize>(text: &mut ArrayString<CAP>, printed: &str) -> fmt::Result
+    ensures { IsAppended CAP printed.now text.old.bytes text.new.bytes result }
+{
+    if CAP - text.len() < printed.len() {
+        return Err(fmt::Error);
+    }
+    text.push_str(printed);
+    Ok(())
 }

@@ -1,18 +1,18 @@
 //! The IPv6 types by the traits.
 ghost use Rattle.std.specs.Prelude.{refl};
 ghost use Rattle.cidr.specs.laws.BitLaws.{bit_eq_Decides};
-ghost use Rattle.cidr.specs.laws.EqualLaws.{host_eq_Decides, pair_eq_Decides};
-ghost use Rattle.cidr.specs.laws.TraitLaws.{reads_address, reads_network, reads_host};
+ghost use Rattle.cidr.specs.laws.EqualLaws.{pair_eq_Decides};
+ghost use Rattle.cidr.specs.laws.TraitLaws.{reads_address, reads_network};
 ghost use Rattle.cidr.specs.declared.family.Family.TheVariants.{Ipv6};
 
 use crate::addr::v6::Ipv6Addr;
 use crate::cidr::network::Ipv6Cidr;
-use crate::errors::{InetTupleError, NetworkLengthTooLongError, NetworkParseError};
+use crate::errors::{InetTupleError, NetworkParseError};
 use crate::family::Family;
 use crate::inet::host::Ipv6Inet;
 use crate::inet_iterator::InetIterator;
 use crate::inet_pair::host_pair::Ipv6InetPair;
-use crate::traits::{Address, Cidr, Inet, InetPair};
+use crate::traits::{Address, Cidr, InetPair};
 
 impl Address for Ipv6Addr {
     type Inet = Ipv6Inet;
@@ -91,97 +91,6 @@ impl Cidr for Ipv6Cidr {
     ghost ordered = { λ _ _. refl };
 
     ghost reads = { reads_network Ipv6 };
-
-    ghost prints = { λ _. refl };
-}
-
-#[tactic(auto, using(crate::proofs::Views::view_laws))]
-impl Inet for Ipv6Inet {
-    type Address = Ipv6Addr;
-
-    fn new(addr: Ipv6Addr, len: u8) -> Result<Ipv6Inet, NetworkLengthTooLongError> {
-        Ipv6Inet::new(addr, len)
-    }
-
-    fn new_host(addr: Ipv6Addr) -> Ipv6Inet {
-        Ipv6Inet::new_host(addr)
-    }
-
-    fn increment(&mut self) -> bool {
-        self.increment()
-    }
-
-    fn decrement(&mut self) -> bool {
-        self.decrement()
-    }
-
-    fn next(self) -> Option<Ipv6Inet> {
-        self.next()
-    }
-
-    fn previous(self) -> Option<Ipv6Inet> {
-        self.previous()
-    }
-
-    fn overflowing_add(self, step: u128) -> (Ipv6Inet, bool) {
-        self.overflowing_add(step)
-    }
-
-    fn overflowing_sub(self, step: u128) -> (Ipv6Inet, bool) {
-        self.overflowing_sub(step)
-    }
-
-    fn network(&self) -> Ipv6Cidr {
-        self.network()
-    }
-
-    fn address(&self) -> Ipv6Addr {
-        self.address()
-    }
-
-    fn first_address(&self) -> Ipv6Addr {
-        self.first_address()
-    }
-
-    fn first(&self) -> Ipv6Inet {
-        self.first()
-    }
-
-    fn last_address(&self) -> Ipv6Addr {
-        self.last_address()
-    }
-
-    fn last(&self) -> Ipv6Inet {
-        self.last()
-    }
-
-    fn network_length(&self) -> u8 {
-        self.network_length()
-    }
-
-    fn family(&self) -> Family {
-        self.family()
-    }
-
-    fn is_host_address(&self) -> bool {
-        self.is_host_address()
-    }
-
-    fn mask(&self) -> Ipv6Addr {
-        self.mask()
-    }
-
-    fn contains(&self, addr: &Ipv6Addr) -> bool {
-        self.contains(addr)
-    }
-
-    ghost equal = { host_eq_Decides };
-
-    ghost known = { λ _ _ _ h. h };
-
-    ghost ordered = { λ _ _. refl };
-
-    ghost reads = { reads_host Ipv6 };
 
     ghost prints = { λ _. refl };
 }

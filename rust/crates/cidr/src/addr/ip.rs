@@ -67,6 +67,25 @@ impl IpAddr {
             IpAddr::V6(address) => address.to_text(),
         }
     }
+
+    /// Appends the printed string, as `to_text` gives it, to one that the caller has. Where there is no room for the whole
+    /// of it, it fails, and the string is as it was.
+    ///
+    /// ```
+    /// # use cidr::{canon::*, errors::*, parsers::*, *};
+    /// use cidr_support::arrayvec::ArrayString;
+    /// let mut text = ArrayString::<39>::new();
+    /// "2001:DB8::1".parse::<IpAddr>()?.write_to(&mut text)?;
+    /// assert_eq!(format!("{}", text), "2001:db8::1");
+    /// # Ok::<(), Box<dyn std::error::Error>>(())
+    /// ```
+    #[inline]
+    pub fn write_to<const CAP: usize>(&self, text: &mut ArrayString<CAP>) -> fmt::Result {
+        match self {
+            IpAddr::V4(address) => address.write_to(text),
+            IpAddr::V6(address) => address.write_to(text),
+        }
+    }
 }
 
 impl From<Ipv4Addr> for IpAddr {

@@ -3,6 +3,7 @@
 use crate::addr::decimal::{push_decimal, push_decimal_dot};
 use crate::addr::error::AddrParseError;
 use crate::addr::read_v4::read_ipv4;
+use crate::text::print::append;
 use cidr_support::arrayvec::ArrayString;
 use core::cmp::Ordering;
 use core::fmt;
@@ -101,6 +102,26 @@ impl Ipv4Addr {
         let mut text = ArrayString::new();
         self.push_to(&mut text);
         text
+    }
+
+    /// Appends the printed string, as `to_text` gives it, to one that the caller has. Where there is no room for the whole
+    /// of it, it fails, and the string is as it was.
+    ///
+    /// ```
+    /// # use cidr::{canon::*, errors::*, parsers::*, *};
+    /// use cidr_support::arrayvec::ArrayString;
+    /// let mut text = ArrayString::<15>::new();
+    /// Ipv4Addr::new(192, 0, 2, 1).write_to(&mut text)?;
+    /// assert_eq!(format!("{}", text), "192.0.2.1");
+    /// # Ok::<(), Box<dyn std::error::Error>>(())
+    /// ```
+    #[inline]
+    pub fn write_to<const CAP: usize>(&self, text: &mut ArrayString<CAP>) -> fmt::Result {
+        if CAP - text.len() < 15 {
+            return append(text, self.to_text().as_str());
+        }
+        self.push_to(text);
+        Ok(())
     }
 }
 

@@ -5,6 +5,7 @@ use crate::addr::print_v6::push_hex_groups;
 use crate::addr::read_v6::read_ipv6;
 use crate::addr::v4::Ipv4Addr;
 use crate::arithmetic::halves::Halves;
+use crate::text::print::append;
 use cidr_support::arrayvec::ArrayString;
 use core::cmp::Ordering;
 use core::fmt;
@@ -151,6 +152,26 @@ impl Ipv6Addr {
         let mut text = ArrayString::new();
         self.push_to(&mut text);
         text
+    }
+
+    /// Appends the printed string, as `to_text` gives it, to one that the caller has. Where there is no room for the whole
+    /// of it, it fails, and the string is as it was.
+    ///
+    /// ```
+    /// # use cidr::{canon::*, errors::*, parsers::*, *};
+    /// use cidr_support::arrayvec::ArrayString;
+    /// let mut text = ArrayString::<39>::new();
+    /// "2001:DB8::1".parse::<Ipv6Addr>()?.write_to(&mut text)?;
+    /// assert_eq!(format!("{}", text), "2001:db8::1");
+    /// # Ok::<(), Box<dyn std::error::Error>>(())
+    /// ```
+    #[inline]
+    pub fn write_to<const CAP: usize>(&self, text: &mut ArrayString<CAP>) -> fmt::Result {
+        if CAP - text.len() < 39 {
+            return append(text, self.to_text().as_str());
+        }
+        self.push_to(text);
+        Ok(())
     }
 }
 
