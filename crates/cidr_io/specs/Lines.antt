@@ -15,6 +15,16 @@ Gives old new None buf = old ≡ None
 abbrev pub is_line_feed : ℕ → Bool
 is_line_feed byte = byte == 10
 
+-- the first line feed of a text stands at this index
+pub record IsFirstFeed (text : List ℕ) (place : ℕ) : Type 0 where
+  pub within : place < length text
+  pub here : is_line_feed (slice_index text place) ≡ true
+  pub before : (k : ℕ) → k < place → is_line_feed (slice_index text k) ≡ false
+
+-- a text has none
+abbrev pub HasNoFeed : List ℕ → Type 0
+HasNoFeed text = (k : ℕ) → k < length text → is_line_feed (slice_index text k) ≡ false
+
 -- the most bytes of a line, without its line feed: 1 MiB
 abbrev pub most_bytes : ℕ
 most_bytes = 1048576
@@ -47,16 +57,6 @@ pub record Lines : Type 0 where
   pub left : Option (List ℕ)
 
 -- ---- what private functions promise
--- the first line feed of a text stands at this index
-pub record IsFirstFeed (text : List ℕ) (place : ℕ) : Type 0 where
-  pub within : place < length text
-  pub here : is_line_feed (slice_index text place) ≡ true
-  pub before : (k : ℕ) → k < place → is_line_feed (slice_index text k) ≡ false
-
--- a text has none
-abbrev pub HasNoFeed : List ℕ → Type 0
-HasNoFeed text = (k : ℕ) → k < length text → is_line_feed (slice_index text k) ≡ false
-
 -- told bytes stay as they are
 abbrev pub StaysTold : Option (List ℕ) → Option (List ℕ) → Type 0
 StaysTold old new = IfSome old (λ text. new ≡ Some text)

@@ -39,8 +39,8 @@ impl From<AllocError> for ReadError {
     }
 }
 
-/// Where the first line feed stands.
-fn feed_in(text: &[u8]) -> Option<usize>
+/// Where the first line feed of a text stands.
+pub fn feed_in(text: &[u8]) -> Option<usize>
     ensures { MatchOption result (HasNoFeed text.now) (IsFirstFeed text.now) }
 {
     text.iter().position(|byte| *byte == b'\n')

@@ -17,6 +17,15 @@ pub enum Part<'a> {
     Shown(&'a str),
 }
 
+/// The hexadecimal digit, in lower case. The caller has to prove that it is below 16.
+pub fn hex_digit(digit: u8) -> char
+    requires { digit < 16 }
+    ensures value { result ≡ digit_char digit }
+    ensures ascii { result < 128 }
+{
+    char::from_digit(u32::from(digit), 16).unwrap()
+}
+
 /// `\x` and two hexadecimal digits.
 fn escape(code: u8) -> ArrayString<4>
     ensures { result.bytes ≡ escape code }
@@ -24,8 +33,8 @@ fn escape(code: u8) -> ArrayString<4>
     let mut text = ArrayString::new();
     text.push('\\');
     text.push('x');
-    text.push(char::from_digit(u32::from(code / 16), 16).unwrap());
-    text.push(char::from_digit(u32::from(code % 16), 16).unwrap());
+    text.push(hex_digit(code / 16));
+    text.push(hex_digit(code % 16));
     text
 }
 
