@@ -91,6 +91,15 @@ bools_decide false true = (λ e. absurd (false≢true e), λ e. absurd (false≢
 pub begins_decides : (a p : List Bool) → Decides (begins_with a p) (BeginsWith a p)
 begins_decides a p = pointwise_decides bools_decide (take (length p) a) p
 
+not_true : (b : Bool) → b ≢ true → b ≡ false
+not_true true n = absurd (n refl)
+not_true false n = refl
+
+-- what decides it is the same
+pub begins_from_decides : (r : Bool) (a p : List Bool) → Decides r (BeginsWith a p) → r ≡ begins_with a p
+begins_from_decides true a p h = sym ((begins_decides a p).1 (h.0 refl))
+begins_from_decides false a p h = sym (not_true (begins_with a p) (λ t. false≢true (h.1 ((begins_decides a p).0 t))))
+
 -- the shared length tells whether one begins with the other
 pub begins_from_shared : (a p : List Bool) (n : ℕ) → IsSharedLength a p n → (n == length p) ≡ begins_with a p
 begins_from_shared a p n h =
@@ -104,7 +113,3 @@ begins_from_shared a p n h =
       | inr other ↦
           ne_eqb n (length p) other ∙ sym (not_true (begins_with a p) (λ t. other (omega (arith, h.longest p ((begins_decides a p).0 t) (take_all (length p) p (omega arith))))))
     ]
-  where
-    not_true : (b : Bool) → b ≢ true → b ≡ false
-    not_true true n = absurd (n refl)
-    not_true false n = refl

@@ -5,6 +5,8 @@ pub mod SharedLengths
 pub mod Narrowing
 pub mod RowPlaces
 pub mod MapLaws
+pub mod Absent
+pub mod Offsets
 pub mod Writes
 pub mod InTurn
 pub mod Printed

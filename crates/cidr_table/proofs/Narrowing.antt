@@ -1,6 +1,6 @@
 -- The longest match: each search leaves fewer rows and shorter lengths to try.
 use Rattle.std.proofs.Common.{◌≡◌, ◌≢◌, refl, sym, ◌∙◌, ap, arith, inl, inr, ℕ, ◌+◌, ◌-◌, ◌*◌, ◌^◌, ◌<◌, ◌≤◌, Bool, List, [], ◌∷◌, length, get_or, take, length-take, Ok, Err}
-use Rattle.std.proofs.Math.Nat.{pow-zero, add-mul}
+use Rattle.std.proofs.Math.Nat.{pow-zero, add-mul, mul-le-mul_left, mul-le-mul_right}
 use Rattle.std.proofs.lemmas.Bool.{cases_lt, cases_eq}
 use Rattle.std.proofs.lemmas.List.{take-take, get_or_default}
 use Rattle.std.proofs.lemmas.Map.Keys.{Less-from_sorted}
@@ -29,6 +29,15 @@ pub record Narrowed {C : Type 0} (bits : C → List Bool) (old keys : List C) (a
   pub some : 0 < end → 0 < spare
   pub room : spare + len * d ≤ (length (bits asked) + 1) * d
   pub cost : now + len * d + spare ≤ before + (length (bits asked) + 1) * d
+
+-- what each length may cost is no more with more digits
+pub more_digits : (len few many before now : ℕ) → now ≤ before + len * few → few ≤ many → now ≤ before + len * many
+more_digits len few many before now h more = let all : len * few ≤ len * many = mul-le-mul_left len more in omega arith
+
+-- a search within what is left over stays within what all lengths may cost
+pub one_search : (all len d before now after spare tries : ℕ) → 0 < len → tries ≤ spare → after ≤ now + tries + d
+    → now + len * d + spare ≤ before + all * d → after ≤ before + all * d
+one_search all len d before now after spare tries some fits cost room = let one : 1 * d ≤ len * d = mul-le-mul_right d some in omega arith
 
 module _ {C : Type 0} (cmp : C → C → Ordering) (o : IsTotalOrder cmp) (bits : C → List Bool)
     (ordered : (x y : C) → cmp x y ≡ bit_cmp (bits x) (bits y)) (keys : List C) (sorted : IsStrictlySortedBy cmp keys) (asked : C) where

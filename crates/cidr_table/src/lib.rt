@@ -12,12 +12,12 @@
 //! routes.lookup(&AnyIpCidr::from(network)) // Some((V4(10.0.0.0/8), 1))
 //! ```
 //!
-//! A table is filled by `insert`:
+//! A table is filled by `set`, or by `insert`:
 //!
 //! ```
 //! let mut routes = Routes::new(rt.alloc());
-//! routes.insert("0.0.0.0/0".parse()?, Ipv4Addr::new(192, 0, 2, 1))?;
-//! routes.insert("10.0.0.0/8".parse()?, Ipv4Addr::new(192, 0, 2, 2))?;
+//! routes.set("0.0.0.0/0".parse()?, Ipv4Addr::new(192, 0, 2, 1))?;
+//! routes.set("10.0.0.0/8".parse()?, Ipv4Addr::new(192, 0, 2, 2))?;
 //! next_hop(&routes, Ipv4Addr::new(10, 1, 2, 3)) // Some(192.0.2.2)
 //! next_hop(&routes, Ipv4Addr::new(198, 51, 100, 1)) // Some(192.0.2.1)
 //! ```
@@ -35,8 +35,7 @@
 //! `insert` returns the value that the key had before, and `get` and `remove` what the key has:
 //!
 //! ```
-//! let before = routes.insert("10.0.0.0/8".parse()?, Ipv4Addr::new(192, 0, 2, 3))?;
-//! before // Some(192.0.2.2)
+//! routes.insert("10.0.0.0/8".parse()?, Ipv4Addr::new(192, 0, 2, 3)) // Ok(Some(192.0.2.2))
 //! routes.get(&"10.0.0.0/8".parse()?) // Some(192.0.2.3)
 //! routes.remove(&"0.0.0.0/0".parse()?) // Some(192.0.2.1)
 //! ```
@@ -70,8 +69,7 @@
 //! ```
 //! match LpmTable::<Ipv4Cidr, usize>::load(rt.alloc(), &[8, 10, 40]) {
 //!     Ok(table) => println!(rt; "{} rows", table.len())?,
-//!     Err(LoadError::Prefix(index, error)) => println!(rt; "prefix {index}: {error}")?,
-//!     Err(LoadError::NoMemory) => return Err(Failure::NoMemory),
+//!     Err(error) => println!(rt; "{error}")?,
 //! }
 //! ```
 //!
@@ -108,6 +106,7 @@ pub use count::Count;
 pub use lookup::longest_match;
 pub use probe::Probe;
 pub use rows::Rows;
+pub use search::is_inside;
 pub use table::LpmTable;
 pub use table::cover::least_cover_in_place;
 pub use table::iterators::{IntoIter, Keys, Values};

@@ -1,7 +1,10 @@
-//! The searches by halving: for a key, and for how many bits of the look-up key a key begins with.
+//! The searches by halving: for a key, and for how many bits of the look-up key a key begins with; and whether a network is
+//! inside another.
 ghost use Rattle.std.specs.Prelude.{◌≡◌, ℕ, ◌+◌, ◌-◌, ◌^◌, ◌<◌, ◌≤◌, length, slice_index_or, take};
+ghost use Rattle.std.specs.Bool.{Decides};
 ghost use Rattle.std.specs.List.Sorted.{IsStrictlySortedBy};
 ghost use Rattle.std.specs.declared.cmp.Ordering.TheVariants.{Less};
+ghost use Rattle.cidr.specs.model.Network.{BeginsWith};
 ghost use Rattle.cidr_table.specs.internal.Places.{IsPlace, IsShared};
 
 use crate::probe::Probe;
@@ -125,6 +128,18 @@ pub fn shared_len<C: NetworkBits + Copy, P: Probe<C>>(
         left = next;
     }
     Err(low)
+}
+
+/// Whether a network is inside the outer one or the same: whether its bits begin with those of the outer one.
+///
+/// ```
+/// is_inside::<Ipv4Cidr>(&"10.1.0.0/16".parse()?, &"10.0.0.0/8".parse()?) // true
+/// is_inside::<Ipv4Cidr>(&"10.0.0.0/8".parse()?, &"10.1.0.0/16".parse()?) // false
+/// ```
+pub fn is_inside<C: BitString>(network: &C, outer: &C) -> bool
+    ensures { Decides result (BeginsWith (C.bits network.now) (C.bits outer.now)) }
+{
+    network.shared_prefix_len(outer) == outer.len()
 }
 
 /// The first `len` bits of a network.

@@ -9,7 +9,7 @@ ghost use Rattle.cidr_table.specs.model.Prefixes.{AreInside};
 ghost use Rattle.cidr_table.specs.internal.Places.{IsPlace, IsLowerBound, begins_with};
 
 use crate::rows::Rows;
-use crate::search::search;
+use crate::search::{is_inside, search};
 use cidr::NetworkBits;
 use std::alloc::{AllocError, Global};
 use std::marker::Model;
@@ -304,7 +304,7 @@ impl<C: NetworkBits + Copy, V> LpmTable<C, V> {
     {
         let rows = self.ascending();
         let from = &rows[lower_bound(rows, outer)..];
-        let len = from.partition_point(|row| is_inside(&row.0, outer));
+        let len = from.partition_point(|row| is_row_inside(row, outer));
         &from[..len]
     }
 }
@@ -318,9 +318,9 @@ fn lower_bound<C: NetworkBits, V>(rows: &[(C, V)], key: &C) -> usize
     place
 }
 
-/// Whether the bits of a key begin with those of the outer network.
-fn is_inside<C: NetworkBits>(key: &C, outer: &C) -> bool
-    ensures { result ≡ begins_with (C.bits key.now) (C.bits outer.now) }
+/// Whether the key of a row is in the outer network.
+fn is_row_inside<C: NetworkBits, V>(row: &(C, V), outer: &C) -> bool
+    ensures { result ≡ begins_with (C.bits row.now.0) (C.bits outer.now) }
 {
-    key.shared_prefix_len(outer) == outer.len()
+    is_inside(&row.0, outer)
 }

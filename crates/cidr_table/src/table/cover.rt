@@ -8,7 +8,8 @@ ghost use Rattle.cidr.specs.model.Bits.{bit_cmp};
 ghost use Rattle.cidr_table.specs.model.Cover.{Covers, IsLeastCover};
 ghost use Rattle.cidr_table.specs.internal.CoverStack.{AreHalvesInOrder, AreBefore, IsReduced, IsPushed};
 
-use crate::table::{LpmTable, is_inside};
+use crate::search::is_inside;
+use crate::table::LpmTable;
 use cidr::{BitString, NetworkBits};
 
 impl<C: NetworkBits + Copy, V> LpmTable<C, V> {

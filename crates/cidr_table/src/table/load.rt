@@ -8,15 +8,33 @@ use crate::table::LpmTable;
 use cidr::errors::PrefixBytesError;
 use cidr::{NetworkBits, PrefixBytes};
 use std::alloc::Global;
+use std::error::Error;
+use std::fmt;
 
 /// Why bytes are not loaded as a table.
 #[derive(Debug, Drop, PartialEq)]
 pub enum LoadError {
-    /// The prefix at this index, counted from 0, is not parsed.
+    /// The prefix at this index, counted from 0, is not parsed: `prefix 1: prefix length is too long`.
     Prefix(usize, PrefixBytesError),
-    /// An allocation failed.
+    /// An allocation failed: `memory allocation failed`.
     NoMemory,
 }
+
+impl fmt::Display for LoadError {
+    ghost use Rattle.std.specs.Prelude.{Some};
+    ghost use Rattle.cidr_table.specs.model.Messages.{load_message};
+
+    ghost output = { λ e. Some (load_message e) };
+
+    fn fmt<W: fmt::Write>(&self, f: &mut fmt::Formatter<W>) -> fmt::Result {
+        match self {
+            LoadError::Prefix(index, e) => write!(f, "prefix {index}: {e}"),
+            LoadError::NoMemory => f.write_str("memory allocation failed"),
+        }
+    }
+}
+
+impl Error for LoadError {}
 
 impl<C: PrefixBytes + Copy> LpmTable<C, usize> {
     /// The table of prefixes written one after the other as prefix bytes, each with its index, counted from 0. Of equal

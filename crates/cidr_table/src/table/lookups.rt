@@ -8,9 +8,9 @@ ghost use Rattle.cidr_table.specs.internal.Above.{IsReached, AreLinks};
 ghost use Rattle.cidr_table.specs.model.Prefixes.{IsLookedUp};
 
 use crate::rows::Rows;
-use crate::search::{clipped, search, search_back, search_between};
+use crate::search::{clipped, is_inside, search, search_back, search_between};
+use crate::table::LpmTable;
 use crate::table::hints::Hints;
-use crate::table::{LpmTable, is_inside};
 use cidr::NetworkBits;
 use std::alloc::{AllocError, Global};
 use std::marker::Model;

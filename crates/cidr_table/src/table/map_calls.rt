@@ -8,7 +8,7 @@ ghost use Rattle.std.specs.Map.{keys_of};
 ghost use Rattle.cidr_table.specs.model.FiniteMap.{IsUnder, IsInserted};
 ghost use Rattle.cidr_table.specs.model.Prefixes.{AreOutside};
 
-use crate::table::{LpmTable, is_inside};
+use crate::table::{LpmTable, is_row_inside};
 use cidr::NetworkBits;
 use std::alloc::AllocError;
 
@@ -120,7 +120,7 @@ impl<C: NetworkBits + Copy, V: Drop> LpmTable<C, V> {
         ensures sorted { IsStrictlySortedBy C.cmp (keys_of self.new.rows) }
     {
         let before = self.rows.len();
-        self.rows.retain(|row| !is_inside(&row.0, outer));
+        self.rows.retain(|row| !is_row_inside(row, outer));
         before - self.rows.len()
     }
 }

@@ -6,8 +6,8 @@ ghost use Rattle.std.specs.Map.{keys_of};
 ghost use Rattle.cidr_table.specs.model.Prefixes.{AreMatching, AreShortestFirst};
 ghost use Rattle.cidr_table.specs.internal.Places.{matching};
 
-use crate::search::clipped;
-use crate::table::{LpmTable, is_inside, lower_bound};
+use crate::search::{clipped, is_inside};
+use crate::table::{LpmTable, lower_bound};
 use cidr::{BitString, NetworkBits};
 use std::iter::FusedIterator;
 use std::marker::Model;

@@ -17,10 +17,8 @@
 pub use cidr_support::alloc::{AllocError, Global};
 pub use cidr_support::vec::Vec;
 
-use crate::{LoadError, LpmTable};
+use crate::LpmTable;
 use cidr::NetworkBits;
-use core::error::Error;
-use core::fmt;
 
 /// What a collection does where memory runs out and no error can be returned.
 fn some_memory<T, E>(made: Result<T, E>) -> T {
@@ -65,14 +63,3 @@ impl<C: NetworkBits + Copy, V> FromIterator<(C, V)> for LpmTable<C, V> {
         LpmTable::from_rows(list)
     }
 }
-
-impl fmt::Display for LoadError {
-    fn fmt(&self, f: &mut fmt::Formatter<'_>) -> fmt::Result {
-        match self {
-            LoadError::Prefix(index, error) => write!(f, "prefix {index}: {error}"),
-            LoadError::NoMemory => AllocError.fmt(f),
-        }
-    }
-}
-
-impl Error for LoadError {}

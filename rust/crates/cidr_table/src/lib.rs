@@ -12,14 +12,23 @@
 //! assert_eq!(format!("{:?}", routes.lookup(&AnyIpCidr::from(network))), "Some((V4(10.0.0.0/8), 1))");
 //! ```
 //!
-//! A table is filled by `insert`:
+//! A table is filled by `set`, or by `insert`:
 //!
-//! ```text
+//! ```
+//! # use cidr::{errors::*, *};
+//! # use cidr_table::{alloc::*, *};
+//! # type Routes = LpmTable<Ipv4Cidr, Ipv4Addr>;
+//! # fn next_hop(routes: &Routes, address: Ipv4Addr) -> Option<Ipv4Addr> {
+//! #     let index = longest_match(&mut routes.probe(), &Ipv4Cidr::new_host(address))?;
+//! #     let (_network, next_hop) = routes.row(index)?;
+//! #     Some(*next_hop)
+//! # }
 //! let mut routes = Routes::new(Global);
-//! routes.insert("0.0.0.0/0".parse()?, Ipv4Addr::new(192, 0, 2, 1))?;
-//! routes.insert("10.0.0.0/8".parse()?, Ipv4Addr::new(192, 0, 2, 2))?;
+//! routes.set("0.0.0.0/0".parse()?, Ipv4Addr::new(192, 0, 2, 1))?;
+//! routes.set("10.0.0.0/8".parse()?, Ipv4Addr::new(192, 0, 2, 2))?;
 //! assert_eq!(format!("{:?}", next_hop(&routes, Ipv4Addr::new(10, 1, 2, 3))), "Some(192.0.2.2)");
 //! assert_eq!(format!("{:?}", next_hop(&routes, Ipv4Addr::new(198, 51, 100, 1))), "Some(192.0.2.1)");
+//! # Ok::<(), Box<dyn std::error::Error>>(())
 //! ```
 //!
 //! `Routes` is `LpmTable<Ipv4Cidr, Ipv4Addr>`, and `next_hop` looks an address up by the network of that address alone:
@@ -38,11 +47,21 @@
 //!
 //! `insert` returns the value that the key had before, and `get` and `remove` what the key has:
 //!
-//! ```text
-//! let before = routes.insert("10.0.0.0/8".parse()?, Ipv4Addr::new(192, 0, 2, 3))?;
-//! assert_eq!(format!("{:?}", before), "Some(192.0.2.2)");
+//! ```
+//! # use cidr::{errors::*, *};
+//! # use cidr_table::{alloc::*, *};
+//! # type Routes = LpmTable<Ipv4Cidr, Ipv4Addr>;
+//! # fn next_hop(routes: &Routes, address: Ipv4Addr) -> Option<Ipv4Addr> {
+//! #     let index = longest_match(&mut routes.probe(), &Ipv4Cidr::new_host(address))?;
+//! #     let (_network, next_hop) = routes.row(index)?;
+//! #     Some(*next_hop)
+//! # }
+//! let rows = [("0.0.0.0/0", Ipv4Addr::new(192, 0, 2, 1)), ("10.0.0.0/8", Ipv4Addr::new(192, 0, 2, 2))];
+//! let mut routes: Routes = rows.map(|(network, hop)| (network.parse().unwrap(), hop)).into_iter().collect();
+//! assert_eq!(format!("{:?}", routes.insert("10.0.0.0/8".parse()?, Ipv4Addr::new(192, 0, 2, 3))), "Ok(Some(192.0.2.2))");
 //! assert_eq!(format!("{:?}", routes.get(&"10.0.0.0/8".parse()?)), "Some(192.0.2.3)");
 //! assert_eq!(format!("{:?}", routes.remove(&"0.0.0.0/0".parse()?)), "Some(192.0.2.1)");
+//! # Ok::<(), Box<dyn std::error::Error>>(())
 //! ```
 //!
 //! `insert` and `set` of a new key without room, `with_capacity`, `reserve`, `lookups`, `into_lookups`, `clone`, `load`
@@ -80,12 +99,20 @@
 //!
 //! Bytes that are no table give the index of the first network that is rejected, and why:
 //!
-//! ```text
+//! ```
+//! # use cidr::{errors::*, *};
+//! # use cidr_table::{alloc::*, *};
+//! # type Routes = LpmTable<Ipv4Cidr, Ipv4Addr>;
+//! # fn next_hop(routes: &Routes, address: Ipv4Addr) -> Option<Ipv4Addr> {
+//! #     let index = longest_match(&mut routes.probe(), &Ipv4Cidr::new_host(address))?;
+//! #     let (_network, next_hop) = routes.row(index)?;
+//! #     Some(*next_hop)
+//! # }
 //! match LpmTable::<Ipv4Cidr, usize>::load(Global, &[8, 10, 40]) {
 //!     Ok(table) => println!("{} rows", table.len()),
-//!     Err(LoadError::Prefix(index, error)) => println!("prefix {index}: {error}"),
-//!     Err(LoadError::NoMemory) => return Err(Failure::NoMemory),
+//!     Err(error) => println!("{error}"),
 //! }
+//! # Ok::<(), Box<dyn std::error::Error>>(())
 //! ```
 //!
 //! which prints
@@ -138,6 +165,7 @@ pub use count::Count;
 pub use lookup::longest_match;
 pub use probe::Probe;
 pub use rows::Rows;
+pub use search::is_inside;
 pub use table::LpmTable;
 pub use table::cover::least_cover_in_place;
 pub use table::iterators::{IntoIter, Keys, Values};

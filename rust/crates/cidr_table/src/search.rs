@@ -1,4 +1,5 @@
-//! The searches by halving: for a key, and for how many bits of the look-up key a key begins with.
+//! The searches by halving: for a key, and for how many bits of the look-up key a key begins with; and whether a network is
+//! inside another.
 
 use crate::probe::Probe;
 use cidr::{BitString, NetworkBits};
@@ -94,6 +95,21 @@ pub fn shared_len<C: NetworkBits + Copy, P: Probe<C>>(
         left = next;
     }
     Err(low)
+}
+
+/// Whether a network is inside the outer one or the same: whether its bits begin with those of the outer one.
+///
+/// ```
+/// # use cidr::{errors::*, *};
+/// # use cidr_table::{alloc::*, *};
+/// # type Routes = LpmTable<Ipv4Cidr, u32>;
+/// assert!(is_inside::<Ipv4Cidr>(&"10.1.0.0/16".parse()?, &"10.0.0.0/8".parse()?));
+/// assert!(!(is_inside::<Ipv4Cidr>(&"10.0.0.0/8".parse()?, &"10.1.0.0/16".parse()?)));
+/// # Ok::<(), Box<dyn std::error::Error>>(())
+/// ```
+#[inline]
+pub fn is_inside<C: BitString>(network: &C, outer: &C) -> bool {
+    network.shared_prefix_len(outer) == outer.len()
 }
 
 /// The first `len` bits of a network.

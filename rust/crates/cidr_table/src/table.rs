@@ -2,7 +2,7 @@
 
 use cidr_support::vec::Vec;
 use crate::rows::Rows;
-use crate::search::search;
+use crate::search::{is_inside, search};
 use cidr::NetworkBits;
 use cidr_support::alloc::{AllocError, Global};
 use core::mem;
@@ -290,7 +290,7 @@ impl<C: NetworkBits + Copy, V> LpmTable<C, V> {
     pub fn inside(&self, outer: &C) -> &[(C, V)] {
         let rows = self.ascending();
         let from = &rows[lower_bound(rows, outer)..];
-        let len = from.partition_point(|row| is_inside(&row.0, outer));
+        let len = from.partition_point(|row| is_row_inside(row, outer));
         &from[..len]
     }
 }
@@ -302,8 +302,8 @@ fn lower_bound<C: NetworkBits, V>(rows: &[(C, V)], key: &C) -> usize {
     place
 }
 
-/// Whether the bits of a key begin with those of the outer network.
+/// Whether the key of a row is in the outer network.
 #[inline]
-fn is_inside<C: NetworkBits>(key: &C, outer: &C) -> bool {
-    key.shared_prefix_len(outer) == outer.len()
+fn is_row_inside<C: NetworkBits, V>(row: &(C, V), outer: &C) -> bool {
+    is_inside(&row.0, outer)
 }

@@ -1,9 +1,10 @@
-use Rattle.std.proofs.Common.{refl, sym, ◌∙◌, ◌≡◌, arith, ◌-◌, ap, true}
+use Rattle.std.proofs.Common.{refl, sym, ◌∙◌, ◌≡◌, ◌+◌, ◌≤◌, arith, ◌-◌, ◌*◌, ap, length, true}
+use Rattle.std.proofs.Math.Nat.{mul-le-mul_right}
 use Rattle.std.proofs.lemmas.Bool.{true≢false, false≢true}
 use Rattle.std.specs.Ordering.{is_eq}
 use Rattle.std.specs.declared.cmp.Ordering.{Ordering}
 use Rattle.std.specs.declared.cmp.Ordering.TheVariants.{Less, Equal, Greater}
-use Rattle.cidr_table.proofs.Narrowing.{found, not_found, begins_itself, shared_only, none_left, no_rows_left}
+use Rattle.cidr_table.proofs.Narrowing.{narrowed_none, found, not_found, begins_itself, shared_only, none_left, no_rows_left, more_digits, one_search}
 use Rattle.cidr_table.proofs.lookup.longest_match.Goals as goal
 use Rattle.cidr_table.proofs.lookup.longest_match.Goals.{then-loop-end-test+else-len-gt0, else-loop-end-test, else-end-gt0-2-via-then-end-gt0-2+else-is_eq, else-end-gt0-2-via-else-end-gt0-2}
 
@@ -101,3 +102,92 @@ returns-else-end-gt0-2-clause-place g c =
           (g.P.Probe.keys c.args.rows.now) c.requires c.args.asked.now (g.P.Probe.count c.args.rows.now)
           (g.P.Probe.count c.loop-end.rows) c.loop-end.len c.loop-end.spare c.binary_digits-digits.result (rw (t.same, last) at t)
     ]
+
+pub overflow_sub-spare : goal.overflow_sub-spare
+overflow_sub-spare g c = omega arith
+
+pub overflow_sub-len : goal.overflow_sub-len
+overflow_sub-len g c = omega arith
+
+pub overflow_sub-end : goal.overflow_sub-end
+overflow_sub-end g c = omega arith
+
+pub overflow_sub-result : goal.overflow_sub-result
+overflow_sub-result g c = omega arith
+
+pub shared_len-requires-clause-most : goal.shared_len-requires-clause-most
+shared_len-requires-clause-most g c = omega arith
+
+pub overflow_sub-spare-in-Err-shared_len : goal.overflow_sub-spare-in-Err-shared_len
+overflow_sub-spare-in-Err-shared_len g c = omega arith
+
+pub loop-end-smaller : goal.loop-end-smaller
+loop-end-smaller g c = omega arith
+
+pub returns-in-Ok-clause-keys : goal.returns-in-Ok-clause-keys
+returns-in-Ok-clause-keys g c = c.in-Ok.ensures.keys ∙ c.loop-end.invariant.same
+
+pub returns-in-Ok-shared_len-clause-keys : goal.returns-in-Ok-shared_len-clause-keys
+returns-in-Ok-shared_len-clause-keys g c = c.in-Ok-shared_len.ensures.keys ∙ (c.in-Err.ensures.keys ∙ c.loop-end.invariant.same)
+
+pub returns-then-is_eq-clause-keys : goal.returns-then-is_eq-clause-keys
+returns-then-is_eq-clause-keys g c = c.compare.ensures.keys ∙ c.loop-end.invariant.same
+
+pub search_back-requires-clause-sorted : goal.search_back-requires-clause-sorted
+search_back-requires-clause-sorted g c = rw c.loop-end.invariant.same c.requires
+
+-- the comparisons
+pub returns-in-Ok-clause-cost : goal.returns-in-Ok-clause-cost
+returns-in-Ok-clause-cost g c = λ d small.
+    let t = c.loop-end.invariant in
+    let all = length (g.C.BitString.bits c.args.asked.now) + 1 in
+    let digits = c.binary_digits-digits.result in
+    let before = g.P.Probe.count c.args.rows.now in
+    let cost = c.in-Ok.ensures.cost digits (omega (arith, t.within)) in
+    more_digits all digits d before (g.P.Probe.count c.search_back.new.rows)
+    (one_search all c.loop-end.len digits before (g.P.Probe.count c.loop-end.rows) (g.P.Probe.count c.search_back.new.rows)
+    c.loop-end.spare c.min-tries.result (omega arith) (omega arith) cost t.cost)
+    (c.binary_digits-digits.ensures.least d (rw c.len.ensures small))
+
+pub returns-in-Ok-shared_len-clause-cost : goal.returns-in-Ok-shared_len-clause-cost
+returns-in-Ok-shared_len-clause-cost g c = λ d small.
+    let t = c.loop-end.invariant in
+    let all = length (g.C.BitString.bits c.args.asked.now) + 1 in
+    let digits = c.binary_digits-digits.result in
+    let before = g.P.Probe.count c.args.rows.now in
+    let cost = c.in-Err.ensures.cost digits (omega (arith, t.within)) in
+    let shared = c.in-Ok-shared_len.ensures.cost c.binary_digits-cost.result c.binary_digits-cost.ensures.fits in
+    more_digits all digits d before (g.P.Probe.count c.shared_len.new.rows)
+    (one_search all c.loop-end.len digits before (g.P.Probe.count c.loop-end.rows) (g.P.Probe.count c.shared_len.new.rows)
+    c.loop-end.spare (c.min-tries.result + c.binary_digits-cost.result) (omega arith) (omega arith) (omega (arith, cost, shared)) t.cost)
+    (c.binary_digits-digits.ensures.least d (rw c.len.ensures small))
+
+pub returns-then-is_eq-clause-cost : goal.returns-then-is_eq-clause-cost
+returns-then-is_eq-clause-cost g c = λ d small.
+    let t = c.loop-end.invariant in
+    let all = length (g.C.BitString.bits c.args.asked.now) + 1 in
+    let digits = c.binary_digits-digits.result in
+    let before = g.P.Probe.count c.args.rows.now in
+    more_digits all digits d before (g.P.Probe.count c.compare.new.self) (omega (arith, t.cost, t.some, c.compare.ensures.count))
+    (c.binary_digits-digits.ensures.least d (rw c.len.ensures small))
+
+pub loop-end-init : goal.loop-end-init
+loop-end-init g c =
+    rw (c.len-end.ensures, c.len-len.ensures.value) (narrowed_none g.C.Ord.cmp g.met.C.Ord.total g.C.BitString.bits g.met.C.NetworkBits.ordered
+    (g.P.Probe.keys c.args.rows.now) c.requires c.args.asked.now (g.P.Probe.count c.args.rows.now) c.binary_digits-digits.result
+    (rw c.len.ensures at c.binary_digits-digits.ensures.fits))
+
+pub overflow_mul-spare : goal.overflow_mul-spare
+overflow_mul-spare g c =
+    let digits = c.binary_digits-digits.result in
+    let left = c.loop-end.len - 1 - c.in-Err-shared_len.shared in
+    let most : left * digits ≤ 255 * digits = mul-le-mul_right digits (omega (arith, c.loop-end.invariant.shorter, c.len-len.ensures.value, c.len-len.ensures.fits)) in
+    omega (arith, most, c.binary_digits-digits.ensures.bound)
+
+pub overflow_add-spare : goal.overflow_add-spare
+overflow_add-spare g c =
+    let digits = c.binary_digits-digits.result in
+    let left = c.loop-end.len - 1 - c.in-Err-shared_len.shared in
+    let most : left * digits ≤ 255 * digits = mul-le-mul_right digits (omega (arith, c.loop-end.invariant.shorter, c.len-len.ensures.value, c.len-len.ensures.fits)) in
+    let all : (length (g.C.BitString.bits c.args.asked.now) + 1) * digits ≤ 256 * digits = mul-le-mul_right digits (omega (arith, c.len-len.ensures.value, c.len-len.ensures.fits)) in
+    omega (arith, most, all, c.loop-end.invariant.room, c.binary_digits-digits.ensures.bound)

@@ -1,6 +1,7 @@
 //! The shortest list of networks that holds the same addresses as the keys of a table.
 
-use crate::table::{LpmTable, is_inside};
+use crate::search::is_inside;
+use crate::table::LpmTable;
 use cidr::{BitString, NetworkBits};
 
 impl<C: NetworkBits + Copy, V> LpmTable<C, V> {

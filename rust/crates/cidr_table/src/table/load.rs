@@ -5,15 +5,29 @@ use crate::table::LpmTable;
 use cidr::errors::PrefixBytesError;
 use cidr::{NetworkBits, PrefixBytes};
 use cidr_support::alloc::Global;
+use core::error::Error;
+use core::fmt;
 
 /// Why bytes are not loaded as a table.
 #[derive(Debug, PartialEq)]
 pub enum LoadError {
-    /// The prefix at this index, counted from 0, is not parsed.
+    /// The prefix at this index, counted from 0, is not parsed: `prefix 1: prefix length is too long`.
     Prefix(usize, PrefixBytesError),
-    /// An allocation failed.
+    /// An allocation failed: `memory allocation failed`.
     NoMemory,
 }
+
+impl fmt::Display for LoadError {
+    #[inline]
+    fn fmt(&self, f: &mut fmt::Formatter<'_>) -> fmt::Result {
+        match self {
+            LoadError::Prefix(index, e) => write!(f, "prefix {index}: {e}"),
+            LoadError::NoMemory => f.write_str("memory allocation failed"),
+        }
+    }
+}
+
+impl Error for LoadError {}
 
 impl<C: PrefixBytes + Copy> LpmTable<C, usize> {
     /// The table of prefixes written one after the other as prefix bytes, each with its index, counted from 0. Of equal

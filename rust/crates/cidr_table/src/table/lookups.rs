@@ -2,9 +2,9 @@
 
 use cidr_support::vec::Vec;
 use crate::rows::Rows;
-use crate::search::{clipped, search, search_back, search_between};
+use crate::search::{clipped, is_inside, search, search_back, search_between};
+use crate::table::LpmTable;
 use crate::table::hints::Hints;
-use crate::table::{LpmTable, is_inside};
 use cidr::NetworkBits;
 use cidr_support::alloc::{AllocError, Global};
 

@@ -1,6 +1,6 @@
 //! The calls that every map has.
 
-use crate::table::{LpmTable, is_inside};
+use crate::table::{LpmTable, is_row_inside};
 use cidr::NetworkBits;
 use cidr_support::alloc::AllocError;
 
@@ -128,7 +128,7 @@ impl<C: NetworkBits + Copy, V> LpmTable<C, V> {
     #[inline]
     pub fn remove_inside(&mut self, outer: &C) -> usize {
         let before = self.rows.len();
-        self.rows.retain(|row| !is_inside(&row.0, outer));
+        self.rows.retain(|row| !is_row_inside(row, outer));
         before - self.rows.len()
     }
 }

@@ -1,7 +1,7 @@
 //! All rows whose key begins the look-up key.
 
-use crate::search::clipped;
-use crate::table::{LpmTable, is_inside, lower_bound};
+use crate::search::{clipped, is_inside};
+use crate::table::{LpmTable, lower_bound};
 use cidr::{BitString, NetworkBits};
 use core::iter::FusedIterator;
 

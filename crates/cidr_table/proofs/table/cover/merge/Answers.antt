@@ -4,6 +4,7 @@ use Rattle.std.proofs.lemmas.Bool.Decides.{not_from_Decides}
 use Rattle.cidr_table.specs.internal.CoverStack.{AreHalvesInOrder}
 use Rattle.cidr_table.proofs.Passing.{merging_none, merging_done, two_read, clipped_is, still_merging}
 use Rattle.cidr_table.proofs.Stacks.{last_two, closed_alone, closed_apart}
+use Rattle.cidr_table.proofs.Offsets.{offset_fits}
 use Rattle.cidr_table.proofs.table.cover.merge.Goals as goal
 
 pub loop-n-init : goal.loop-n-init
@@ -83,3 +84,39 @@ loop-n-preserved g c =
       merging = still_merging f out n c.loop-n-test.true within 129 old h.merging u v x
           c.index-out-n.is c.index-out-n-in-loop-n.is halves clipped;
     }
+
+pub bounds-out-n : goal.bounds-out-n
+bounds-out-n g c = omega (arith, c.loop-n.invariant.fewer, c.loop-n.invariant.places, c.requires.within)
+
+pub bounds-out-n-in-loop-n : goal.bounds-out-n-in-loop-n
+bounds-out-n-in-loop-n g c = omega (arith, c.loop-n.invariant.fewer, c.loop-n.invariant.places, c.requires.within)
+
+pub bounds-out-n-in-loop-n-2 : goal.bounds-out-n-in-loop-n-2
+bounds-out-n-in-loop-n-2 g c = omega (arith, c.loop-n.invariant.fewer, c.loop-n.invariant.places, c.requires.within)
+
+pub bounds-out-n-in-loop-n-3 : goal.bounds-out-n-in-loop-n-3
+bounds-out-n-in-loop-n-3 g c = omega (arith, c.loop-n.invariant.fewer, c.loop-n.invariant.places, c.requires.within)
+
+pub overflow_sub-n-in-loop-n : goal.overflow_sub-n-in-loop-n
+overflow_sub-n-in-loop-n g c = omega arith
+
+pub overflow_sub-n-in-loop-n-4 : goal.overflow_sub-n-in-loop-n-4
+overflow_sub-n-in-loop-n-4 g c = omega arith
+
+pub loop-n-smaller : goal.loop-n-smaller
+loop-n-smaller g c = omega arith
+
+pub returns-else-are_halves-clause-fewer : goal.returns-else-are_halves-clause-fewer
+returns-else-are_halves-clause-fewer g c = omega arith
+
+pub offset_bounds-out-n : goal.offset_bounds-out-n
+offset_bounds-out-n g c = offset_fits _ (c.loop-n.n - 2) (length c.args.out.now) c.well_formed.0.1 (omega (arith, c.loop-n.invariant.fewer, c.requires.within))
+
+pub offset_bounds-out-n-in-loop-n : goal.offset_bounds-out-n-in-loop-n
+offset_bounds-out-n-in-loop-n g c = offset_fits _ (c.loop-n.n - 1) (length c.args.out.now) c.well_formed.0.1 (omega (arith, c.loop-n.invariant.fewer, c.requires.within))
+
+pub offset_bounds-out-n-in-loop-n-2 : goal.offset_bounds-out-n-in-loop-n-2
+offset_bounds-out-n-in-loop-n-2 g c = offset_fits _ (c.loop-n.n - 2) (length c.args.out.now) c.well_formed.0.1 (omega (arith, c.loop-n.invariant.fewer, c.requires.within))
+
+pub offset_bounds-out-n-in-loop-n-3 : goal.offset_bounds-out-n-in-loop-n-3
+offset_bounds-out-n-in-loop-n-3 g c = offset_fits _ (c.loop-n.n - 2) (length c.args.out.now) c.well_formed.0.1 (omega (arith, c.loop-n.invariant.fewer, c.requires.within))

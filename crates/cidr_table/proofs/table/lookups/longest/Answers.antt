@@ -1,7 +1,6 @@
 use Rattle.std.proofs.Common.{◌≡◌, ◌-◌, sym, ◌∙◌, ap, arith, length, get_or}
 use Rattle.std.proofs.lemmas.Bool.{true≢false}
 use Rattle.std.specs.Map.{keys_of}
-use Rattle.cidr_table.proofs.Beginnings.{begins_decides}
 use Rattle.cidr_table.proofs.Insides.{key_at}
 use Rattle.cidr_table.proofs.Links.{reached_shorter, longest_row, no_row}
 use Rattle.cidr_table.proofs.table.lookups.longest.Goals as goal
@@ -25,7 +24,7 @@ loop-end-preserved g c = λ any.
     let key : get_or (keys_of rows) place any ≡ row.0 = key_at rows place any row (omega (arith, (c.loop-end.invariant any).within)) ∙ ap (λ x. x.0) (sym c.index-rows-end.is) in
     reached_shorter g.C.BitString.bits (keys_of rows) any a (length rows) c.loop-end.end c.upto_back-end.result
     c.shared_prefix_len-shared.result (omega arith) (c.loop-end.invariant any)
-    (λ b. true≢false (sym ((begins_decides a (g.C.BitString.bits row.0)).1 (rw key at b)) ∙ (sym c.is_inside.ensures ∙ c.if-is_inside.false)))
+    (λ b. true≢false (sym (c.is_inside.ensures.1 (rw key at b)) ∙ c.if-is_inside.false))
     (rw key c.shared_prefix_len-shared.ensures)
     (rw c.clipped.ensures at (c.upto_back-end.ensures.reached any))
 
@@ -37,7 +36,7 @@ returns-then-is_inside g c =
     let h = c.loop-end.invariant row.0 in
     let key : get_or (keys_of rows) (c.loop-end.end - 1) row.0 ≡ row.0 = key_at rows (c.loop-end.end - 1) row.0 row (omega (arith, h.within)) ∙ ap (λ x. x.0) (sym c.index-rows-end.is) in
     (longest_row g.C.BitString.bits rows a c.loop-end.end row (omega arith) h (sym c.index-rows-end.is)
-    (rw key ((begins_decides a (g.C.BitString.bits row.0)).0 (sym c.is_inside.ensures ∙ c.if-is_inside.true))))
+    (rw key (c.is_inside.ensures.0 c.if-is_inside.true)))
 
 pub returns : goal.returns
 returns g c =

@@ -1,7 +1,6 @@
 use Rattle.std.proofs.Common.{◌≡◌, ◌<◌, ◌-◌, sym, ◌∙◌, ap, arith, length, get_or}
 use Rattle.std.proofs.lemmas.Bool.{true≢false}
 use Rattle.std.specs.Map.{keys_of}
-use Rattle.cidr_table.proofs.Beginnings.{begins_decides}
 use Rattle.cidr_table.proofs.Insides.{key_at}
 use Rattle.cidr_table.proofs.Links.{reached_above}
 use Rattle.cidr_table.proofs.table.lookups.nearest.Goals as goal
@@ -25,7 +24,7 @@ loop-at-preserved g c =
           let key : get_or (keys_of c.args.rows.now) place any ≡ row.0 = key_at c.args.rows.now place any row (omega (arith, h.0)) ∙ ap (λ x. x.0) (sym c.index-rows-at.is) in
           reached_above g.C.BitString.bits (keys_of c.args.rows.now) any (g.C.BitString.bits c.args.asked.now) bound c.loop-at.at _ (omega arith)
           (h.1 any bound r)
-          (λ b. true≢false (sym ((begins_decides (g.C.BitString.bits c.args.asked.now) (g.C.BitString.bits row.0)).1 (rw key at b)) ∙ (sym c.is_inside.ensures ∙ c.if-is_inside.false)))
+          (λ b. true≢false (sym (c.is_inside.ensures.1 (rw key at b)) ∙ c.if-is_inside.false))
           (c.requires.links any place l),
     )
 
@@ -35,7 +34,7 @@ returns-then-is_inside-clause-begins g c = λ any some.
     let place = c.loop-at.at - 1 in
     let row = c.index-rows-at.result in
     let key : get_or (keys_of c.args.rows.now) place any ≡ row.0 = key_at c.args.rows.now place any row (omega (arith, h.0)) ∙ ap (λ x. x.0) (sym c.index-rows-at.is) in
-    rw key ((begins_decides (g.C.BitString.bits c.args.asked.now) (g.C.BitString.bits row.0)).0 (sym c.is_inside.ensures ∙ c.if-is_inside.true))
+    rw key (c.is_inside.ensures.0 c.if-is_inside.true)
 
 pub returns-clause-reached : goal.returns-clause-reached
 returns-clause-reached g c = λ any bound r.

@@ -4,7 +4,6 @@ use Rattle.std.proofs.lemmas.List.{take_all, length-drop}
 use Rattle.std.specs.List.Sorted.{IsStrictlySortedBy}
 use Rattle.std.specs.Map.{keys_of}
 use Rattle.cidr_table.specs.internal.Places.{matching}
-use Rattle.cidr_table.proofs.Beginnings.{begins_decides}
 use Rattle.cidr_table.proofs.Insides.{sorted_drop}
 use Rattle.cidr_table.proofs.Links.{is_above}
 use Rattle.cidr_table.proofs.Matching.{matching_first, matching_other, sorted_behind, none_from, passed_over}
@@ -17,7 +16,7 @@ returns-then-is_inside g c =
     let behind = c.in-Some.behind.now in
     let sorted : IsStrictlySortedBy g.C.Ord.cmp (keys_of (row ∷ behind)) = subst (λ t. IsStrictlySortedBy g.C.Ord.cmp (keys_of t)) c.in-Some.ensures.cases.0 c.loop-row.invariant.1 in (
       c.loop-row.invariant.0 ∙ (ap (λ t. matching g.C.BitString.bits a t) c.in-Some.ensures.cases.0 ∙ matching_first g.C.BitString.bits a row behind
-          ((begins_decides a (g.C.BitString.bits row.0)).0 (sym c.is_inside.ensures ∙ c.if-is_inside.true))),
+          (c.is_inside.ensures.0 c.if-is_inside.true)),
       sorted_behind g.C.Ord.cmp g.C.BitString.bits g.met.C.NetworkBits.ordered row behind sorted c.args.asked.now,
     )
 
@@ -49,7 +48,7 @@ loop-row-preserved g c =
     let rest : take (length behind - i) (drop i behind) ≡ drop i behind = take_all (length behind - i) (drop i behind) (omega (arith, length-drop i behind)) in
     let most : c.saturating_add.result ≤ c.shared_prefix_len-shared.result + 1 = omega (arith, c.saturating_add.ensures) in
     let other = matching_other g.C.BitString.bits a row behind
-    (λ b. true≢false (sym ((begins_decides a (g.C.BitString.bits row.0)).1 b) ∙ (sym c.is_inside.ensures ∙ c.if-is_inside.false))) in
+    (λ b. true≢false (sym (c.is_inside.ensures.1 b) ∙ c.if-is_inside.false)) in
     let passed = passed_over g.C.Ord.cmp g.C.BitString.bits g.met.C.NetworkBits.ordered row behind sorted c.args.asked.now c.clipped-next.result
     c.shared_prefix_len-shared.result c.saturating_add.result i c.shared_prefix_len-shared.ensures most c.clipped-next.ensures c.lower_bound.ensures in
     let tail = sorted_behind g.C.Ord.cmp g.C.BitString.bits g.met.C.NetworkBits.ordered row behind sorted c.args.asked.now in
