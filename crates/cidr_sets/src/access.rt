@@ -9,9 +9,9 @@ ghost use Rattle.cidr_sets.specs.model.FirstRules.{IsFirstRule, IsPermitted, IsD
 ghost use Rattle.cidr_sets.specs.declared.access.Action.{Action};
 ghost use Rattle.cidr_sets.specs.declared.access.Action.TheVariants.{Permit};
 
-use crate::search::is_inside;
 use crate::set::NetworkSet;
 use cidr::NetworkBits;
+use cidr_table::is_inside;
 use std::alloc::{AllocError, Global};
 
 /// What a rule does with the addresses of its network.

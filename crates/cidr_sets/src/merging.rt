@@ -3,8 +3,8 @@ ghost use Rattle.std.specs.Prelude.{◌≡◌, ◌+◌, ◌⊎◌, length, map, 
 ghost use Rattle.std.specs.Option.{option_map};
 ghost use Rattle.cidr_sets.specs.internal.Steps.{Ascend, IsIntersectionStep, IsUnionStep};
 
-use crate::search::is_inside;
 use cidr::NetworkBits;
+use cidr_table::is_inside;
 use std::cmp::Ordering;
 
 /// The first network of two lists, and what is left of them; `None` where both are empty.

@@ -7,8 +7,9 @@ ghost use Rattle.cidr_sets.specs.internal.Edits.{IsAlone, IsBeside, IsHalf, IsPa
 ghost use Rattle.cidr_sets.specs.model.Sets.{IsUnion};
 
 use crate::lookup::upto;
-use crate::search::{is_inside, known};
+use crate::search::known;
 use cidr::{BitString, NetworkBits};
+use cidr_table::is_inside;
 
 /// Whether there is a network at an index, and it lies in another.
 fn is_inside_at<C: BitString>(networks: &[C], at: usize, outer: &C) -> bool

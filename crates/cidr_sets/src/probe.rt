@@ -4,9 +4,9 @@ ghost use Rattle.std.specs.Bool.{Decides};
 ghost use Rattle.cidr.specs.model.Network.{BeginsWith};
 ghost use Rattle.cidr_table.specs.model.Cover.{Covers, IsReduced};
 
-use crate::search::{is_inside, place};
+use crate::search::place;
 use cidr::{BitString, NetworkBits};
-use cidr_table::{Count, Probe};
+use cidr_table::{Count, Probe, is_inside};
 use std::cmp::Ordering;
 use std::marker::Model;
 

@@ -6,8 +6,9 @@ ghost use Rattle.cidr.specs.model.Bits.{bit_cmp};
 ghost use Rattle.cidr.specs.model.Network.{BeginsWith};
 ghost use Rattle.cidr_sets.specs.internal.Steps.{Ascend, IsSkipped};
 
-use crate::search::{is_inside, known};
+use crate::search::known;
 use cidr::{BitString, NetworkBits};
+use cidr_table::is_inside;
 
 /// The networks without the first ones, which come before this one and don't contain it.
 pub(crate) fn skip<'a, C: NetworkBits>(network: &C, others: &'a [C]) -> &'a [C]

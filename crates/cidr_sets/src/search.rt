@@ -1,7 +1,5 @@
 //! Searches in networks that ascend.
 ghost use Rattle.std.specs.Prelude.{◌≡◌, ℕ, ◌<◌, ◌≤◌, ◌+◌, ◌^◌, length, map};
-ghost use Rattle.std.specs.Bool.{Decides};
-ghost use Rattle.cidr.specs.model.Network.{BeginsWith};
 ghost use Rattle.cidr_table.specs.model.Cover.{IsReduced};
 ghost use Rattle.cidr_sets.specs.model.Searches.{IsUpto};
 
@@ -27,18 +25,6 @@ pub fn place<C: NetworkBits, P: Probe<C>>(networks: &mut P, network: &C) -> usiz
         left = half;
     }
     low
-}
-
-/// Whether a network is inside the outer one or the same: whether its bits begin with those of the outer one.
-///
-/// ```
-/// is_inside::<Ipv4Cidr>(&"10.1.0.0/16".parse()?, &"10.0.0.0/8".parse()?) // true
-/// is_inside::<Ipv4Cidr>(&"10.0.0.0/8".parse()?, &"10.1.0.0/16".parse()?) // false
-/// ```
-pub fn is_inside<C: BitString>(network: &C, outer: &C) -> bool
-    ensures { Decides result (BeginsWith (C.bits network.now) (C.bits outer.now)) }
-{
-    network.shared_prefix_len(outer) == outer.len()
 }
 
 /// Has no more than 129 bits, which a proof gets from the call.

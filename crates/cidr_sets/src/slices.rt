@@ -16,9 +16,9 @@ ghost use Rattle.cidr_sets.specs.internal.Steps.{Ascend, IsDifferenceStep, IsOve
 use crate::merging::{next_of, next_shared};
 use crate::ranges::{Addressed, all_from};
 use crate::rests::{half, is_passed, skip};
-use crate::search::{is_inside, known};
+use crate::search::known;
 use cidr::{BitString, NetworkBits};
-use cidr_table::least_cover_in_place;
+use cidr_table::{is_inside, least_cover_in_place};
 
 /// Writes the networks of the addresses that one of two sets has, or both, to the first elements of `out`, and returns
 /// how many they are.

@@ -1,6 +1,5 @@
 //! The name of a network in reverse DNS, written label by label.
 ghost use Rattle.std.specs.Prelude.{◌≡◌, ◌+◌, ◌*◌, ◌/◌, ◌%◌, ◌^◌, ◌<◌, ◌≤◌, [], ◌∷◌, ◌++◌, Bool, List, decimal, length, reverse, MatchOption};
-ghost use Rattle.std.specs.Char.{digit_char};
 ghost use Rattle.cidr.specs.model.Address.{parts_of};
 ghost use Rattle.cidr.specs.model.Bits.{number};
 ghost use Rattle.cidr.specs.texts.Ipv4Text.{dot};
@@ -82,7 +81,7 @@ fn push_label(name: &mut ArrayString<72>, family: Family, label: u8)
 {
     match family {
         Family::Ipv4 => push_decimal(name, label),
-        Family::Ipv6 => name.push(hex_digit(label)),
+        Family::Ipv6 => name.push(char::from_digit(u32::from(label), 16).unwrap()),
     }
     name.push('.');
 }
@@ -104,15 +103,6 @@ fn push_decimal(text: &mut ArrayString<72>, n: u8)
     } else {
         text.push(char::from(b'0' + n));
     }
-}
-
-/// The hexadecimal digit, in lower case.
-fn hex_digit(digit: u8) -> char
-    requires { digit < 16 }
-    ensures value { result ≡ digit_char digit }
-    ensures ascii { result < 128 }
-{
-    char::from_digit(u32::from(digit), 16).unwrap()
 }
 
 /// Appends the domain of the names.

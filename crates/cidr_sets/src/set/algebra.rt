@@ -14,9 +14,10 @@ ghost use Rattle.cidr_sets.specs.model.Sets.{IsUnion, IsIntersection, IsDifferen
 use crate::lookup::{covers, upto};
 use crate::merging::{next_of, next_shared};
 use crate::rests::{half, skip};
-use crate::search::{is_inside, known};
+use crate::search::known;
 use crate::set::{NetworkSet, joined};
 use cidr::NetworkBits;
+use cidr_table::is_inside;
 use std::alloc::{AllocError, Global};
 
 impl<C: NetworkBits + Copy> NetworkSet<C> {

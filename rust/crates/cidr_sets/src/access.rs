@@ -1,9 +1,9 @@
 //! Access lists: rules in order, each of which permits or denies the addresses of a network.
 
 use cidr_support::vec::Vec;
-use crate::search::is_inside;
 use crate::set::NetworkSet;
 use cidr::NetworkBits;
+use cidr_table::is_inside;
 use cidr_support::alloc::{AllocError, Global};
 
 /// What a rule does with the addresses of its network.

@@ -43,9 +43,9 @@ mod set;
 pub mod slices;
 mod walk;
 
+pub use cidr_table::is_inside;
 pub use pools::PoolNetwork;
 pub use probe::{NetworkProbe, Networks, contains};
 pub use ranges::{AddressRange, Addressed, Ranges};
-pub use search::is_inside;
 pub use set::NetworkSet;
 pub use walk::{AddressSpace, SetAddresses};

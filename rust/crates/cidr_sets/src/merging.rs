@@ -1,7 +1,7 @@
 //! Steps through two lists of networks at once.
 
-use crate::search::is_inside;
 use cidr::NetworkBits;
+use cidr_table::is_inside;
 use core::cmp::Ordering;
 
 /// The first network of two lists, and what is left of them; `None` where both are empty.

@@ -1,8 +1,9 @@
 //! The networks of a set that lie in one, and those beside it that make up a whole with it.
 
 use crate::lookup::upto;
-use crate::search::{is_inside, known};
+use crate::search::known;
 use cidr::{BitString, NetworkBits};
+use cidr_table::is_inside;
 
 /// Whether there is a network at an index, and it lies in another.
 #[inline]

@@ -1,8 +1,8 @@
 //! The look-up in a set, whose comparisons are counted.
 
-use crate::search::{is_inside, place};
+use crate::search::place;
 use cidr::{BitString, NetworkBits};
-use cidr_table::{Count, Probe};
+use cidr_table::{Count, Probe, is_inside};
 use core::cmp::Ordering;
 
 /// The one way to the networks of a set, for `contains`: the `Probe` of a table, which also tells whether a network

@@ -1,7 +1,8 @@
 //! Steps that leave the addresses of some networks out of another.
 
-use crate::search::{is_inside, known};
+use crate::search::known;
 use cidr::{BitString, NetworkBits};
+use cidr_table::is_inside;
 
 /// The networks without the first ones, which come before this one and don't contain it.
 pub(crate) fn skip<'a, C: NetworkBits>(network: &C, others: &'a [C]) -> &'a [C] {

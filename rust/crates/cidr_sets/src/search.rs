@@ -19,21 +19,6 @@ pub fn place<C: NetworkBits, P: Probe<C>>(networks: &mut P, network: &C) -> usiz
     low
 }
 
-/// Whether a network is inside the outer one or the same: whether its bits begin with those of the outer one.
-///
-/// ```
-/// # use cidr::*;
-/// # use cidr_table::Probe;
-/// # use cidr_sets::{access::*, alloc::*, *};
-/// assert!(is_inside::<Ipv4Cidr>(&"10.1.0.0/16".parse()?, &"10.0.0.0/8".parse()?));
-/// assert!(!(is_inside::<Ipv4Cidr>(&"10.0.0.0/8".parse()?, &"10.1.0.0/16".parse()?)));
-/// # Ok::<(), Box<dyn std::error::Error>>(())
-/// ```
-#[inline]
-pub fn is_inside<C: BitString>(network: &C, outer: &C) -> bool {
-    network.shared_prefix_len(outer) == outer.len()
-}
-
 /// Has no more than 129 bits, which a proof gets from the call.
 #[inline]
 pub fn known<C: BitString>(network: &C) {

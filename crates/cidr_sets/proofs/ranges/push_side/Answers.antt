@@ -1,4 +1,5 @@
 use Rattle.std.proofs.Common.{◌<◌, length, arith}
+use Rattle.std.proofs.lemmas.Result.{err_from_is_err_and}
 use Rattle.cidr_sets.proofs.Sides.{below_trimmed, other_bit, same_bit, side_more, side_same, side_start, trimmed_begins}
 use Rattle.cidr_sets.proofs.ranges.push_side.Goals as goal
 
@@ -42,3 +43,24 @@ loop-block-preserved g c =
     (f c.clip.new.self) bit l.invariant c.len-start.ensures.fits (omega (arith, c.loop-block-test.true, c.len.ensures.value))
     (rw c.len-last.ensures.value at c.get-bit.ensures) (rw c.len-last.ensures.value at c.clip.ensures.bits)
     (same_bit bit c.args.up c.if-bit-up.false)
+
+pub returns-in_err-push-clause-side : goal.returns-in_err-push-clause-side
+returns-in_err-push-clause-side g c = let (error, is, same) = err_from_is_err_and c.from_residual.result c.from_residual.ensures.1 in rw is tt
+
+pub returns-in_err-push-clause-fits : goal.returns-in_err-push-clause-fits
+returns-in_err-push-clause-fits g c = let (error, is, same) = err_from_is_err_and c.from_residual.result c.from_residual.ensures.1 in rw is tt
+
+pub returns-in_err-push-2-clause-side : goal.returns-in_err-push-2-clause-side
+returns-in_err-push-2-clause-side g c = let (error, is, same) = err_from_is_err_and c.from_residual-in_err-push-2.result c.from_residual-in_err-push-2.ensures.1 in rw is tt
+
+pub returns-in_err-push-2-clause-fits : goal.returns-in_err-push-2-clause-fits
+returns-in_err-push-2-clause-fits g c = let (error, is, same) = err_from_is_err_and c.from_residual-in_err-push-2.result c.from_residual-in_err-push-2.ensures.1 in rw is tt
+
+pub trimmed-block-requires : goal.trimmed-block-requires
+trimmed-block-requires g c = c.requires
+
+pub overflow_sub-last : goal.overflow_sub-last
+overflow_sub-last g c = omega (arith, c.loop-block-test.true, c.len.ensures.value, c.len-last.ensures.value)
+
+pub get-bit-requires : goal.get-bit-requires
+get-bit-requires g c = omega (arith, c.loop-block-test.true, c.len.ensures.value, c.len-last.ensures.value)

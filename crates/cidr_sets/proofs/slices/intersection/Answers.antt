@@ -60,3 +60,9 @@ returns-clause-set g c =
       | inl e ↦ inl (omega (arith, e, length-map l.left.now f))
       | inr e ↦ inr (omega (arith, e, length-map l.right.now f))
     ])
+
+pub next_shared-requires-clause-left : goal.next_shared-requires-clause-left
+next_shared-requires-clause-left g c = c.loop-shared.invariant.0.ascend_left
+
+pub next_shared-requires-clause-right : goal.next_shared-requires-clause-right
+next_shared-requires-clause-right g c = c.loop-shared.invariant.0.ascend_right

@@ -60,7 +60,7 @@ fn push_labels(name: &mut ArrayString<72>, family: Family, value: u128, count: u
 fn push_label(name: &mut ArrayString<72>, family: Family, label: u8) {
     match family {
         Family::Ipv4 => push_decimal(name, label),
-        Family::Ipv6 => name.push(hex_digit(label)),
+        Family::Ipv6 => name.push(char::from_digit(u32::from(label), 16).unwrap()),
     }
     name.push('.');
 }
@@ -77,12 +77,6 @@ fn push_decimal(text: &mut ArrayString<72>, n: u8) {
     } else {
         text.push(char::from(b'0' + n));
     }
-}
-
-/// The hexadecimal digit, in lower case.
-#[inline]
-fn hex_digit(digit: u8) -> char {
-    char::from_digit(u32::from(digit), 16).unwrap()
 }
 
 /// Appends the domain of the names.

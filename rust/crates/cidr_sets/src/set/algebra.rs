@@ -4,9 +4,10 @@ use cidr_support::vec::Vec;
 use crate::lookup::{covers, upto};
 use crate::merging::{next_of, next_shared};
 use crate::rests::{half, skip};
-use crate::search::{is_inside, known};
+use crate::search::known;
 use crate::set::{NetworkSet, joined};
 use cidr::NetworkBits;
+use cidr_table::is_inside;
 use cidr_support::alloc::{AllocError, Global};
 
 impl<C: NetworkBits + Copy> NetworkSet<C> {

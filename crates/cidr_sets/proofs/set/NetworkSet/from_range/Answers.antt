@@ -1,4 +1,5 @@
 use Rattle.std.proofs.Common.{◌≡◌, ◌∙◌, ◌++◌, ◌∷◌, [], map, sym, ap, refl, arith}
+use Rattle.std.proofs.lemmas.Result.{err_from_is_err_and}
 use Rattle.std.specs.declared.cmp.Ordering.TheVariants.{Less, Equal, Greater}
 use Rattle.cidr.specs.model.Bits.{bit_cmp}
 use Rattle.cidr_table.proofs.Beginnings.{bits_exact}
@@ -44,3 +45,12 @@ returns-clause-set g c =
           range_of_none f (f x) (f y) sx sy c.new-networks.result.items out (rw w.networks-is at told) none more
           (more_begins_not A law (f x) (f y) ax ay more)
     ])
+
+pub returns-in_err-push_side-in-Less-clause-set : goal.returns-in_err-push_side-in-Less-clause-set
+returns-in_err-push_side-in-Less-clause-set g c = let (error, is, same) = err_from_is_err_and c.from_residual.result c.from_residual.ensures.1 in rw is tt
+
+pub returns-in_err-push-in-Equal-clause-set : goal.returns-in_err-push-in-Equal-clause-set
+returns-in_err-push-in-Equal-clause-set g c = let (error, is, same) = err_from_is_err_and c.from_residual-in_err-push-in-Equal.result c.from_residual-in_err-push-in-Equal.ensures.1 in rw is tt
+
+pub returns-in_err-push-in-Equal-clause-fits : goal.returns-in_err-push-in-Equal-clause-fits
+returns-in_err-push-in-Equal-clause-fits g c = let (error, is, same) = err_from_is_err_and c.from_residual-in_err-push-in-Equal.result c.from_residual-in_err-push-in-Equal.ensures.1 in rw is tt
