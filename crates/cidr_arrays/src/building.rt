@@ -6,18 +6,38 @@ ghost use Rattle.cidr_arrays.specs.Passing.{AreSoFar, IsEdge, IsLastWithNumber, 
 use crate::key::Key;
 use crate::pass::{goes_on, started};
 use crate::word::Word;
+use std::error::Error;
+use std::fmt;
 
 /// Why no table was built: the first of these.
 #[derive(Debug, Drop, PartialEq)]
 pub enum BuildError {
-    /// There are more than 2,147,483,647 keys.
+    /// There are more than 2,147,483,647 keys: `more than 2147483647 keys`.
     TooMany,
     /// The key at this index, counted from 0, is no network, or doesn't come after the one before it: the first such
-    /// key.
+    /// key. `no network, or out of order: key 2`.
     Refused(usize),
-    /// One of the two arrays has fewer elements than twice as many as keys, and one more.
+    /// One of the two arrays has fewer elements than twice as many as keys, and one more: `too little room for the
+    /// ranges`.
     NoRoom,
 }
+
+impl fmt::Display for BuildError {
+    ghost use Rattle.std.specs.Prelude.{Some};
+    ghost use Rattle.cidr_arrays.specs.Messages.{build_message};
+
+    ghost output = { λ e. Some (build_message e) };
+
+    fn fmt<W: fmt::Write>(&self, f: &mut fmt::Formatter<W>) -> fmt::Result {
+        match self {
+            BuildError::TooMany => f.write_str("more than 2147483647 keys"),
+            BuildError::Refused(place) => write!(f, "no network, or out of order: key {place}"),
+            BuildError::NoRoom => f.write_str("too little room for the ranges"),
+        }
+    }
+}
+
+impl Error for BuildError {}
 
 /// Writes the ranges of keys that ascend, and returns how many there are: at most twice as many as keys, and one more.
 /// So many elements both arrays have to have, whatever the keys are; those behind the ranges are left as they were or

@@ -9,26 +9,48 @@ use crate::key::Key;
 use crate::level::is_entry;
 use crate::pass::{goes_on, started};
 use crate::word::Word;
+use std::error::Error;
+use std::fmt;
 
 /// What is wrong with arrays: the first of these.
 #[derive(Debug, Drop, PartialEq)]
 pub enum Fault {
-    /// There are more than 2,147,483,647 keys.
+    /// There are more than 2,147,483,647 keys: `more than 2147483647 keys`.
     TooMany,
-    /// There are not as many answers as starts.
+    /// There are not as many answers as starts: `not as many answers as starts`.
     Counts,
-    /// The shift of the first level is not below the number of bits of an address, 32 or 128.
+    /// The shift of the first level is not below the number of bits of an address, 32 or 128: `too large a shift`.
     Shift,
     /// The key at this index, counted from 0, is no network, or doesn't come after the one before it: the first such
-    /// key.
+    /// key. `no network, or out of order: key 2`.
     Refused(usize),
     /// The range at this index, counted from 0, is not that of the keys, or one of the two has fewer ranges: the first
-    /// such range.
+    /// such range. `not of the keys: range 2`.
     Range(usize),
     /// The entry of the first level at this index, counted from 0, is not the range of its number: the first such
-    /// entry.
+    /// entry. `not the range of its number: entry 2`.
     Entry(usize),
 }
+
+impl fmt::Display for Fault {
+    ghost use Rattle.std.specs.Prelude.{Some};
+    ghost use Rattle.cidr_arrays.specs.Messages.{fault_message};
+
+    ghost output = { λ e. Some (fault_message e) };
+
+    fn fmt<W: fmt::Write>(&self, f: &mut fmt::Formatter<W>) -> fmt::Result {
+        match self {
+            Fault::TooMany => f.write_str("more than 2147483647 keys"),
+            Fault::Counts => f.write_str("not as many answers as starts"),
+            Fault::Shift => f.write_str("too large a shift"),
+            Fault::Refused(place) => write!(f, "no network, or out of order: key {place}"),
+            Fault::Range(place) => write!(f, "not of the keys: range {place}"),
+            Fault::Entry(place) => write!(f, "not the range of its number: entry {place}"),
+        }
+    }
+}
+
+impl Error for Fault {}
 
 /// Whether the arrays are those that keys have, so that look-ups in them are right. Those that [`build`](crate::build)
 /// and [`fill_level`](crate::fill_level) wrote are accepted, and the error is the first that [`Fault`] names, in its

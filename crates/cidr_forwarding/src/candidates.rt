@@ -12,12 +12,7 @@ use std::alloc::{AllocError, Global};
 pub(crate) fn holds<V: Copy + Ord>(values: &[Option<V>], wanted: Option<V>) -> bool
     ensures { result ≡ is_listed (option_eq V.eq) values.now wanted }
 {
-    for value in values {
-        if *value == wanted {
-            return true;
-        }
-    }
-    false
+    values.contains(&wanted)
 }
 
 /// The first value, or `None` where there is none.
