@@ -1,12 +1,10 @@
 -- Sets in the formats of other tools: texts in their pieces, and what is read of them again.
-use Rattle.std.proofs.Common.{◌≡◌, ◌≢◌, refl, sym, ◌∙◌, ap, ap₂, subst, inl, inr, arith, ℕ, ◌+◌, ◌-◌, ◌<◌, ◌≤◌, ◌==◌, Bool, true, false, if◌then◌else◌, List, [], ◌∷◌, ◌++◌, Contains, length, length-append, take, drop, get_or, map, slice_index, append_assoc, append-nil, codes, decimal, Option, Some, None, eq-eqb, ne_eqb}
+use Rattle.std.proofs.Common.{◌≡◌, ◌≢◌, refl, sym, ◌∙◌, ap, ap₂, subst, inl, inr, arith, ℕ, ◌+◌, ◌-◌, ◌<◌, ◌≤◌, ◌==◌, Bool, true, false, if◌then◌else◌, List, [], ◌∷◌, ◌++◌, Contains, length, length-append, map, slice_index, append_assoc, append-nil, codes, decimal, eq-eqb, ne_eqb}
 use Rattle.std.specs.Char.{digit_value}
-use Rattle.std.specs.List.{All, AllZip, find, flat_map, slice_split}
-use Rattle.std.specs.Option.{option_or}
+use Rattle.std.specs.List.{All, AllZip, flat_map, slice_split}
 use Rattle.std.proofs.lemmas.Bool.{cases_eq, true≢false}
 use Rattle.std.proofs.lemmas.Grind.{get_or_default_zero}
-use Rattle.std.proofs.lemmas.List.{drop_more, length-replicate, take-append-drop, take_all, take_more}
-use Rattle.std.proofs.lemmas.List.Folds.{find-append}
+use Rattle.std.proofs.lemmas.List.{length-replicate}
 use Rattle.std.proofs.lemmas.List.Splits.{slice_split_at}
 use Rattle.cidr.specs.model.Network.{width_of, first_of, last_of, ones}
 use Rattle.cidr.specs.texts.Ipv4Text.{dot}
@@ -67,29 +65,6 @@ members_pushed text network first last one two three four five new len p q r s t
     ∙ seven_pieces network (codes "\",\"first\":\"") first (codes "\",\"last\":\"") last (codes "\",\"length\":") (decimal len))
 
 -- ---- the format of a name
-if_true : {X : Type 0} (b : Bool) (x y : X) → b ≡ true → (if b then x else y) ≡ x
-if_true true x y h = refl
-if_true false x y h = absurd (true≢false (sym h))
-
-if_false : {X : Type 0} (b : Bool) (x y : X) → b ≡ false → (if b then x else y) ≡ y
-if_false true x y h = absurd (true≢false h)
-if_false false x y h = refl
-
-module _ {X : Type 0} (p : X → Bool) (xs : List X) (i : ℕ) (d : X) (within : i < length xs) (before : find p (take i xs) ≡ None) where
-  pub none_found_yet : p (get_or xs i d) ≡ false → find p (take (i + 1) xs) ≡ None
-  none_found_yet here =
-      ap (find p) (take_more xs i d within) ∙ (find-append p (take i xs) (get_or xs i d ∷ [])
-      ∙ (ap (λ (k : Option X). option_or k (find p (get_or xs i d ∷ []))) before ∙ if_false (p (get_or xs i d)) (Some (get_or xs i d)) None here))
-
-  pub found_here : p (get_or xs i d) ≡ true → Some (get_or xs i d) ≡ find p xs
-  found_here here =
-      sym (ap (find p) (sym (take-append-drop i xs)) ∙ (find-append p (take i xs) (drop i xs)
-      ∙ (ap (λ (k : Option X). option_or k (find p (drop i xs))) before
-      ∙ (ap (find p) (drop_more xs i d within) ∙ if_true (p (get_or xs i d)) (Some (get_or xs i d)) (find p (drop (i + 1) xs)) here))))
-
-pub none_found : {X : Type 0} (p : X → Bool) (xs : List X) (i : ℕ) → length xs ≤ i → find p (take i xs) ≡ None → None ≡ find p xs
-none_found p xs i past before = sym (ap (find p) (sym (take_all i xs past)) ∙ before)
-
 -- ---- lines
 module _ {X : Type 0} (f : X → List ℕ) where
   -- with line feeds between them and one behind the last

@@ -1,6 +1,7 @@
 -- How a row of a table has a network and its value: as two fields; as the files of routes and origins that CAIDA publishes
 -- ("Routeviews Prefix-to-AS mappings", pfx2as); or as `ip route` of iproute2 prints routes (ip-route(8)).
-use Rattle.std.specs.Prelude.{◌≡◌, ◌≢◌, ◌⊎◌, ◌==◌, ℕ, ◌<◌, Bool, true, false, if◌then◌else◌, List, [], ◌∷◌, ◌++◌, codes, length, Option, Some, None}
+use Rattle.std.specs.Prelude.{◌≡◌, ◌≢◌, ◌⊎◌, ◌==◌, ℕ, ◌<◌, Bool, true, false, if◌then◌else◌, List, [], ◌∷◌, ◌++◌, codes, length, slice_index_or, ◌+◌, IsUtf8, Option, Some, None}
+use Rattle.std.specs.List.{All}
 use Rattle.std.specs.Str.{bytes_eq}
 use Rattle.cidr.specs.either.IpAddress.{IsIpText}
 use Rattle.cidr.specs.texts.NetworkText.{slash}
@@ -15,13 +16,16 @@ use Rattle.cidr_lists.specs.Fields.{AreFirstAndRest, HasNoFields, IsNoAddressFie
 use Rattle.cidr_lists.specs.declared.columns.Separator.{Separator}
 use Rattle.cidr_lists.specs.declared.columns.Separator.TheVariants.{WhiteSpace}
 use Rattle.cidr_lists.specs.declared.errors.LineError.{LineError}
-use Rattle.cidr_lists.specs.declared.errors.LineError.TheVariants.{NoField, NoLength, Quoted}
+use Rattle.cidr_lists.specs.declared.errors.LineError.TheVariants.{NoField, NoLength, NotUtf8, Quoted}
+use Rattle.cidr_lists.specs.declared.formats.LineFormat.{LineFormat}
+use Rattle.cidr_lists.specs.declared.formats.LineFormat.TheVariants.{Plain, Json}
 use Rattle.cidr_lists.specs.declared.forms.RowForm.{RowForm}
-use Rattle.cidr_lists.specs.declared.forms.RowForm.TheVariants.{Fields, Pfx2as, Routes}
+use Rattle.cidr_lists.specs.declared.forms.RowLayout.{RowLayout}
+use Rattle.cidr_lists.specs.declared.forms.RowLayout.TheVariants.{Fields, Pfx2as, Routes}
 use Rattle.cidr_lists.specs.declared.lines.HostBits.{HostBits}
 
 -- what parts the first field of a row from the rest
-abbrev pub separator_of : RowForm → Separator
+abbrev pub separator_of : RowLayout → Separator
 separator_of (Fields separator) = separator
 separator_of Pfx2as = WhiteSpace
 separator_of (Routes family) = WhiteSpace
@@ -41,17 +45,26 @@ with_length address len = ip_text address ++ slash ∷ len
 
 -- ---- a row
 -- a network and its value, by the first field of a row and the rest of it
-abbrev pub PartsSay : RowForm → HostBits → List ℕ → List ℕ → IpCidr → List ℕ → Type 0
+abbrev pub PartsSay : RowLayout → HostBits → List ℕ → List ℕ → IpCidr → List ℕ → Type 0
 PartsSay (Fields separator) bits first rest network value = IsNetworkBy bits first network × (value ≡ rest)
 PartsSay Pfx2as bits first rest network value = (address : IpAddr) × (len : List ℕ) × IsIpText first address × AreFirstAndRest rest len value
     × IsNetworkBy bits (with_length address len) network
 PartsSay (Routes family) bits first rest network value = IsNetworkBy bits (route_text family first) network × (value ≡ rest)
 
+-- a value can be told in this format: a string of JSON is UTF-8
+abbrev pub Fits : LineFormat → List ℕ → Type 0
+Fits Plain value = Unit {0}
+Fits Json value = IsUtf8 value
+
+-- the values of rows can
+abbrev pub AreFit : LineFormat → List (List Bool × List ℕ) → Type 0
+AreFit format rows = All (λ (row : List Bool × List ℕ). Fits format row.1) rows
+
 -- the line says nothing, being blank or a comment, or a network and its value
 abbrev pub RowFieldsSay : RowForm → HostBits → List ℕ → Option (IpCidr × List ℕ) → Type 0
-RowFieldsSay form bits line None = HasNoFields (separator_of form) line
-RowFieldsSay form bits line (Some (network, value)) = (first rest : List ℕ) × IsRowSplit (separator_of form) line first rest
-    × PartsSay form bits first rest network value
+RowFieldsSay form bits line None = HasNoFields (separator_of form.layout) line
+RowFieldsSay form bits line (Some (network, value)) = (first rest : List ℕ) × IsRowSplit (separator_of form.layout) line first rest
+    × PartsSay form.layout bits first rest network value × Fits form.values value
 
 -- the same of a line that is not too long
 abbrev pub RowSays : RowForm → HostBits → List ℕ → Option (IpCidr × List ℕ) → Type 0
@@ -75,14 +88,28 @@ IsBadLength bits address len (NoLength text) = (45 < length len) × (text.bytes 
 IsBadLength bits address len e = (len ≢ []) × IsNoNetworkField bits (with_length address len) e
 
 -- the row is in error by its first field, or else by the next one
-abbrev pub IsBadParts : RowForm → HostBits → List ℕ → List ℕ → LineError → Type 0
+abbrev pub IsBadParts : RowLayout → HostBits → List ℕ → List ℕ → LineError → Type 0
 IsBadParts (Fields separator) bits first rest e = IsBadCell bits first e
 IsBadParts Pfx2as bits first rest e = IsNoAddressField first e
     ⊎ ((address : IpAddr) × (len value : List ℕ) × IsIpText first address × AreFirstAndRest rest len value × IsBadLength bits address len e)
 IsBadParts (Routes family) bits first rest e = IsNoNetworkField bits (route_text family first) e
 
-abbrev pub HasBadNetwork : RowForm → HostBits → List ℕ → LineError → Type 0
-HasBadNetwork form bits line e = (first rest : List ℕ) × IsRowSplit (separator_of form) line first rest × IsBadParts form bits first rest e
+-- or it has a network, and its value can't be told in this format
+abbrev pub IsUnfit : LineFormat → List ℕ → LineError → Type 0
+IsUnfit Json value (NotUtf8 text) = ¬ (IsUtf8 value) × (text.bytes ≡ byte_excerpt value)
+IsUnfit format value e = ⊥
+
+-- that of the row of this number, from 1 on
+abbrev pub IsUnfitAt : LineFormat → List (List Bool × List ℕ) → ℕ → LineError → Type 0
+IsUnfitAt format rows number e =
+    (i : ℕ) × (number ≡ i + 1) × (i < length rows) × IsUnfit format (slice_index_or rows i ([], [])).1 e
+
+abbrev pub HasUnfitValue : RowForm → HostBits → List ℕ → List ℕ → LineError → Type 0
+HasUnfitValue form bits first rest e = (network : IpCidr) × (value : List ℕ) × PartsSay form.layout bits first rest network value × IsUnfit form.values value e
+
+abbrev pub HasRowError : RowForm → HostBits → List ℕ → LineError → Type 0
+HasRowError form bits line e = (first rest : List ℕ) × IsRowSplit (separator_of form.layout) line first rest
+    × (IsBadParts form.layout bits first rest e ⊎ HasUnfitValue form bits first rest e)
 
 abbrev pub IsBadRow : RowForm → HostBits → List ℕ → LineError → Type 0
-IsBadRow form bits line e = IsBadLineBy (HasBadNetwork form bits) line e
+IsBadRow form bits line e = IsBadLineBy (HasRowError form bits) line e

@@ -19,7 +19,11 @@ use Rattle.cidr_lists.specs.declared.columns.Separator.TheVariants.{WhiteSpace, 
 use Rattle.cidr_lists.specs.declared.errors.LineError.{LineError}
 use Rattle.cidr_lists.specs.declared.fields.Asked.{Asked}
 use Rattle.cidr_lists.specs.declared.fields.Asked.TheVariants.{First, Field, Anywhere}
+use Rattle.cidr_lists.specs.declared.formats.LineFormat.{LineFormat}
+use Rattle.cidr_lists.specs.declared.formats.LineFormat.TheVariants as by_line
 use Rattle.cidr_lists.specs.declared.formats.Notation.TheVariants.{Members}
+use Rattle.cidr_lists.specs.declared.objects.Telling.{Telling}
+use Rattle.cidr_lists.specs.declared.objects.Telling.TheVariants.{Alone, Kept, Objects}
 
 -- an address, and the longest network of a table that has it, with its value, if there is one
 pub record LookUp : Type 0 where
@@ -132,22 +136,30 @@ abbrev pub printed_found : Option LookUp → Option (List ℕ × List ℕ)
 printed_found None = None
 printed_found (Some look) = option_map (printed_row (address_family look.address)) look.found
 
--- what is written of a line: with --keep the line, with the network of its address, and else a line for its address
-abbrev pub told_line : Bool → Asked → List ℕ → Option LookUp → List ℕ
-told_line true asked line look = kept_line (joint_of asked) line (printed_found look)
-told_line false asked line look = look_line look
+-- how it is told: as objects of JSON, or else with --keep with its line
+abbrev pub telling_by : LineFormat → Bool → Telling
+telling_by by_line.Json keeps = Objects
+telling_by by_line.Plain true = Kept
+telling_by by_line.Plain false = Alone
+
+-- what is written of a line: a line for its address, the line with the network of its address, or an object for its address
+abbrev pub told_line : Telling → Asked → List ℕ → Option LookUp → List ℕ
+told_line Alone asked line look = look_line look
+told_line Kept asked line look = kept_line (joint_of asked) line (printed_found look)
+told_line Objects asked line look = look_object look
 
 -- a line has this written of it, and its address has a network or not
-abbrev pub LineTells : Bool → Asked → (Family → List (List Bool × List ℕ)) → List ℕ → List ℕ × Bool → Type 0
-LineTells keeps asked table line told = (look : Option LookUp) × LineLooks asked table line look
-    × (told.0 ≡ told_line keeps asked line look) × (told.1 ≡ is_found look)
+abbrev pub LineTells : Telling → Asked → (Family → List (List Bool × List ℕ)) → List ℕ → List ℕ × Bool → Type 0
+LineTells telling asked table line told = (look : Option LookUp) × LineLooks asked table line look
+    × (told.0 ≡ told_line telling asked line look) × (told.1 ≡ is_found look)
 
 -- the same of lines, and whether the address of one of them has
-abbrev pub LinesTell : Bool → Asked → (Family → List (List Bool × List ℕ)) → List (List ℕ) → List ℕ × Bool → Type 0
-LinesTell keeps asked table lines told = (each : List (List ℕ × Bool)) × AllZip (LineTells keeps asked table) lines each
+abbrev pub LinesTell : Telling → Asked → (Family → List (List Bool × List ℕ)) → List (List ℕ) → List ℕ × Bool → Type 0
+LinesTell telling asked table lines told = (each : List (List ℕ × Bool)) × AllZip (LineTells telling asked table) lines each
     × (told.0 ≡ flat_map (λ (one : List ℕ × Bool). one.0) each) × (told.1 ≡ list_any (λ (one : List ℕ × Bool). one.1) each)
 
--- the lines of a text: those that are kept, and else also an empty part behind the last line feed, of which nothing is written
-abbrev pub lines_by : Bool → List ℕ → List (List ℕ)
-lines_by true text = lines_in text
-lines_by false text = lines_of text
+-- the lines of a text; where lines alone are told, also an empty part behind the last line feed, of which nothing is written
+abbrev pub lines_by : Telling → List ℕ → List (List ℕ)
+lines_by Alone text = lines_of text
+lines_by Kept text = lines_in text
+lines_by Objects text = lines_in text

@@ -20,12 +20,7 @@ pub fn first_field(bytes: &[u8]) -> &[u8]
     ensures within { length result.now ≤ length bytes.now }
 {
     let rest = bytes.trim_ascii_start();
-    for (place, byte) in rest.iter().enumerate() {
-        if byte.is_ascii_whitespace() {
-            return &rest[..place];
-        }
-    }
-    rest
+    &rest[..len_to_white_space(rest)]
 }
 
 /// What parts the fields of a line.
@@ -71,12 +66,9 @@ fn len_to_white_space(line: &[u8]) -> usize
     ensures first { result ≡ position_or_len is_ascii_whitespace line.now }
     ensures fits { result ≤ length line.now }
 {
-    for (place, byte) in line.iter().enumerate() {
-        if byte.is_ascii_whitespace() {
-            return place;
-        }
-    }
-    line.len()
+    line.iter()
+        .position(|byte| byte.is_ascii_whitespace())
+        .unwrap_or(line.len())
 }
 
 /// How many bytes stand before the first one that is this byte.
@@ -84,12 +76,9 @@ fn len_to_byte(separator: u8, line: &[u8]) -> usize
     ensures first { result ≡ position_or_len (λ byte. byte == separator) line.now }
     ensures fits { result ≤ length line.now }
 {
-    for (place, byte) in line.iter().enumerate() {
-        if *byte == separator {
-            return place;
-        }
-    }
-    line.len()
+    line.iter()
+        .position(|byte| *byte == separator)
+        .unwrap_or(line.len())
 }
 
 /// How many bytes stand before the first that parts fields.

@@ -601,11 +601,8 @@ pub fn formats() -> &'static [Format]
 pub fn format_of(name: &str) -> Option<Format>
     ensures { result ≡ format_of name.now }
 {
-    let formats = formats();
-    for format in formats {
-        if format_name(*format) == name {
-            return Some(*format);
-        }
-    }
-    None
+    formats()
+        .iter()
+        .find(|format| format_name(**format) == name)
+        .copied()
 }

@@ -1,11 +1,12 @@
 //! What the lines of lists and tables are, and the row of a table that a line says.
 ghost use Rattle.std.specs.Prelude.{◌≡◌, ◌≤◌, ◌+◌, ◌++◌, MatchResult, length, option_map};
-ghost use Rattle.cidr_lists.specs.Forms.{HasBadNetwork, IsBadCell, IsBadLength, IsBadParts, PartsSay, RowFieldsSay, begins_quoted, default_text, route_text, separator_of, with_length};
+ghost use Rattle.cidr_lists.specs.Forms.{Fits, HasRowError, IsBadCell, IsBadLength, IsBadParts, IsUnfit, PartsSay, RowFieldsSay, begins_quoted, default_text, route_text, separator_of, with_length};
 ghost use Rattle.cidr_lists.specs.Lists.{IsNetworkBy};
-ghost use Rattle.cidr_lists.specs.declared.forms.RowForm.TheVariants.{Pfx2as};
+ghost use Rattle.cidr_lists.specs.declared.forms.RowLayout.TheVariants.{Pfx2as};
 
 use crate::columns::{Separator, address_in, network_in, parts_of, split_row};
 use crate::errors::LineError;
+use crate::formats::LineFormat;
 use crate::lines::HostBits;
 use arrayvec::ArrayVec;
 use cidr::{Family, IpAddr, IpCidr};
@@ -13,7 +14,7 @@ use cidr_io::shown::byte_excerpt;
 
 /// How a row of a table has its network and its value.
 #[derive(Clone, Copy, Debug, Drop, PartialEq)]
-pub enum RowForm {
+pub enum RowLayout {
     /// The first field is the network, and the rest of the line is the value: `10.0.0.0/8 west`, or with a comma
     /// `10.0.0.0/8,AS1,west`. A field in quotes is not read.
     Fields(Separator),
@@ -23,6 +24,15 @@ pub enum RowForm {
     /// As `ip route` prints the routes of a family: the first word is the network, where `default` is that of all addresses,
     /// and the rest of the line is the value, as `default via 192.0.2.1 dev eth0`.
     Routes(Family),
+}
+
+/// How the rows of a table are read.
+#[derive(Clone, Copy, Debug, Drop, PartialEq)]
+pub struct RowForm {
+    /// How they have their networks and values.
+    pub layout: RowLayout,
+    /// In which format their values are to be told: in JSON each has to be UTF-8.
+    pub values: LineFormat,
 }
 
 /// What the lines of a list are.
@@ -37,12 +47,12 @@ pub enum Kind {
 }
 
 /// What parts the first field of a row from the rest.
-fn separator_of(form: RowForm) -> Separator
-    ensures { result ≡ separator_of form }
+fn separator_of(layout: RowLayout) -> Separator
+    ensures { result ≡ separator_of layout }
 {
-    match form {
-        RowForm::Fields(separator) => separator,
-        RowForm::Pfx2as | RowForm::Routes(_) => Separator::WhiteSpace,
+    match layout {
+        RowLayout::Fields(separator) => separator,
+        RowLayout::Pfx2as | RowLayout::Routes(_) => Separator::WhiteSpace,
     }
 }
 
@@ -153,23 +163,36 @@ fn prefix_row<'a>(
 
 /// The row of a first field and the rest of the line.
 fn row_in<'a>(
-    form: RowForm,
+    layout: RowLayout,
     host_bits: HostBits,
     first: &[u8],
     rest: &'a [u8],
 ) -> Result<(IpCidr, &'a [u8]), LineError>
-    ensures { MatchResult result (λ row. PartsSay form host_bits first.now rest.now row.0 row.1.now)
-        (IsBadParts form host_bits first.now rest.now) }
+    ensures { MatchResult result (λ row. PartsSay layout host_bits first.now rest.now row.0 row.1.now)
+        (IsBadParts layout host_bits first.now rest.now) }
 {
-    match form {
-        RowForm::Fields(_) => match cell_network(host_bits, first) {
+    match layout {
+        RowLayout::Fields(_) => match cell_network(host_bits, first) {
             Ok(network) => Ok((network, rest)),
             Err(e) => Err(e),
         },
-        RowForm::Pfx2as => prefix_row(host_bits, first, rest),
-        RowForm::Routes(family) => match network_in(host_bits, route_text(family, first)) {
+        RowLayout::Pfx2as => prefix_row(host_bits, first, rest),
+        RowLayout::Routes(family) => match network_in(host_bits, route_text(family, first)) {
             Ok(network) => Ok((network, rest)),
             Err(e) => Err(e),
+        },
+    }
+}
+
+/// Whether a value can be told in a format: in JSON it has to be UTF-8.
+pub fn check_value(format: LineFormat, value: &[u8]) -> Result<(), LineError>
+    ensures { MatchResult result (λ _. Fits format value.now) (IsUnfit format value.now) }
+{
+    match format {
+        LineFormat::Plain => Ok(()),
+        LineFormat::Json => match str::from_utf8(value) {
+            Ok(_) => Ok(()),
+            Err(_) => Err(LineError::NotUtf8(byte_excerpt(value))),
         },
     }
 }
@@ -178,22 +201,27 @@ fn row_in<'a>(
 /// `;`, unless this parts fields. Only a whole line is a comment, so that a value may have any bytes. A line of more than
 /// 1 MiB is for the caller to find.
 ///
-/// The errors are `Quoted`, for `RowForm::Fields`; then, for `RowForm::Pfx2as`, `NotUtf8` or `NoAddress` of the first
-/// field, `NoField` where no length stands behind it, and `NoLength` of one of more than 45 bytes; and then `NotUtf8` and
-/// `NoNetwork` of the network. It takes time in the length of the line and allocates nothing.
+/// The errors are `Quoted`, for `RowLayout::Fields`; then, for `RowLayout::Pfx2as`, `NotUtf8` or `NoAddress` of the first
+/// field, `NoField` where no length stands behind it, and `NoLength` of one of more than 45 bytes; then `NotUtf8` and
+/// `NoNetwork` of the network; and then, for `LineFormat::Json`, `NotUtf8` of the value. It takes time in the length of the
+/// line and allocates nothing.
 pub fn row_of(
     form: RowForm,
     host_bits: HostBits,
     line: &[u8],
 ) -> Result<Option<(IpCidr, &[u8])>, LineError>
     ensures { MatchResult result (λ said. RowFieldsSay form host_bits line.now (option_map (λ row. (row.0, row.1.now)) said))
-        (HasBadNetwork form host_bits line.now) }
+        (HasRowError form host_bits line.now) }
 {
-    let Some((first, rest)) = split_row(separator_of(form), line) else {
+    let Some((first, rest)) = split_row(separator_of(form.layout), line) else {
         return Ok(None);
     };
-    match row_in(form, host_bits, first, rest) {
-        Ok(row) => Ok(Some(row)),
+    let row = match row_in(form.layout, host_bits, first, rest) {
+        Ok(row) => row,
+        Err(e) => return Err(e),
+    };
+    match check_value(form.values, row.1) {
+        Ok(()) => Ok(Some(row)),
         Err(e) => Err(e),
     }
 }

@@ -1,22 +1,10 @@
 //! Strings of JSON.
-ghost use Rattle.std.specs.Prelude.{◌≡◌, ◌<◌, ◌++◌, OnOk};
-ghost use Rattle.std.specs.Char.{digit_char};
+ghost use Rattle.std.specs.Prelude.{◌≡◌, ◌++◌, OnOk};
 ghost use Rattle.cidr_lists.specs.Json.{spelling, string_text};
 
 use arrayvec::ArrayVec;
+use cidr_io::shown::hex_digit;
 use std::alloc::AllocError;
-
-/// A hexadecimal digit.
-fn hex_digit(value: u8) -> u8
-    requires { value < 16 }
-    ensures { result ≡ digit_char value }
-{
-    if value < 10 {
-        b'0' + value
-    } else {
-        b'a' + (value - 10)
-    }
-}
 
 /// A byte of UTF-8 as it is written in a string of JSON (RFC 8259, 7): a quote and a backslash behind a backslash, a control
 /// character of ASCII as its code, `\u0009`, and any other as it is. So the bytes of a text are written one after the other.
@@ -34,8 +22,8 @@ pub fn spelling(byte: u8) -> ArrayVec<u8, 6>
         text.push(b'u');
         text.push(b'0');
         text.push(b'0');
-        text.push(hex_digit(byte / 16));
-        text.push(hex_digit(byte % 16));
+        text.push(hex_digit(byte / 16) as u8);
+        text.push(hex_digit(byte % 16) as u8);
         return text;
     }
     text.push(byte);

@@ -1,6 +1,6 @@
 //! What a line of a list says: nothing, a network, an address or a range.
-ghost use Rattle.std.specs.Prelude.{◌≡◌, [], IfSome, MatchResult};
-ghost use Rattle.std.specs.List.{before_first};
+ghost use Rattle.std.specs.Prelude.{◌≡◌, ◌≤◌, [], length, IfSome, MatchResult};
+ghost use Rattle.std.specs.List.{before_first, position_or_len};
 ghost use Rattle.cidr.specs.declared.addr.ip.IpAddr.TheVariants.{V4, V6};
 ghost use Rattle.cidr_lists.specs.Lists.{AreEnds, IsEnd, IsNetworkBy, IsNoNetworkBy, is_comment_sign};
 ghost use Rattle.cidr_lists.specs.Reading.{IsNoEnd, ReadsField, ReadsLine, without_masks};
@@ -64,17 +64,22 @@ pub(crate) fn is_comment_sign(byte: u8) -> bool
     byte == b'#' || byte == b';'
 }
 
+/// How many bytes stand before the first that begins a comment.
+fn len_to_comment(line: &[u8]) -> usize
+    ensures first { result ≡ position_or_len is_comment_sign line.now }
+    ensures fits { result ≤ length line.now }
+{
+    line.iter()
+        .position(|byte| is_comment_sign(*byte))
+        .unwrap_or(line.len())
+}
+
 /// The line without its comment, which goes from the first `#` or `;` to the end: of `10.0.0.0/8 # ours` it is
 /// `10.0.0.0/8 `, with the space.
 pub fn without_comment(line: &[u8]) -> &[u8]
     ensures { result.now ≡ before_first is_comment_sign line.now }
 {
-    for (place, byte) in line.iter().enumerate() {
-        if is_comment_sign(*byte) {
-            return &line[..place];
-        }
-    }
-    line
+    &line[..len_to_comment(line)]
 }
 
 /// The address that an end of a range is, without white space at both ends.

@@ -3,15 +3,37 @@ ghost use Rattle.std.specs.Prelude.{◌≡◌, ◌++◌, OnOk, Some, codes, opti
 ghost use Rattle.cidr.specs.either.IpAddress.{address_family, plain_bits};
 ghost use Rattle.cidr_lists.specs.Formats.{json, network_by};
 ghost use Rattle.cidr_lists.specs.Json.{string_text};
-ghost use Rattle.cidr_lists.specs.LookUps.{look_object};
+ghost use Rattle.cidr_lists.specs.LookUps.{look_object, telling_by};
 ghost use Rattle.cidr_lists.specs.Printing.{line};
 ghost use Rattle.cidr_lists.specs.declared.formats.Notation.TheVariants.{Members};
 
-use crate::formats::{Notation, Written, object_end};
+use crate::formats::{LineFormat, Notation, Written, object_end};
 use crate::json::push_string;
 use arrayvec::ArrayString;
 use cidr::{BitString, Family, IpAddr, Ipv4Cidr, Ipv6Cidr};
 use std::alloc::AllocError;
+
+/// How look-ups are told.
+#[derive(Clone, Copy, Debug, Drop, PartialEq)]
+pub enum Telling {
+    /// A line for each address: `192.0.2.1 192.0.2.0/24 ours`.
+    Alone,
+    /// Each line as it is, and behind it the network of its address and the value of that.
+    Kept,
+    /// An object of JSON for each address.
+    Objects,
+}
+
+/// How look-ups are told in a format, by whether lines are kept, which goes with text alone.
+pub fn telling_by(format: LineFormat, keeps: bool) -> Telling
+    ensures { result ≡ telling_by format keeps }
+{
+    match (format, keeps) {
+        (LineFormat::Json, _) => Telling::Objects,
+        (LineFormat::Plain, true) => Telling::Kept,
+        (LineFormat::Plain, false) => Telling::Alone,
+    }
+}
 
 /// The members of the network of the first `len` bits of an address; of the address itself where `len` is above its width.
 fn members_of(address: &IpAddr, len: u8) -> ArrayString<200>

@@ -14,28 +14,16 @@ use crate::lines::{HostBits, content_of};
 use crate::lists::Lists;
 use crate::printing::{Printed, PrintedAddress, count_text};
 use crate::sets::{Form, Sets};
-use cidr_io::lines::is_too_long;
+use cidr_io::lines::{feed_in, is_too_long};
 use cidr_sets::Ranges;
 use std::alloc::{AllocError, Global};
-
-/// Whether a byte is a line feed.
-fn is_line_feed(byte: u8) -> bool
-    ensures { result ≡ is_line_feed byte }
-{
-    byte == b'\n'
-}
 
 /// How many bytes the first line has, without its line feed.
 pub(crate) fn line_len(text: &[u8]) -> usize
     ensures first { result ≡ position_or_len is_line_feed text.now }
     ensures fits { result ≤ length text.now }
 {
-    for (place, byte) in text.iter().enumerate() {
-        if is_line_feed(*byte) {
-            return place;
-        }
-    }
-    text.len()
+    feed_in(text).unwrap_or(text.len())
 }
 
 /// Adds the networks that a line says.

@@ -40,12 +40,9 @@ fn word_len(family: Family, line: &[u8]) -> usize
     ensures first { result ≡ position_or_len (ends_word family) line.now }
     ensures fits { result ≤ length line.now }
 {
-    for (place, byte) in line.iter().enumerate() {
-        if ends_word(family, *byte) {
-            return place;
-        }
-    }
-    line.len()
+    line.iter()
+        .position(|byte| ends_word(family, *byte))
+        .unwrap_or(line.len())
 }
 
 /// A word without the dots at its end.

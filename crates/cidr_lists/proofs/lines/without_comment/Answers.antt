@@ -1,11 +1,5 @@
-use Rattle.std.proofs.Common.{sym, ◌∙◌}
-use Rattle.cidr_lists.proofs.LineFeeds.{cut_at_first, uncut}
-use Rattle.cidr_lists.specs.Lists.{is_comment_sign}
+use Rattle.std.proofs.Common.{ap, take, ℕ}
 use Rattle.cidr_lists.proofs.lines.without_comment.Goals as goal
 
-pub returns-then-is_comment_sign : goal.returns-then-is_comment_sign
-returns-then-is_comment_sign c =
-    cut_at_first is_comment_sign c.args.line.now c.loop-place.place c.loop-place.invariant c.loop-place-test.true (sym c.is_comment_sign.ensures ∙ c.if-is_comment_sign.true)
-
 pub returns : goal.returns
-returns c = uncut is_comment_sign c.args.line.now c.loop-place.place c.loop-place.invariant c.loop-place-test.false
+returns c = ap (λ (n : ℕ). take n c.args.line.now) c.len_to_comment.ensures.first

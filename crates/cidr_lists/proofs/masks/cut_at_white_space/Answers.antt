@@ -1,7 +1,15 @@
-use Rattle.std.proofs.Common.{◌≡◌, ◌-◌, ◌<◌, ◌≤◌, ℕ, List, length, take, slice_index_or, true, sym, ap, ◌∙◌, arith}
+use Rattle.std.proofs.Common.{◌≡◌, ◌-◌, ◌<◌, ◌≤◌, ℕ, Bool, List, length, take, slice_index_or, true, false, sym, ap, ◌∙◌, arith}
 use Rattle.std.specs.Char.{is_ascii_whitespace}
-use Rattle.cidr_lists.proofs.LineFeeds.{cut_at_first, uncut}
+use Rattle.std.specs.List.{before_first}
+use Rattle.std.proofs.lemmas.List.Sums.{position_or_len_is}
+use Rattle.cidr_lists.proofs.LineFeeds.{uncut}
 use Rattle.cidr_lists.proofs.masks.cut_at_white_space.Goals as goal
+
+-- what stands before the first byte that passes
+cut_at_first : (p : ℕ → Bool) (line : List ℕ) (place : ℕ) → ((k : ℕ) → k < place → p (slice_index_or line k 0) ≡ false)
+    → place < length line → p (slice_index_or line place 0) ≡ true → take place line ≡ before_first p line
+cut_at_first p line place below within here =
+    ap (λ (k : ℕ). take k line) (sym (position_or_len_is p line place 0 (omega arith) below (λ _. here)))
 
 pub returns-then-is_ascii_whitespace-clause-front : goal.returns-then-is_ascii_whitespace-clause-front
 returns-then-is_ascii_whitespace-clause-front c =

@@ -1,18 +1,14 @@
-use Rattle.std.proofs.Common.{arith, sym, ◌∙◌}
-use Rattle.std.proofs.lemmas.List.Sums.{position_or_len_is}
+use Rattle.std.proofs.Common.{rules}
+use borrow.Author.Tests.{tests}
 use Rattle.cidr_lists.specs.Words.{ends_word}
+use Rattle.std.proofs.lemmas.Iterator.{YieldsList-from_slice}
+use Rattle.std.proofs.lemmas.Iterator.Search.{position_from_yields_List}
+use Rattle.cidr_lists.proofs.LineFeeds.{place_or_len}
 use Rattle.cidr_lists.proofs.words.word_len.Goals as goal
 
-pub returns-then-ends_word : goal.returns-then-ends_word
-returns-then-ends_word c = record {
-  first = sym (position_or_len_is (ends_word c.args.family) c.args.line.now c.loop-place.place 0 (omega (arith, c.loop-place-test.true)) c.loop-place.invariant
-      (λ _. sym c.ends_word.ensures ∙ c.if-ends_word.true));
-  fits = omega (arith, c.loop-place-test.true);
-}
-
 pub returns : goal.returns
-returns c = record {
-  first = sym (position_or_len_is (ends_word c.args.family) c.args.line.now _ 0 (omega arith)
-      (λ k within. c.loop-place.invariant k (omega (arith, within, c.loop-place-test.false))) (λ within. absurd (omega (arith, within))));
-  fits = omega arith;
-}
+returns c =
+    let found =
+    position_from_yields_List (ends_word c.args.family) _ _ c.position.result c.position.ensures.ran (YieldsList-from_slice c.args.line.now cc) (λ x b q k. search (rules, tests)) in
+    let both = place_or_len (ends_word c.args.family) c.args.line.now c.position.result c.unwrap_or.result found (search rules) in
+    record { first = both.0; fits = both.1 }

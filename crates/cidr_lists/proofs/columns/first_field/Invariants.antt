@@ -1,6 +1,0 @@
-use Rattle.std.proofs.Common.{◌≡◌, ℕ, ◌<◌, false, slice_index_or}
-use Rattle.std.specs.Char.{is_ascii_whitespace}
-use Rattle.cidr_lists.proofs.columns.first_field.Given as goal
-
-abbrev pub invariant-loop-place : goal.invariant-loop-place
-invariant-loop-place l = (k : ℕ) → k < l.place → is_ascii_whitespace (slice_index_or l.rest k 0) ≡ false
