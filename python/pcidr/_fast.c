@@ -192,11 +192,16 @@ static PyObject *same_by(PyObject *self, void *call) {
     return part_of(self, *(part *)call, (PyObject *)Py_TYPE(self));
 }
 
+/* What the library printed, which is all ASCII. */
+static PyObject *string_of(const char *room, size_t length) {
+    return PyUnicode_DecodeASCII(room, (Py_ssize_t)length, NULL);
+}
+
 /* A string with a prefix length or a mask; `any` has no mask. */
 static PyObject *string_by(PyObject *self, void *print) {
     char room[PCIDR_MASK_ROOM];
     size_t length = (*(printer *)print)(value_in(self), room, sizeof room);
-    if (length) return PyUnicode_FromStringAndSize(room, (Py_ssize_t)length);
+    if (length) return string_of(room, length);
     return PyErr_Format(PyExc_ValueError, "any has addresses of two families");
 }
 
@@ -204,7 +209,7 @@ static PyObject *string_by(PyObject *self, void *print) {
 static PyObject *name_of(PyObject *self, const pcidr_value *value) {
     char room[PCIDR_NAME_ROOM];
     size_t length = reverse_name(value, room, sizeof room);
-    if (length) return PyUnicode_FromStringAndSize(room, (Py_ssize_t)length);
+    if (length) return string_of(room, length);
     return PyErr_Format(PyExc_ValueError, "%S has no name in reverse DNS", self);
 }
 
@@ -286,8 +291,7 @@ static int filled(PyObject *self, PyObject *arguments, PyObject *named, const ki
 
 static PyObject *printed(PyObject *self, printer print) {
     char room[PCIDR_TEXT_ROOM];
-    size_t length = print(value_in(self), room, sizeof room);
-    return PyUnicode_FromStringAndSize(room, (Py_ssize_t)length);
+    return string_of(room, print(value_in(self), room, sizeof room));
 }
 
 static PyObject *compared(PyObject *self, PyObject *other, int operation, const kind *of) {

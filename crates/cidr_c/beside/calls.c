@@ -153,15 +153,19 @@ static uint32_t network_number(const pcidr_value *value) {
 
 static uint64_t rotated(uint64_t number) { return number << 9 | number >> 55; }
 
+/* Eight bytes at a time and then the last eight, and where there are fewer, one by one. */
 static uint32_t text_number(const char *text, size_t len) {
     uint64_t sum = len, eight;
-    size_t i = 0;
-    for (; len - i >= 8; i += 8) {
+    if (len < 8) {
+        for (size_t i = 0; i < len; i++) sum = rotated(sum) ^ (uint8_t)text[i];
+        return folded(sum);
+    }
+    for (size_t i = 0; len - i >= 8; i += 8) {
         memcpy(&eight, text + i, 8); /* low byte first, as most processors have it */
         sum = rotated(sum) ^ eight;
     }
-    for (; i < len; i++) sum = rotated(sum) ^ (uint8_t)text[i];
-    return folded(sum);
+    memcpy(&eight, text + len - 8, 8);
+    return folded(rotated(sum) ^ eight);
 }
 
 /* ---- the calls, each on all values of a round */

@@ -1,5 +1,6 @@
 -- Groups with all digits, one after another.
-use Rattle.std.proofs.Common.{◌≡◌, ℕ, List, [], ◌∷◌, ◌++◌, map, refl, sym, ap, ◌∙◌, append_assoc}
+use Rattle.std.proofs.Common.{◌≡◌, ℕ, ◌/◌, ◌%◌, List, [], ◌∷◌, ◌++◌, map, refl, sym, ap, ◌∙◌, append_assoc, arith}
+use Rattle.std.specs.Char.{digit_char}
 use Rattle.std.proofs.lemmas.List.{map-append}
 use Rattle.std.specs.List.{join_with_byte}
 use Rattle.cidr_c.specs.model.Texts.{group_digits}
@@ -17,5 +18,19 @@ digits_more g front x old =
     ap (λ ds. join_with_byte 58 (group_digits g ∷ ds)) (map-append group_digits front (x ∷ []))
     ∙ one_more (group_digits x) (group_digits g) (map group_digits front) in
     rw e (simp append_assoc)
+
+-- a group by its octets
+pub by_octets : (g : ℕ) (old : List ℕ)
+    → (old ++ digit_char (g / 256 / 16) ∷ digit_char (g / 256 % 16) ∷ []) ++ digit_char (g % 256 / 16) ∷ digit_char (g % 256 % 16) ∷ []
+    ≡ old ++ group_digits g
+unfolding group_digits
+by_octets g old =
+    let first : g / 256 / 16 ≡ g / 0x1000 = omega arith in
+    let third : g % 256 / 16 ≡ g / 0x10 % 16 = omega arith in
+    let fourth : g % 256 % 16 ≡ g % 16 = omega arith in
+    append_assoc old (digit_char (g / 256 / 16) ∷ digit_char (g / 256 % 16) ∷ []) (digit_char (g % 256 / 16) ∷ digit_char (g % 256 % 16) ∷ [])
+    ∙ ap (λ d. old ++ digit_char d ∷ digit_char (g / 256 % 16) ∷ digit_char (g % 256 / 16) ∷ digit_char (g % 256 % 16) ∷ []) first
+    ∙ ap (λ d. old ++ digit_char (g / 0x1000) ∷ digit_char (g / 256 % 16) ∷ digit_char d ∷ digit_char (g % 256 % 16) ∷ []) third
+    ∙ ap (λ d. old ++ digit_char (g / 0x1000) ∷ digit_char (g / 256 % 16) ∷ digit_char (g / 0x10 % 16) ∷ digit_char d ∷ []) fourth
 
 pub ruleset group_laws = (digits_more)

@@ -8,6 +8,7 @@ pub mod Forwarded
 pub mod Founds
 pub mod Free
 pub mod GroupDigits
+pub mod HostMasks
 pub mod Hosts
 pub mod Indexes
 pub mod LabelPairs
@@ -15,6 +16,7 @@ pub mod LineSteps
 pub mod Listed
 pub mod ListsRead
 pub mod Named
+pub mod MaskTexts
 pub mod NetworkBlocks
 pub mod NetworkLists
 pub mod Networks

@@ -1,14 +1,7 @@
 -- Two strings with a slash between them, written into a room one after the other.
-use Rattle.std.proofs.Common.{◌≡◌, ℕ, suc, ◌+◌, ◌-◌, ◌<◌, List, [], ◌∷◌, ◌++◌, length, drop, get_or, set, subst, sym, ap, ap₂, refl, Bool, ◌∙◌, arith, append_assoc, length-append, length-drop, drop-cons, drop-drop, take_at, drop_at}
+use Rattle.std.proofs.Common.{◌≡◌, ℕ, suc, ◌+◌, ◌-◌, ◌<◌, List, [], ◌∷◌, ◌++◌, length, drop, get_or, set, subst, sym, ap, ◌∙◌, arith, append_assoc, length-append, length-drop, drop-cons, drop-drop, take_at, drop_at}
 use Rattle.std.proofs.lemmas.List.{set_at}
 use borrow.Rule.Slice.PartMut.{put_mid}
-use Rattle.cidr.specs.either.IpNetwork.{address_by, network_family, network_prefix}
-use Rattle.cidr.specs.model.Network.{first_of, width_of}
-use Rattle.cidr.specs.texts.NetworkText.{slash}
-use Rattle.cidr.specs.texts.PrintedAddress.{address_text, ip_text}
-use Rattle.cidr.specs.declared.addr.ip.IpAddr.{IpAddr}
-use Rattle.cidr.specs.declared.cidr.combined.IpCidr.{IpCidr}
-use Rattle.cidr.specs.declared.cidr.combined.IpCidr.TheVariants.{V4, V6}
 use Rattle.cidr_c.specs.calls.Calls.{IsPrintedInto}
 
 module _ (a b old : List ℕ) (n m : ℕ) (na : n ≡ length a) (mb : m ≡ length b) (fits : n + 1 + m < length old) where
@@ -67,18 +60,3 @@ module _ (a b old : List ℕ) (n m : ℕ) (na : n ≡ length a) (mb : m ≡ leng
   both_printed x y new len first second is whole =
       subst (λ (p : List ℕ). IsPrintedInto (p ++ 47 ∷ y) old new len) first
       (subst (λ (q : List ℕ). IsPrintedInto (a ++ 47 ∷ q) old new len) second (printed new len is whole))
-
--- ---- a network with a mask
-masked_text : (mask : ℕ → List Bool → List Bool) (n : IpCidr) → ip_text (address_by first_of n) ++ slash ∷ ip_text (address_by mask n)
-    ≡ address_text (network_family n) (first_of (width_of (network_family n)) (network_prefix n))
-    ++ slash ∷ address_text (network_family n) (mask (width_of (network_family n)) (network_prefix n))
-masked_text mask (V4 p) = refl
-masked_text mask (V6 p) = refl
-
-pub masked_network : (mask : ℕ → List Bool → List Bool) (n m : IpCidr) (first shown : IpAddr) (old new : List ℕ) (len : ℕ) → n ≡ m
-    → first ≡ address_by first_of n → shown ≡ address_by mask n → IsPrintedInto (ip_text first ++ slash ∷ ip_text shown) old new len
-    → IsPrintedInto (address_text (network_family m) (first_of (width_of (network_family m)) (network_prefix m))
-    ++ slash ∷ address_text (network_family m) (mask (width_of (network_family m)) (network_prefix m))) old new len
-masked_network mask n m first shown old new len same is masked put =
-    subst (λ (t : List ℕ). IsPrintedInto t old new len)
-    (ap₂ (λ a b. ip_text a ++ slash ∷ ip_text b) (is ∙ ap (address_by first_of) same) (masked ∙ ap (address_by mask) same) ∙ masked_text mask m) put

@@ -1,7 +1,8 @@
 -- Rows of both families, and those of a file.
-use Rattle.std.proofs.Common.{◌≡◌, ◌≢◌, refl, sym, ◌∙◌, ap, ap₂, subst, arith, inl, inr, lt-ltb, le-ltb, ℕ, zero, suc, ◌+◌, ◌-◌, ◌^◌, ◌<◌, ◌≤◌, ◌⊎◌, Bool, cond, List, [], ◌∷◌, drop, get_or, length, map, replicate, take}
+use Rattle.std.proofs.Common.{◌≡◌, ◌≢◌, refl, sym, ◌∙◌, ap, ap₂, subst, arith, inl, inr, lt-ltb, le-ltb, ℕ, zero, suc, ◌+◌, ◌-◌, ◌^◌, ◌<◌, ◌≤◌, ◌⊎◌, Bool, cond, Option, Some, None, List, [], ◌∷◌, drop, get_or, length, map, replicate, take}
 use Rattle.std.proofs.lemmas.List.{drop-drop, drop-take, get_or-drop, get_or-map, get_or-replicate, get_or-take, length-drop, length-replicate, take-take}
-use Rattle.std.specs.List.{slice_range}
+use Rattle.std.specs.List.{AllWithin, HoldsAt, slice_range}
+use Rattle.std.specs.Option.{MatchOption, unwrap_or}
 use Rattle.cidr_files.specs.Layout.{ipv4_parts, ipv6_parts, wide_words, words}
 use Rattle.cidr_files.specs.Tables.{AreOffsets, IsFile, offsets_in, part_at, stored_networks}
 use Rattle.cidr_c.specs.model.Tables.{ipv4_pair, ipv6_pair}
@@ -17,6 +18,15 @@ rows_here (v ∷ vs) zero d within before other =
 rows_here (v ∷ vs) (suc k) d within before other =
     ap suc (rows_here vs k d (omega (arith, within)) (λ i l. before (suc i) (omega (arith, l))) (λ l. other (omega (arith, l))))
     ∙ ap (λ (b : Bool). cond b (suc (ipv4_rows vs)) 0) (sym (lt-ltb v.tag 64 (before 0 (omega arith))))
+
+-- the place of the first other value, or behind the last
+pub rows_first : (vs : List CValue) (d : CValue) (place : Option ℕ) (n : ℕ)
+    → MatchOption place (AllWithin (λ v. v.tag < 64) vs 0 (length vs)) (λ i. (i < length vs) × HoldsAt (λ v. 64 ≤ v.tag) vs i × AllWithin (λ v. v.tag < 64) vs 0 i)
+    → n ≡ unwrap_or place (length vs) → n ≡ ipv4_rows vs
+rows_first vs d (Some i) n found is =
+    is ∙ rows_here vs i d (omega (arith, found.0)) (λ k l. found.2 k d (omega arith) l) (λ l. found.1 d)
+rows_first vs d None n found is =
+    is ∙ rows_here vs (length vs) d (omega arith) (λ k l. found k d (omega arith) l) (λ l. absurd (omega (arith, l)))
 
 -- ---- values
 -- of the first rows

@@ -15,7 +15,7 @@ use crate::finding::{
     yes_or_no,
 };
 use crate::values::{CValue, address_of, ip_network_of, network_of, put_address, put_network};
-use cidr::{IpAddr, IpCidr};
+use cidr::{IpAddr, IpCidr, Ipv4Addr, Ipv4Cidr};
 use cidr_arrays::Halves;
 use cidr_ext::{CidrExt, IpCidrExt, NetworkExt};
 
@@ -123,14 +123,22 @@ pub extern "C" fn pcidr_host_mask_by_value(host: CValue, out: &mut CValue) -> u3
     OK
 }
 
-/// The host mask of a network. Each family is asked by its own type, which takes about half the time in IPv4.
-pub fn host_mask(network: &IpCidr) -> IpAddr
+/// The host mask of a network.
+fn host_mask(network: &IpCidr) -> IpAddr
     ensures { result ≡ address_by host_mask_of network.now }
 {
     match network {
-        IpCidr::V4(network) => IpAddr::V4(network.host_mask()),
+        IpCidr::V4(network) => IpAddr::V4(ipv4_host_mask(network)),
         IpCidr::V6(network) => IpAddr::V6(network.host_mask()),
     }
+}
+
+/// The host mask of an IPv4 network, which `cidr_ext` makes in 128 bits.
+#[inline(always)]
+pub fn ipv4_host_mask(network: &Ipv4Cidr) -> Ipv4Addr
+    ensures { result ≡ host_mask_of 32 network.now }
+{
+    Ipv4Addr::from_bits(u32::MAX - network.mask().to_bits())
 }
 
 /// The address at index high * 2^64 + low of the network of a host, counted from 0, or none where the network has no more

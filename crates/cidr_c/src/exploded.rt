@@ -1,5 +1,5 @@
 //! Addresses and hosts as strings with all hexadecimal digits.
-ghost use Rattle.std.specs.Prelude.{◌≡◌, ◌+◌, ◌*◌, ◌-◌, ◌<◌, ◌≤◌, ◌++◌, decimal, length, map};
+ghost use Rattle.std.specs.Prelude.{◌≡◌, ◌+◌, ◌*◌, ◌-◌, ◌/◌, ◌%◌, ◌≤◌, [], ◌∷◌, ◌++◌, decimal, length, map};
 ghost use Rattle.std.specs.Char.{digit_char};
 ghost use Rattle.std.specs.List.{join_with_byte};
 ghost use Rattle.arrayvec.specs.ArrayVec.{array_vec_len};
@@ -13,10 +13,12 @@ ghost use Rattle.cidr_c.specs.model.Networks.{address_bits_in, address_family_in
 ghost use Rattle.cidr_c.specs.model.Texts.{exploded_host_text, exploded_text, group_digits};
 ghost use Rattle.cidr_c.specs.model.Values.{IsAddressValue, IsHostValue, host_in};
 
+use crate::labels::two_labels;
 use crate::printing::{print, print_bytes};
 use crate::values::{CValue, address_of, host_of};
 use arrayvec::ArrayVec;
 use cidr::{IpAddr, IpInet, Ipv6Addr, Ipv6Inet};
+use itoa::Buffer;
 
 /// Writes an address as a string, in IPv6 with all digits, and returns its length, at most 39; 0 where the value is no
 /// address.
@@ -52,7 +54,7 @@ fn print_address(address: &IpAddr, out: &mut [u8]) -> usize
 {
     match address {
         IpAddr::V4(address) => print(address.to_text().as_str(), out),
-        IpAddr::V6(address) => print_bytes(exploded(address).as_slice(), out),
+        IpAddr::V6(address) => print_ipv6_address(address, out),
     }
 }
 
@@ -62,28 +64,28 @@ fn print_host(host: &IpInet, out: &mut [u8]) -> usize
 {
     match host {
         IpInet::V4(host) => print(host.with_length().to_text().as_str(), out),
-        IpInet::V6(host) => print_bytes(exploded_host(host).as_slice(), out),
+        IpInet::V6(host) => print_ipv6_host(host, out),
     }
 }
 
-/// The bytes of an address with all digits.
-fn exploded(address: &Ipv6Addr) -> ArrayVec<u8, 43>
-    ensures bytes { result.items ≡ exploded_text Ipv6 address.now }
-    ensures len { array_vec_len result ≡ 39 }
+/// Writes an IPv6 address with all digits. The string stays where it was made.
+fn print_ipv6_address(address: &Ipv6Addr, out: &mut [u8]) -> usize
+    ensures { IsPrintedInto (exploded_text Ipv6 address.now) out.old out.new result }
 {
     let mut text = ArrayVec::new();
     push_groups(&mut text, &address.segments());
-    text
+    print_bytes(text.as_slice(), out)
 }
 
-/// The bytes of a host with all digits, and its prefix length.
-fn exploded_host(host: &Ipv6Inet) -> ArrayVec<u8, 43>
-    ensures { result.items ≡ exploded_host_text Ipv6 host.now }
+/// Writes an IPv6 host with all digits, and its prefix length.
+fn print_ipv6_host(host: &Ipv6Inet, out: &mut [u8]) -> usize
+    ensures { IsPrintedInto (exploded_host_text Ipv6 host.now) out.old out.new result }
 {
-    let mut text = exploded(&host.address());
+    let mut text = ArrayVec::new();
+    push_groups(&mut text, &host.address().segments());
     text.push(b'/');
     push_decimal(&mut text, host.network_length());
-    text
+    print_bytes(text.as_slice(), out)
 }
 
 /// Appends groups with all digits, with colons between them.
@@ -104,47 +106,34 @@ fn push_groups(text: &mut ArrayVec<u8, 43>, groups: &[u16])
 
 /// Appends the four digits of a group.
 #[inline(always)]
-#[tactic(auto, unfolding(crate::specs::model::Texts::group_digits))]
 fn push_group(text: &mut ArrayVec<u8, 43>, group: u16)
     requires { array_vec_len text.old + 4 ≤ 43 }
     ensures bytes { text.new.items ≡ text.old.items ++ group_digits group }
     ensures len { array_vec_len text.new ≡ array_vec_len text.old + 4 }
 {
-    text.push(hex_digit(group / 0x1000));
-    text.push(hex_digit(group / 0x100 % 16));
-    text.push(hex_digit(group / 0x10 % 16));
-    text.push(hex_digit(group % 16));
+    push_octet(text, (group / 0x100) as u8);
+    push_octet(text, (group % 0x100) as u8);
 }
 
-/// The hexadecimal digit, in lower case.
+/// Appends the two digits of an octet, which are its labels in reverse DNS the other way round.
 #[inline(always)]
-pub fn hex_digit(digit: u16) -> u8
-    requires { digit < 16 }
-    ensures value { result ≡ digit_char digit }
-    ensures ascii { result < 128 }
+fn push_octet(text: &mut ArrayVec<u8, 43>, octet: u8)
+    requires { array_vec_len text.old + 2 ≤ 43 }
+    ensures bytes { text.new.items ≡ text.old.items ++ digit_char (octet / 16) ∷ digit_char (octet % 16) ∷ [] }
+    ensures len { array_vec_len text.new ≡ array_vec_len text.old + 2 }
 {
-    let digit = digit as u8;
-    if digit < 10 {
-        b'0' + digit
-    } else {
-        b'a' - 10 + digit
-    }
+    let labels = two_labels(octet).as_bytes();
+    text.push(labels[2]);
+    text.push(labels[0]);
 }
 
 /// Appends the number in decimal.
-#[tactic(auto, using(cidr::specs::laws::DecimalLaws::decimal_laws))]
 fn push_decimal(text: &mut ArrayVec<u8, 43>, n: u8)
     requires { array_vec_len text.old + 3 ≤ 43 }
     ensures { text.new.items ≡ text.old.items ++ decimal n }
 {
-    if n >= 100 {
-        text.push(b'0' + n / 100);
-        text.push(b'0' + n / 10 % 10);
-        text.push(b'0' + n % 10);
-    } else if n >= 10 {
-        text.push(b'0' + n / 10);
-        text.push(b'0' + n % 10);
-    } else {
-        text.push(b'0' + n);
-    }
+    let mut digits = Buffer::new();
+    let Ok(()) = text.try_extend_from_slice(digits.format(n).as_bytes()) else {
+        unreachable!()
+    };
 }

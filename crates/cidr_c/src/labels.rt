@@ -1,5 +1,5 @@
 //! The names of networks in reverse DNS. `cidr_ext` writes the labels of IPv6 one by one; here two at a time are in a table.
-ghost use Rattle.std.specs.Prelude.{◌≡◌, ◌+◌, ◌*◌, ◌/◌, ◌%◌, ◌^◌, ◌<◌, ◌≤◌, [], ◌∷◌, ◌++◌, Bool, List, length, reverse, MatchOption};
+ghost use Rattle.std.specs.Prelude.{◌≡◌, ◌+◌, ◌*◌, ◌/◌, ◌%◌, ◌^◌, ◌<◌, ◌≤◌, [], ◌∷◌, ◌++◌, Bool, List, length, reverse};
 ghost use Rattle.std.specs.Char.{digit_char};
 ghost use Rattle.cidr.specs.either.IpNetwork.{network_family, network_prefix};
 ghost use Rattle.cidr.specs.model.Address.{parts_of};
@@ -7,11 +7,13 @@ ghost use Rattle.cidr.specs.model.Bits.{number};
 ghost use Rattle.cidr.specs.texts.Ipv4Text.{dot};
 ghost use Rattle.cidr.specs.declared.family.Family.TheVariants.{Ipv6};
 ghost use Rattle.cidr_ext.specs.texts.Reverse.{EndsAtLabel, labels_text, reverse_text};
+ghost use Rattle.cidr_c.specs.calls.Calls.{IsPrintedInto, IsUnprinted};
 
-use crate::exploded::hex_digit;
+use crate::printing::print;
 use arrayvec::ArrayString;
 use cidr::{IpCidr, Ipv6Cidr};
 use cidr_ext::CidrReverseName;
+use cidr_io::shown::hex_digit;
 
 /// The two labels of each octet, the last one first, with a dot behind each.
 const LABELS: &str = "\
@@ -32,32 +34,36 @@ const LABELS: &str = "\
     0.e.1.e.2.e.3.e.4.e.5.e.6.e.7.e.8.e.9.e.a.e.b.e.c.e.d.e.e.e.f.e.\
     0.f.1.f.2.f.3.f.4.f.5.f.6.f.7.f.8.f.9.f.a.f.b.f.c.f.d.f.e.f.f.f.";
 
-/// The name of a network, or `None` where its prefix length doesn't end at a label.
-pub fn name_of(network: &IpCidr) -> Option<ArrayString<72>>
-    ensures { MatchOption result (¬ (EndsAtLabel (network_family network.now) (network_prefix network.now)))
-        (λ name. (name.bytes ≡ reverse_text (network_family network.now) (network_prefix network.now))
-        × EndsAtLabel (network_family network.now) (network_prefix network.now)) }
+/// Writes the name of a network, and returns its length; 0 where the prefix length doesn't end at a label.
+pub fn print_name(network: &IpCidr, out: &mut [u8]) -> usize
+    ensures named { EndsAtLabel (network_family network.now) (network_prefix network.now) →
+        IsPrintedInto (reverse_text (network_family network.now) (network_prefix network.now)) out.old out.new result }
+    ensures other { ¬ (EndsAtLabel (network_family network.now) (network_prefix network.now)) →
+        IsUnprinted out.old out.new result }
 {
     match network {
-        IpCidr::V4(network) => network.reverse_name(),
-        IpCidr::V6(network) => ipv6_name(network),
+        IpCidr::V4(network) => match network.reverse_name() {
+            Some(name) => print(name.as_str(), out),
+            None => 0,
+        },
+        IpCidr::V6(network) => print_ipv6_name(network, out),
     }
 }
 
-/// The same of an IPv6 network.
-fn ipv6_name(network: &Ipv6Cidr) -> Option<ArrayString<72>>
-    ensures { MatchOption result (¬ (EndsAtLabel Ipv6 network.now))
-        (λ name. (name.bytes ≡ reverse_text Ipv6 network.now) × EndsAtLabel Ipv6 network.now) }
+/// The same of an IPv6 network. The string stays where it was made.
+fn print_ipv6_name(network: &Ipv6Cidr, out: &mut [u8]) -> usize
+    ensures named { EndsAtLabel Ipv6 network.now → IsPrintedInto (reverse_text Ipv6 network.now) out.old out.new result }
+    ensures other { ¬ (EndsAtLabel Ipv6 network.now) → IsUnprinted out.old out.new result }
 {
     let len = network.network_length();
     if len % 4 != 0 {
-        return None;
+        return 0;
     }
     let value = shifted_out(network.first_address().to_bits(), 128 - len);
     let mut name = ArrayString::new();
     push_labels(&mut name, value, len / 4);
     name.push_str("ip6.arpa");
-    Some(name)
+    print(name.as_str(), out)
 }
 
 /// The number without so many of its last bits.
@@ -78,14 +84,14 @@ fn push_labels(name: &mut ArrayString<72>, value: u128, count: u8)
         name.push_str(two_labels((value % 256) as u8));
         push_labels(name, value / 256, count - 2);
     } else if count == 1 {
-        name.push(char::from(hex_digit((value % 16) as u16)));
+        name.push(hex_digit((value % 16) as u8));
         name.push('.');
     }
 }
 
 /// The two labels of an octet, the last one first, with a dot behind each.
 #[inline(always)]
-fn two_labels(octet: u8) -> &'static str
+pub fn two_labels(octet: u8) -> &'static str
     ensures value { result.now ≡ digit_char (octet % 16) ∷ dot ∷ digit_char (octet / 16) ∷ dot ∷ [] }
     ensures len { length result.now ≡ 4 }
 {

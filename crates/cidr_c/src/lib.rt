@@ -20,6 +20,7 @@ mod laws;
 mod lines;
 mod lists;
 mod lookups;
+mod mask_texts;
 mod masks;
 mod names;
 mod parts;

@@ -5,6 +5,7 @@ ghost use Rattle.cidr_c.specs.calls.Lines.{AreLinesPrinted, AreLinesRead, IsFirs
 use crate::codes::{NO_ROOM, NO_VALUE, OK};
 use crate::reading::pcidr_read_network;
 use crate::values::{CValue, network_of};
+use cidr_io::lines::feed_in;
 
 /// Reads networks, one a line, into the front of a room, and says how many lines that were: 0 at the end of the text,
 /// else the number of the error of the line that comes next, or that the room is full.
@@ -36,12 +37,10 @@ pub extern "C" fn pcidr_read_lines(text: &[u8], out: &mut [CValue], count: &mut 
 fn first_line(text: &[u8]) -> (&[u8], &[u8], bool)
     ensures { IsFirstLine text.now result.0.now result.1.now result.2 }
 {
-    for (place, byte) in text.iter().enumerate() {
-        if *byte == b'\n' {
-            return (&text[..place], &text[place + 1..], true);
-        }
+    match feed_in(text) {
+        Some(place) => (&text[..place], &text[place + 1..], true),
+        None => (text, &[], false),
     }
-    (text, &[], false)
 }
 
 /// Reads a network into a place of a room, if it has that place.

@@ -4,7 +4,7 @@ ghost use Rattle.cidr.specs.either.IpAddress.{address_family, plain_bits};
 ghost use Rattle.cidr.specs.either.IpNetwork.{network_family, network_prefix};
 ghost use Rattle.cidr.specs.model.Network.{mask_of};
 ghost use Rattle.cidr.specs.texts.NetworkText.{slash};
-ghost use Rattle.cidr.specs.texts.PrintedAddress.{ip_text};
+ghost use Rattle.cidr.specs.texts.PrintedAddress.{ipv4_text, ipv6_text};
 ghost use Rattle.cidr_ext.specs.model.Inside.{IsHostMaskOf, IsMaskOf, host_mask_of};
 ghost use Rattle.cidr_ext.specs.texts.MaskText.{ReadsMaskText, host_mask_text, mask_text};
 ghost use Rattle.cidr_c.specs.calls.Calls.{IsPrintedInto, IsRead, IsUnprinted};
@@ -13,12 +13,13 @@ ghost use Rattle.cidr_c.specs.model.Networks.{IsLengthSought, address_bits_in, a
 ghost use Rattle.cidr_c.specs.model.Texts.{masked_host_text};
 ghost use Rattle.cidr_c.specs.model.Values.{IsAddressValue, IsHostValue, IsIpNetworkValue, family_in, host_in, ip_network_in, prefix_in};
 
-use crate::around::host_mask;
+use crate::around::ipv4_host_mask;
 use crate::codes::{NO_VALUE, NOT_UTF8, OK, mask_code};
 use crate::finding::put_plain;
-use crate::values::{CValue, address_of, host_of, ip_network_of, put_ip_network};
-use cidr::{IpAddr, IpCidr};
-use cidr_ext::{AddressExt, CidrMaskText};
+use crate::mask_texts::{ipv6_host_mask_text, ipv6_mask_text};
+use crate::values::{CValue, address_of, ipv4_host, ipv6_host, is_ipv4, put_ip_network};
+use cidr::{IpCidr, Ipv4Addr, Ipv4Cidr, Ipv6Addr, Ipv6Cidr};
+use cidr_ext::{AddressExt, CidrExt, CidrMaskText};
 
 /// The prefix length of a network mask, or none where a set bit of the address follows an unset one.
 #[unsafe(no_mangle)]
@@ -53,8 +54,14 @@ pub extern "C" fn pcidr_print_with_mask(host: &CValue, out: &mut [u8]) -> usize
         IsPrintedInto (mask_text (family_in host.now) (prefix_in host.now)) out.old out.new result }
     ensures other { ¬ (IsHostValue host.now) → IsUnprinted out.old out.new result }
 {
-    match ip_network_of(host) {
-        Some(network) => print_masked(&network.first_address(), &network.mask(), out),
+    if is_ipv4(host) {
+        return match ipv4_host(host) {
+            Some(host) => print_ipv4_mask(&host.first_address(), &host.network(), out),
+            None => 0,
+        };
+    }
+    match ipv6_host(host) {
+        Some(host) => print_ipv6_mask(&host.first_address(), &host.network(), out),
         None => 0,
     }
 }
@@ -66,8 +73,14 @@ pub extern "C" fn pcidr_print_with_host_mask(host: &CValue, out: &mut [u8]) -> u
         IsPrintedInto (host_mask_text (family_in host.now) (prefix_in host.now)) out.old out.new result }
     ensures other { ¬ (IsHostValue host.now) → IsUnprinted out.old out.new result }
 {
-    match ip_network_of(host) {
-        Some(network) => print_masked(&network.first_address(), &host_mask(&network), out),
+    if is_ipv4(host) {
+        return match ipv4_host(host) {
+            Some(host) => print_ipv4_host_mask(&host.first_address(), &host.network(), out),
+            None => 0,
+        };
+    }
+    match ipv6_host(host) {
+        Some(host) => print_ipv6_host_mask(&host.first_address(), &host.network(), out),
         None => 0,
     }
 }
@@ -79,8 +92,14 @@ pub extern "C" fn pcidr_print_host_with_mask(host: &CValue, out: &mut [u8]) -> u
         IsPrintedInto (masked_host_text mask_of (host_in host.now)) out.old out.new result }
     ensures other { ¬ (IsHostValue host.now) → IsUnprinted out.old out.new result }
 {
-    match host_of(host) {
-        Some(host) => print_masked(&host.address(), &host.mask(), out),
+    if is_ipv4(host) {
+        return match ipv4_host(host) {
+            Some(host) => print_ipv4_mask(&host.address(), &host.network(), out),
+            None => 0,
+        };
+    }
+    match ipv6_host(host) {
+        Some(host) => print_ipv6_mask(&host.address(), &host.network(), out),
         None => 0,
     }
 }
@@ -92,18 +111,70 @@ pub extern "C" fn pcidr_print_host_with_host_mask(host: &CValue, out: &mut [u8])
         IsPrintedInto (masked_host_text host_mask_of (host_in host.now)) out.old out.new result }
     ensures other { ¬ (IsHostValue host.now) → IsUnprinted out.old out.new result }
 {
-    match host_of(host) {
-        Some(host) => print_masked(&host.address(), &host_mask(&host.network()), out),
+    if is_ipv4(host) {
+        return match ipv4_host(host) {
+            Some(host) => print_ipv4_host_mask(&host.address(), &host.network(), out),
+            None => 0,
+        };
+    }
+    match ipv6_host(host) {
+        Some(host) => print_ipv6_host_mask(&host.address(), &host.network(), out),
         None => 0,
     }
 }
 
-/// Writes an address, a slash and a mask, and returns the length. Each string stays where it was printed.
+/// Writes an address and the mask of a network, and returns the length. Each string stays where it was printed.
 #[inline(always)]
-fn print_masked(address: &IpAddr, mask: &IpAddr, out: &mut [u8]) -> usize
-    ensures { IsPrintedInto (ip_text address.now ++ slash ∷ ip_text mask.now) out.old out.new result }
+fn print_ipv4_mask(address: &Ipv4Addr, network: &Ipv4Cidr, out: &mut [u8]) -> usize
+    ensures { IsPrintedInto (ipv4_text address.now ++ slash ∷ ipv4_text (mask_of 32 network.now)) out.old out.new result }
 {
-    print_both(address.to_text().as_str(), mask.to_text().as_str(), out)
+    print_both(
+        address.to_text().as_str(),
+        network.mask().to_text().as_str(),
+        out,
+    )
+}
+
+/// The same with the host mask.
+#[inline(always)]
+fn print_ipv4_host_mask(address: &Ipv4Addr, network: &Ipv4Cidr, out: &mut [u8]) -> usize
+    ensures { IsPrintedInto (ipv4_text address.now ++ slash ∷ ipv4_text (host_mask_of 32 network.now)) out.old out.new result }
+{
+    print_both(
+        address.to_text().as_str(),
+        ipv4_host_mask(network).to_text().as_str(),
+        out,
+    )
+}
+
+/// Writes an address and the mask of a network, which is printed only where it is no part of a string.
+#[inline(always)]
+fn print_ipv6_mask(address: &Ipv6Addr, network: &Ipv6Cidr, out: &mut [u8]) -> usize
+    ensures { IsPrintedInto (ipv6_text address.now ++ slash ∷ ipv6_text (mask_of 128 network.now)) out.old out.new result }
+{
+    match ipv6_mask_text(network.network_length()) {
+        Some(mask) => print_both(address.to_text().as_str(), mask, out),
+        None => print_both(
+            address.to_text().as_str(),
+            network.mask().to_text().as_str(),
+            out,
+        ),
+    }
+}
+
+/// The same with the host mask.
+#[inline(always)]
+fn print_ipv6_host_mask(address: &Ipv6Addr, network: &Ipv6Cidr, out: &mut [u8]) -> usize
+    ensures { IsPrintedInto (ipv6_text address.now ++ slash ∷ ipv6_text (host_mask_of 128 network.now)) out.old out.new result }
+{
+    match ipv6_host_mask_text(network.network_length()) {
+        Some(mask) => print_both(address.to_text().as_str(), mask, out),
+        None => print_both(
+            address.to_text().as_str(),
+            network.host_mask().to_text().as_str(),
+            out,
+        ),
+    }
 }
 
 /// Writes two strings with a slash between them, and returns the length.

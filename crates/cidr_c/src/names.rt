@@ -9,7 +9,7 @@ ghost use Rattle.cidr_c.specs.model.Values.{IsHostValue, family_in, prefix_in};
 
 use crate::codes::NOT_UTF8;
 use crate::finding::put_found_network;
-use crate::labels::name_of;
+use crate::labels::print_name;
 use crate::printing::print;
 use crate::values::{CValue, ip_network_of};
 use arrayvec::ArrayString;
@@ -25,11 +25,8 @@ pub extern "C" fn pcidr_print_reverse_name(host: &CValue, out: &mut [u8]) -> usi
     ensures other { ¬ (IsHostValue host.now × EndsAtLabel (family_in host.now) (prefix_in host.now)) →
         IsUnprinted out.old out.new result }
 {
-    let Some(network) = ip_network_of(host) else {
-        return 0;
-    };
-    match name_of(&network) {
-        Some(name) => print(name.as_str(), out),
+    match ip_network_of(host) {
+        Some(network) => print_name(&network, out),
         None => 0,
     }
 }

@@ -83,12 +83,7 @@ pub extern "C" fn pcidr_permits(rules: &[CRule], address: &CValue) -> u32
 fn are_rules(rules: &[CRule]) -> bool
     ensures { Decides result (AreRules rules.now) }
 {
-    for rule in rules {
-        let Some(_) = network_of(&rule.network) else {
-            return false;
-        };
-    }
-    true
+    rules.iter().all(|rule| network_of(&rule.network).is_some())
 }
 
 /// Whether the first rule whose network contains the address permits it.

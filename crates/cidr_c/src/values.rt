@@ -2,6 +2,7 @@
 ghost use Rattle.std.specs.Prelude.{◌≡◌, ◌<◌, ◌≤◌, ◌^◌, ◌↔◌, IsTrue, MatchOption};
 ghost use Rattle.cidr.specs.model.Bits.{bits};
 ghost use Rattle.cidr.specs.declared.cidr.any.AnyIpCidr.TheVariants.{V4, V6};
+ghost use Rattle.cidr.specs.declared.inet.combined.IpInet.TheVariants as host;
 ghost use Rattle.cidr_c.specs.model.Values.{IsLow, IsAddressValue, IsHostValue, IsIpNetworkValue, IsNetworkValue, address_in, host_in, ip_network_in, network_in, number_in};
 
 use cidr::{
@@ -115,26 +116,49 @@ pub fn network_of(value: &CValue) -> Option<AnyIpCidr>
     Some(AnyIpCidr::V6(network))
 }
 
+/// The IPv4 host that a value with the tag of an IPv4 prefix length is, if it is one.
+#[inline(always)]
+pub fn ipv4_host(value: &CValue) -> Option<Ipv4Inet>
+    ensures { value.now.tag < 64 → MatchOption result (¬ (IsHostValue value.now))
+        (λ inet. IsHostValue value.now × (host.V4 inet ≡ host_in value.now)) }
+{
+    if value.tag > 32 {
+        return None;
+    }
+    let address = ipv4_in(value)?;
+    match Ipv4Inet::new(address, value.tag) {
+        Ok(host) => Some(host),
+        Err(_) => None,
+    }
+}
+
+/// The IPv6 host that a value with the tag of an IPv6 prefix length is, if it is one.
+#[inline(always)]
+pub fn ipv6_host(value: &CValue) -> Option<Ipv6Inet>
+    ensures { 64 ≤ value.now.tag → MatchOption result (¬ (IsHostValue value.now))
+        (λ inet. IsHostValue value.now × (host.V6 inet ≡ host_in value.now)) }
+{
+    if value.tag < IPV6 {
+        return None;
+    }
+    match Ipv6Inet::new(ipv6_in(value), value.tag - IPV6) {
+        Ok(host) => Some(host),
+        Err(_) => None,
+    }
+}
+
 /// The host that a value is, if it is one.
 #[inline(always)]
 pub fn host_of(value: &CValue) -> Option<IpInet>
     ensures { MatchOption result (¬ (IsHostValue value.now))
         (λ host. IsHostValue value.now × (host ≡ host_in value.now)) }
 {
-    if value.tag < IPV6 {
-        if value.tag > 32 {
-            return None;
-        }
-        let address = ipv4_in(value)?;
-        return match Ipv4Inet::new(address, value.tag) {
-            Ok(host) => Some(IpInet::V4(host)),
-            Err(_) => None,
-        };
+    if is_ipv4(value) {
+        let host = ipv4_host(value)?;
+        return Some(IpInet::V4(host));
     }
-    match Ipv6Inet::new(ipv6_in(value), value.tag - IPV6) {
-        Ok(host) => Some(IpInet::V6(host)),
-        Err(_) => None,
-    }
+    let host = ipv6_host(value)?;
+    Some(IpInet::V6(host))
 }
 
 /// The network that a host is in, if the value is a host.

@@ -124,12 +124,10 @@ fn ipv4_rows(networks: &[CValue]) -> usize
     ensures rows { result ≡ ipv4_rows networks.now }
     ensures within { result ≤ length networks.now }
 {
-    for (place, value) in networks.iter().enumerate() {
-        if !is_ipv4(value) {
-            return place;
-        }
-    }
-    networks.len()
+    networks
+        .iter()
+        .position(|value| !is_ipv4(value))
+        .unwrap_or(networks.len())
 }
 
 /// Offsets, counted from one of them.

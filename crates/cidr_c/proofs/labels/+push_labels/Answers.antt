@@ -14,8 +14,8 @@ pub returns-then-count-eq1-clause-bytes : goal.returns-then-count-eq1-clause-byt
 returns-then-count-eq1-clause-bytes t c = λ network size is.
     one_more c.args.value c.args.count network size is c.args.name.now.bytes c.push-then-count-eq1.new.self.bytes (omega arith)
     (c.push-then-count-eq1.ensures.ascii (lit< tt)
-    ∙ ap (λ t. t ++ dot ∷ []) (c.push.ensures.ascii (omega (arith, c.from.ensures, c.hex_digit.ensures.ascii))
-    ∙ ap (λ d. c.args.name.now.bytes ++ d ∷ []) (c.from.ensures ∙ c.hex_digit.ensures.value)))
+    ∙ ap (λ t. t ++ dot ∷ []) (c.push.ensures.ascii c.hex_digit.ensures.ascii
+    ∙ ap (λ d. c.args.name.now.bytes ++ d ∷ []) c.hex_digit.ensures.value))
 
 pub returns-else-count-eq1-clause-bytes : goal.returns-else-count-eq1-clause-bytes
 returns-else-count-eq1-clause-bytes t c = λ network size is. no_labels Ipv6 c.args.count network c.args.name.now.bytes (omega arith)
