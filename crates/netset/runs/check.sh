@@ -397,6 +397,49 @@ rows_of_changes() {
     fi
 }
 
+# Where two tables give addresses other values. The networks are worked out by hand.
+rows_of_same_tables() {
+    local halves
+    run 0 '' '' '' same west west
+    run 0 '' '' '10.0.0.0/9 west\n10.128.0.0/9 west\n10.1.0.0/16 east\n10.2.0.0/16 west\n::/0 six\n' same west -
+    run 0 '' '' '10.0.0.0/8 east\n::/0 six\n10.0.0.0/8 west\n10.1.0.0/16 \t east \r\n' same - west
+    run 0 '' '' '# none\n\n' same nothing -
+    run 1 $'-10.1.0.0/16 east\n+10.1.0.0/16 west\n' '' '10.0.0.0/8 west\n::/0 six' same west -
+    run 1 $'-10.1.0.0/16 west\n+10.1.0.0/16 east\n' '' '10.0.0.0/8 west\n::/0 six' same - west
+    halves=$'10.0.0.0/16 west\n10.1.0.0/16 east\n10.2.0.0/15 west\n10.4.0.0/14 west\n10.8.0.0/13 west\n10.16.0.0/12 west\n10.32.0.0/11 west\n10.64.0.0/10 west\n10.128.0.0/9 west\n::/0 six\n'
+    run 1 "$(sed 's/^/-/' <<<"${halves%?}")"$'\n' '' '' same west nothing
+    run 1 "$(sed 's/^/+/' <<<"${halves%?}")"$'\n' '' '' same nothing west
+    # a row of no value is no row without value
+    run 1 $'-10.0.0.0/8\n+10.0.0.0/8 x\n+::1\n' '' '10.0.0.0/8 x\n::1\n' same ten -
+    run 1 $'-10.0.0.0/8 \xff\n+10.0.0.0/8 \xfe\n' '' '10.0.0.0/8 \xff\n' same - other_bytes
+    run 1 $'-0.0.0.0/1 a\n+0.0.0.0/1 b\n-128.0.0.0/1 a\n+128.0.0.0/1 c\n' '' '0.0.0.0/0 a' same - split_in_two
+    # how lines are read
+    run 1 "$(grep -v east <<<"${halves%?}" | sed 's/^/-/')"$'\n' '' '10.1.0.0/16|east\n' same --table-separator '|' west_only -
+    run 0 '' '' '10.0.0.0 8 64500_64501\n2001:db8:: 32 64502' same --form pfx2as origins -
+    run 1 $'-10.0.0.0/8 dev eth0\n+10.0.0.0/8 dev eth1\n' '' 'default dev eth0\n10.0.0.0/8 dev eth1' same --form routes defaults -
+    run 0 '' '' '10.0.0.7/8 west\n10.1.0.0/16 east\n::/0 six' same --host-bits west -
+    run 0 '' '' '10.0.0.0/255.0.0.0 west\n10.1.0.0/16 east\n::/0 six' same --masks west -
+    run 2 '' $'-:1: 10.0.0.7/8: host bits set; the network is 10.0.0.0/8\n' '10.0.0.7/8 west' same west -
+    run 2 '' $'bad:1: 10.0.0.0/x: couldn\'t parse length in network: invalid length text\n' '' same bad missing
+    run 2 '' $'missing: no such file\n' '' same west missing
+    run 2 '' $'missing: no such file\n' '' same missing bad
+    run 2 '' $'.: is a directory\n' '' same west .
+    run 2 '' $'ten/x: cannot be read\n' '' same ten/x west
+    run 2 '' $'-: standard input can be read only once\n' '' same - -
+    run 2 '' $'-:1: x: couldn\'t parse address in network: invalid IP address syntax\n-:3: y: couldn\'t parse address in network: invalid IP address syntax\n' 'x\n::/0 z\ny' same -k - west
+    run 2 $'-10.0.0.0/8 west\n' $'-:1: x: couldn\'t parse address in network: invalid IP address syntax\n' 'x\n::/0 six' same --skip-bad west_alone -
+    run 0 '' '' '10.0.0.0/8 west\n::/0 six' same -k - west_alone
+    # the answer in a file
+    run 1 '' '' '10.0.0.0/8 west\n::/0 six' same -o told west -
+    has "$room/told" $'-10.1.0.0/16 east\n+10.1.0.0/16 west\n' || differs=1
+    # the words
+    run 2 '' $'A is missing, see: netset help same\n' '' same
+    run 2 '' $'B is missing, see: netset help same\n' '' same west
+    run 2 '' $'-: one argument too many, see: netset help same\n' '' same west west -
+    run 2 '' $'--format: no such option, see: netset help same\n' '' same --format json west west
+    run 2 '' $'--table-separator: not with --form, see: netset help same\n' '' same --table-separator , --form routes west west
+}
+
 # Access lists. What is permitted and which rules are shadowed is worked out by hand.
 rows_of_access_lists() {
     run 0 $'10.0.0.0/9\n10.129.0.0/16\n::1\n' '' '' acl rules
@@ -714,6 +757,18 @@ rows_of_fields() {
     run 0 $';10.0.0.1;x\n' '' ';10.0.0.1;x\n#;10.0.0.1\n;11.0.0.1' match --field 2 --separator ';' ten
     run 0 $' #10.0.0.1\n' '' ' #10.0.0.1\n;#10.0.0.1' match --field 2 --separator '#' ten
     run 2 '' "-:1$none" ';;' match --field 2 --separator ';' ten
+    # a header is written whatever it says, and not counted
+    run 0 $'ip,n\n10.0.0.1,a\n' '' 'ip,n\n10.0.0.1,a\n11.0.0.1,b' match --header --field 1 --separator , ten
+    run 0 $'ip,n\r\n11.0.0.1,b\n' '' 'ip,n\r\n10.0.0.1,a\n11.0.0.1,b' match -v --header --field 1 --separator , ten
+    run 0 $'1\n' '' '10.0.0.1\n10.0.0.2\n11.0.0.1' match --header -c ten
+    run 0 '' '' '10.0.0.1\n10.0.0.2' match -q --header ten
+    run 1 $'10.0.0.1\n' '' '10.0.0.1' match --header ten
+    run 1 $'\n' '' '\n' match --header ten
+    run 1 '' '' '' match --header ten
+    run 1 $'0\n' '' '10.0.0.1' match --header -c ten
+    run 0 $'a 10.0.0.1\n10.0.0.2\n' '' 'a 10.0.0.1\n10.0.0.2\nb' match --header --any ten
+    run 2 $'ip\n10.0.0.1\n' "-:3$bad" 'ip\n10.0.0.1\nx' match --header ten
+    run 0 $'commas:a,10.0.0.1,b\ncommas:d,10.2.0.0/16,\naddress:10.0.0.1\n' '' '' match --header --field 2 --separator , ten commas address
     # a field that is not there, or is empty
     run 2 $'a 10.0.0.1\n' "-:3$none" 'a 10.0.0.1\n\na\nb 10.0.0.2' match --field 2 ten
     run 2 '' "-:1$none" 'a,,10.0.0.1' match --field 2 --separator , ten
@@ -824,6 +879,50 @@ rows_of_forms() {
     run 2 '' $'--form: no such option, see: netset help match\n' '' match --form routes missing
 }
 
+# The same as objects of JSON, each put together by hand.
+rows_of_objects() {
+    local ten='"network":"10.0.0.0/8","first":"10.0.0.0","last":"10.255.255.255","length":8,"family":"IPv4"}'
+    local none='"value":null,"network":null}' found plain
+    run 0 '{"address":"10.0.0.1","value":"west",'"$ten"$'\n' '' '10.0.0.0/8 west' look --format json - address
+    run 0 '{"address":"10.0.0.1","value":"",'"$ten"$'\n' '' '10.0.0.0/8' look --format json - address
+    run 0 '{"address":"10.0.0.1","value":"a \"b\" \\ c\u0009d é",'"$ten"$'\n' '' '10.0.0.0/8 a "b" \\ c\td é' look --format json - address
+    run 0 $'10.0.0.1 10.0.0.0/8 west\n' '' '10.0.0.0/8 west' look --format plain - address
+    run 1 '{"address":"11.0.0.1",'"$none"$'\n' '' '11.0.0.1' look --format json --table-separator '|' parted
+    run 1 '' '' '\n# 10.0.0.1\n' look --format json --table-separator '|' parted
+    run 0 '{"address":"10.0.0.1","value":"west",'"$ten"$'\n' '' 'a 10.0.0.1:80\nb' look --any --format json --table-separator '|' parted
+    run 0 '{"address":"10.0.0.1","value":"west",'"$ten"$'\n' '' 'a,10.0.0.1' look --field 2 --separator , --format=json --table-separator '|' parted
+    found='{"address":"10.0.0.1","value":"64500_64501",'"$ten"$'\n{"address":"11.0.0.1",'"$none"$'\n'
+    found+='{"address":"2001:db8::1","value":"64502","network":"2001:db8::/32","first":"2001:db8::",'
+    found+=$'"last":"2001:db8:ffff:ffff:ffff:ffff:ffff:ffff","length":32,"family":"IPv6"}\n'
+    run 0 "$found" '' '10.0.0.1\n\n# x\n11.0.0.1 y\r\n2001:DB8::1' look --form pfx2as --format json origins
+    run 0 '' '' '' compile --form pfx2as origins compiled_origins
+    run 0 "$found" '' '10.0.0.1\n\n# x\n11.0.0.1 y\r\n2001:DB8::1\n' look --format json compiled_origins
+    # lines in error
+    run 2 '{"address":"11.0.0.1",'"$none"$'\n' $'-:2: x: invalid IP address syntax\n' '11.0.0.1\nx\n10.0.0.1' look --format json --table-separator '|' parted
+    run 2 '' $'owners:7: \\xff#: not UTF-8\n' '10.2.0.1' look --format json owners
+    run 2 '' $'owners:7: \\xff#: not UTF-8\n' '10.2.0.1' look -k --format json owners
+    run 2 '{"address":"10.2.0.1","value":"ten",'"$ten"$'\n' $'owners:7: \\xff#: not UTF-8\n' '10.2.0.1' look --skip-bad --format json owners
+    run 0 '' '' '' compile owners compiled_owners
+    run 2 '' $'compiled_owners:2: \\xff#: not UTF-8\n' '10.2.0.1' look --format json compiled_owners
+    run 0 $'10.2.0.1 10.0.0.0/8 ten\n' '' '10.2.0.1' look compiled_owners
+    # behind a header
+    run 0 '{"address":"10.0.0.1","value":"west",'"$ten"$'\n' '' 'ip\n10.0.0.1' look --header --format json --table-separator '|' parted
+    run 2 '{"address":"10.0.0.1","value":"west",'"$ten"$'\n' $'-:3: x: invalid IP address syntax\n' 'ip\n10.0.0.1\nx' look --header --format json --table-separator '|' parted
+    run 1 '' '' '10.0.0.1' look --header --format json --table-separator '|' parted
+    # which format
+    run 2 '' $'nft: no such format, but plain and json, see: netset help look\n' '' look --format nft missing
+    run 2 '' $'json: one argument too many, see: netset help look\n' '' look --format plain --format json missing
+    run 2 '' $'--keep: not with the format json, see: netset help look\n' '' look --keep --format json missing
+    run 0 $'10.0.0.1 x 10.0.0.0/8 west\n' '' '10.0.0.1 x' look --keep --format plain --table-separator '|' parted
+    run 2 '' $'--format: no such option, see: netset help match\n' '' match --format json missing
+    if command -v jq >/dev/null; then
+        plain=$("$program" look --form pfx2as "$room/origins" "$room/asked")
+        [[ $("$program" look --form pfx2as --format json "$room/origins" "$room/asked" |
+            jq -r 'if .network then "\(.address) \(.network) \(.value)" else "\(.address) -" end') == "$plain" ]] ||
+            { differs=1; echo "$build: jq reads other look-ups" >&2; }
+    fi
+}
+
 # The same of a field, of the first address of a line, and behind the lines.
 rows_of_kept_lines() {
     local none=': the field is missing or empty' lab='192.0.2.64/26 lab'
@@ -854,6 +953,23 @@ rows_of_kept_lines() {
     run 2 $'10.2.0.1 10.0.0.0/8 ten\n' $'-:2: x: invalid IP address syntax\n' '10.2.0.1\nx' look --keep owners
     run 2 $'a 10.2.0.1 10.0.0.0/8 ten\n' "-:2$none"$'\n' 'a 10.2.0.1\na' look --keep --field 2 owners
     run 0 $'::1 x ::/0 all\n' '' '::1 x' look -k --keep owners
+    # a header has no address, and is kept
+    run 0 $'ip,n\n10.2.0.1,a,10.0.0.0/8,ten\n' '' 'ip,n\n10.2.0.1,a' look --header --keep --field 1 --separator , owners
+    run 0 $'ip\r\n10.2.0.1 10.0.0.0/8 ten\r\n' '' 'ip\r\n10.2.0.1\r\n' look --header --keep owners
+    run 0 $'10.2.0.1 10.0.0.0/8 ten\n' '' 'ip,n\n10.2.0.1,a' look --header --field 1 --separator , owners
+    run 0 $'10.2.0.1 10.0.0.0/8 ten\n' '' '::1\n10.2.0.1' look --header --any owners
+    run 1 $'10.2.0.1\n192.0.2.8\n' '' '10.2.0.1\n192.0.2.8' look --header --keep owners
+    run 1 $'10.2.0.1\n' '' '10.2.0.1' look --header --keep owners
+    run 1 $'10.2.0.1\n' '' '10.2.0.1\n' look --header --keep owners
+    run 1 $'\n' '' '\n' look --header --keep owners
+    run 1 '' '' '' look --header --keep owners
+    run 1 '' '' '10.2.0.1' look --header owners
+    run 1 '' '' '10.2.0.1\n' look --header owners
+    run 1 '' '' '' look --header owners
+    run 2 $'ip\n10.2.0.1 10.0.0.0/8 ten\n' $'-:3: x: invalid IP address syntax\n' 'ip\n10.2.0.1\nx' look --header --keep owners
+    run 2 $'10.2.0.1 10.0.0.0/8 ten\n' $'-:3: x: invalid IP address syntax\n' 'ip\n10.2.0.1\nx' look --header owners
+    run 2 '' $'-:2: x: invalid IP address syntax\n' 'ip\nx' look --header owners
+    run 2 '' $'missing: no such file\n' '' look --header --keep owners missing
     # the first address of a line
     run 0 $'10.2.0.1 10.0.0.0/8 ten\n2001:db8::1 2001:db8::/32 \xff#\n192.0.2.8 -\n::1 ::/0 all\n::ffff:10.2.0.1 ::/0 all\n10.2.0.1 10.0.0.0/8 ten\n10.2.0.1 10.0.0.0/8 ten\n' '' \
         'src=10.2.0.1:80 dst=192.0.2.8\nno [2001:db8::1]:22, 10.2.0.1\n# 192.0.2.8.\nx10.2.0.1 1.10.2.0.1 ::1/64\n::ffff:10.2.0.1\n1:10.2.0.1: 192.0.2.8\nip:10.2.0.1...\nnone\n' look --any owners
@@ -1123,6 +1239,9 @@ rows_of_long_lines() {
     run 2 '' "-:2: $told" "#\n# $fits\n" check
     run 0 '' '' "$fits\n" check
     run 2 $'10.0.0.2 10.0.0.0/8 ten\n' "-:2: $told" "10.0.0.2\n$long\n10.0.0.1" look owners
+    run 2 '' "-:1: $told" "$long\n10.0.0.1" look --header owners
+    run 2 '' "-:1: $told" "$long" look --header --keep owners
+    run 2 $'ip\n' "-:2: $told" "ip\n$long" look --header --keep owners
     run 2 '' "-:1: $told" "$long x" look - owners
     run 0 "$fits"$'\n' '' "$fits" match ten
     run 2 $'10.0.0.2\n' "-:2: $told" "10.0.0.2\n$long\n10.0.0.1" match ten
@@ -1168,6 +1287,7 @@ rows_where_a_stream_fails() {
     run 2 '' $'-:1: 10.0.0.1/8: host bits set; the network is 10.0.0.0/8\n' '10.0.0.1/8' merge
     run 3 '' $'output failed\n' '' --help
     run 3 '' $'output failed\n' '' diff - ten
+    run 3 '' $'output failed\n' '' same west nothing
     run 3 '' $'output failed\n' '' diff - ten --format json
     run 3 '' $'output failed\n' '' free ten 9 eight
     run 3 '' $'output failed\n' '' acl rules
@@ -1194,10 +1314,18 @@ rows_where_a_stream_fails() {
     run 3 '' $'output failed\n' '10.2.0.1\nx' look owners
     run 2 '' $'-:1: x: invalid IP address syntax\n' 'x' look owners
     run 1 '' '' '' look owners
+    run 3 '' $'output failed\n' '10.2.0.1' look --format json --table-separator '|' parted
     run 3 '' $'output failed\n' '10.2.0.1' look --keep owners
     run 3 '' $'output failed\n' '11.0.0.1\nx' look --keep owners
     run 2 '' $'-:1: x: invalid IP address syntax\n' 'x' look --keep owners
     run 1 '' '' '' look --keep owners
+    run 3 '' $'output failed\n' 'ip' look --header --keep owners
+    run 3 '' $'output failed\n' 'ip\nx' look --header --keep owners
+    run 3 '' $'output failed\n' 'ip\n10.2.0.1' look --header owners
+    run 1 '' '' 'ip' look --header owners
+    run 3 '' $'output failed\n' '10.0.0.0/8 x' smallest -
+    run 3 '' $'output failed\n' '10.0.0.0/8 x' smallest --holes -
+    run 0 '' '' '' smallest -
     run 3 '' $'output failed\n' '' not --in ::/0 ten
     run 3 '' $'output failed\n' '' not --in ::/0 ten --format nft
     run 0 '' '' '' not --in 10.0.0.0/8 ten --format json
@@ -1321,6 +1449,47 @@ rows_of_compiled_tables() {
     run 0 '' '' '10.0.0.0/8 x' compile - link
     saved compiled "$row"
     kept compiled 604 link
+}
+
+# Tables in the fewest rows.
+rows_of_smallest_tables() {
+    local parts='10.0.0.0/9 x\n10.128.0.0/10 x\n10.192.0.0/11 x\n' stands=': a value is -, which with --holes stands for none'$'\n'
+    run 0 '' '' '' smallest nothing
+    run 0 '' '' ' \n# x' smallest - --holes
+    run 0 $'10.0.0.0/8 x\n' '' '10.0.0.0/9 x\n10.128.0.0/9 x\n10.1.0.0/16 x' smallest -
+    run 0 $'0.0.0.0/0 a\n10.0.0.0/8 b\n' '' '11.0.0.0/8 a\n0.0.0.0/0 a\n10.0.0.0/9 b\r\n10.0.0.0/8 \tb \n' smallest -
+    run 0 $'10.0.0.0/8\n' '' '10.0.0.0/9\n10.128.0.0/9 \n' smallest -
+    run 0 $'192.0.2.1 z\n2001:db8::/32 x y\n' '' '2001:db8:8000::/33 x y\n192.0.2.1 z\n2001:db8::/33 x y' smallest -
+    run 0 $'0.0.0.0/0 x\n::/0 x\n' '' '::/1 x\n0.0.0.0/1 x\n128.0.0.0/1 x\n8000::/1 x' smallest -
+    run 0 $'10.0.0.0/8 b\n' '' '10.0.0.0/8 a\n10.0.0.0/8 b' smallest --holes -
+    run 0 $'10.0.0.0/8 \xff #\n' '' '10.0.0.0/9 \xff #\n10.128.0.0/9 \xff #' smallest -
+    run 0 $'10.0.0.0/9 x\n10.128.0.0/10 x\n10.192.0.0/11 x\n' '' "$parts" smallest -
+    run 0 $'10.0.0.0/8 x\n10.224.0.0/11 -\n' '' "$parts" smallest --holes -
+    run 0 $'::/0 x\ne000::/3 -\n' '' '::/1 x\n8000::/2 x\nc000::/3 x' smallest - --holes
+    run 0 $'10.0.0.0/8\n10.224.0.0/11 -\n' '' "${parts// x/}" smallest --holes -
+    run 0 $'10.0.0.0/8 -\n' '' '10.0.0.0/8 -' smallest -
+    run 0 $'10.0.0.0/8 x\n' '' '10.0.0.0/8 -\n10.0.0.0/8 x' smallest --holes -
+    run 0 $'10.0.0.0/8 --\n' '' '10.0.0.0/8 --' smallest --holes -
+    run 2 '' "-$stands" '10.0.0.0/8 -' smallest --holes -
+    run 2 '' "-$stands" '10.0.0.0/8 x\n::1 -' smallest --holes - -k
+    run 0 $'10.0.0.0/8 64500\n' '' '10.128.0.0 9 64500\n10.0.0.0\t9\t64500' smallest --form pfx2as -
+    run 0 $'0.0.0.0/0 via x\n' '' '10.0.0.0/8 via x\ndefault via x' smallest --form routes -
+    run 0 $'10.0.0.0/8 a,b\n' '' '10.0.0.0/9,a,b\n10.128.0.0/9, a,b ' smallest --table-separator , -
+    run 0 $'10.0.0.0/8 x\n' '' '10.0.0.7/8 x' smallest --host-bits -
+    run 0 $'10.0.0.0/8 x\n' '' '10.0.0.0/255.0.0.0 x' smallest --masks -
+    run 0 $'10.0.0.0/8 x\n' '' '10.0.0.0/8 x' smallest -k -
+    run 2 '' $'-:2: x: couldn\'t parse address in network: invalid IP address syntax\n' '10.0.0.0/8 y\nx z\nv w' smallest -
+    run 2 $'10.0.0.0/8 y\n' $'-:2: x: couldn\'t parse address in network: invalid IP address syntax\n' '10.0.0.0/8 y\nx z' smallest --skip-bad -
+    run 2 '' $'missing: no such file\n' '' smallest missing
+    run 2 '' $'TABLE is missing, see: netset help smallest\n' '' smallest --holes
+    run 2 '' $'x: one argument too many, see: netset help smallest\n' '' smallest owners x
+    run 2 '' $'--format: no such option, see: netset help smallest\n' '' smallest --format json owners
+    run 0 '' '' "$parts" smallest - --holes -o made
+    saved made '10.0.0.0/8 x\n10.224.0.0/11 -\n'
+    run 2 '' "-$stands" '10.0.0.0/8 -' smallest --holes - -o made
+    saved made '10.0.0.0/8 x\n10.224.0.0/11 -\n'
+    # what it writes is read as a table, and has the same answers
+    run 0 $'10.2.0.1 10.0.0.0/9 x\n' '' "$(cd "$room" && printf "$parts" | "$program" smallest - >made && printf '10.2.0.1')" look made -
 }
 
 # Answers that are written to files.
@@ -1609,6 +1778,9 @@ rows_without_memory() {
     refuse '10.0.0.0/9\n' merge both - -o made
     refuse '10.0.0.0/9\n' diff both - -o made
     refuse '10.0.0.0/9\n' diff both - --format json
+    refuse '10.0.0.0/8 x\n2001:db8::/32 y\n' same west -
+    refuse '10.0.0.0/8 x\n2001:db8::/32 y\n' same -o made - west
+    refuse '10.0.0.0/8 x\n' same -k west -
     refuse '' split -o made 10.0.0.0/8 20
     refuse '10.0.0.0/9\n' free both 9 -
     refuse 'deny 10.0.0.0/9\npermit 10.0.0.0/8\npermit ::1\n' acl -
@@ -1629,9 +1801,14 @@ rows_without_memory() {
     refuse '10.0.0.1\n11.0.0.1' match ten_and_eight seen - again
     refuse '10.0.0.1\n11.0.0.1\n2001:db8::1' look owners
     refuse '10.0.0.0/8 x\n10.0.0.0/7\n2001:db8::/32 y' compile - compiled
+    refuse '10.0.0.0/9 x\n10.128.0.0/9 x\n2001:db8::/32 y\n' smallest -
+    refuse '10.0.0.0/9 x\n10.128.0.0/10 x\n10.192.0.0/11 x\n2001:db8::/32 y\n' smallest --holes - -o made
     refuse '10.0.0.1\n11.0.0.1\n2001:db8::1' look one
     refuse 'a,10.0.0.1\n\nb,::1' look --keep --field 2 --separator , owners
     refuse 'at 10.0.0.1\nat 11.0.0.1' look --keep --any one
+    refuse 'ip,n\n10.0.0.1,a' look --header --keep --field 1 --separator , owners
+    refuse '10.0.0.1\n11.0.0.1' look --format json --table-separator '|' parted
+    refuse '10.0.0.1\n11.0.0.1' look --format json one
     refuse '10.0.0.1\n11.0.0.1' match one
     refuse 'a,10.0.0.1\nb,11.0.0.1' match --field 2 --separator , one
 }
@@ -1650,6 +1827,11 @@ printf 'deny ::/0\npermit ::1\n' >"$room/"$'two\nrules'
 printf '10.0.0.0/8 ten\n10.1.0.0/16\tfirst\r\n\n# 10.2.0.0/16 x\n10.1.0.0/16  x  y \t; z\n192.0.2.7\n2001:db8::/32 \xff#\n::/0 all' \
     >"$room/owners"
 : >"$room/nothing"
+printf '10.0.0.0/8 west\n10.1.0.0/16 east\n::/0 six\n' >"$room/west"
+printf '10.0.0.0/8 west\n::/0 six\n' >"$room/west_alone"
+printf '10.0.0.0/8|west\n10.1.0.0/16|east\n::/0|six\n' >"$room/west_only"
+printf '10.0.0.0/8 \xfe\n' >"$room/other_bytes"
+printf '0.0.0.0/1 b\n128.0.0.0/1 c\n' >"$room/split_in_two"
 printf '10.0.0.7/8\n' >"$room/hosts"
 printf '11.0.0.0/8\n' >"$room/-list"
 printf '10.0.0.1\n' >"$room/address"
@@ -1681,6 +1863,7 @@ for build in netset netset.by-rattle; do
     rows_of_ranges
     rows_of_input_twice
     rows_of_changes
+    rows_of_same_tables
     rows_of_access_lists
     rows_of_pools
     rows_of_walks
@@ -1690,8 +1873,10 @@ for build in netset netset.by-rattle; do
     rows_of_fields
     rows_of_look_ups
     rows_of_forms
+    rows_of_objects
     rows_of_kept_lines
     rows_of_compiled_tables
+    rows_of_smallest_tables
     rows_of_outputs
     rows_of_a_full_disk
     rows_of_stored_tables

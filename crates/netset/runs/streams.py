@@ -75,7 +75,7 @@ def one_call_a_line():
         (["split", "192.0.2.0/24", "26"], b""), (["class", "10.0.0.1"], b""), (["class", "-"], b"10.0.0.1\n"),
         (["acl", "-"], b"permit ::1\n"), (["acl", "--shadowed", "-"], b"permit ::1\ndeny ::1\n"),
         (["acl", "--diff", "nothing", "-"], b"permit ::1\n"), (["acl", "--format", "nft", "-"], b"permit ::1\n"),
-        (["diff", "--format", "json", "ten", "-"], b"10.0.0.0/9\n"),
+        (["diff", "--format", "json", "ten", "-"], b"10.0.0.0/9\n"), (["same", "owners", "-"], b"10.0.0.0/9 ten\n"),
     ):
         found, _ = packets(words, "stdout", given)
         wanted(f"{words}: calls of `write`", len(found) == 1 and found[0].endswith(b"\n"), found)
@@ -89,7 +89,7 @@ def one_call_a_line():
     for words, given, stream in (
         (["merge"], addresses, "stdout"), (["check"], addresses + addresses, "stdout"), (["ranges"], addresses, "stdout"),
         (["diff", "nothing", "-"], addresses, "stdout"), (["diff", "nothing", "-", "--format", "json"], addresses, "stdout"), (["match", "ten"], addresses, "stdout"),
-        (["look", "owners"], addresses, "stdout"), (["class", "-"], addresses, "stdout"), (["split", "10.0.0.0/16", "32"], b"", "stdout"),
+        (["same", "nothing", "-"], addresses, "stdout"), (["look", "owners"], addresses, "stdout"), (["class", "-"], addresses, "stdout"), (["split", "10.0.0.0/16", "32"], b"", "stdout"),
         (["merge", "-k"], b"x\n" * 5000, "stderr"), (["match", "ten"], b"10.0.0.1\n" + most + b"10.0.0.2\n", "stdout"),
     ):
         found, _ = packets(words, stream, given)
@@ -257,7 +257,7 @@ def little_stack():
         (["show", "::1"], b""), (["split", "::/120", "128"], b""), (["nth", "::/0", "1"], b""), (["--help"], b""), (["merged"], b""),
         (["class", "-"], b"10.0.0.1\n::1\n"), (["acl", "-"], b"permit ::1\n"),
         (["acl", "--shadowed", "-"], b"permit ::1\ndeny ::1\n"), (["acl", "--diff", "nothing", "-"], b"permit ::1\n"),
-        (["acl", "--format", "bird", "-"], b"permit ::1\n"), (["diff", "--format", "json", "ten", "-"], b"::1\n"), (["merge", "-o", "link", "-"], b"10.0.0.0/9\n"), (["compile", "owners", "link"], b""),
+        (["acl", "--format", "bird", "-"], b"permit ::1\n"), (["diff", "--format", "json", "ten", "-"], b"::1\n"), (["same", "owners", "-"], b"10.0.0.1 x\n::1 y\n"), (["merge", "-o", "link", "-"], b"10.0.0.0/9\n"), (["compile", "owners", "link"], b""),
     ):
         run = subprocess.run([PROGRAM, *words], input=given, capture_output=True, check=False)
         small = subprocess.run([PROGRAM, *words], input=given, capture_output=True, check=False, preexec_fn=limit)

@@ -26,8 +26,7 @@ use Rattle.cidr_lists.specs.declared.rules.Ruling.{Ruling}
 use Rattle.cidr_lists.specs.declared.sets.Sets.{Sets}
 use Rattle.cidr_lists.specs.declared.sets.Step.TheVariants.{Difference}
 use Rattle.netset_commands.specs.Acl.{IsUnreadAcl, IsUnreadRules, ReadsPermitted, ReadsRules, rules_error}
-use Rattle.netset_commands.specs.Answering.{PrintsBy, changed}
-use Rattle.netset_commands.specs.Changes.{AreSame}
+use Rattle.netset_commands.specs.Answering.{AreSame, PrintsBy, changed}
 use Rattle.netset_commands.specs.Commands.{Acl, AreTold}
 use Rattle.netset_commands.specs.Findings.{IsClean}
 use Rattle.netset_commands.specs.Gathering.{IsNotReadFurther}
@@ -37,7 +36,7 @@ use Rattle.netset_commands.specs.declared.errors.CommandError.TheVariants as err
 use Rattle.netset_commands.specs.declared.output.answers.Verdict.{Verdict}
 use Rattle.netset_commands.specs.declared.output.answers.Verdict.TheVariants.{Yes, No}
 use Rattle.netset_commands.proofs.Causes.{whole_read}
-use Rattle.netset_commands.proofs.Changed.{are_merged, differ}
+use Rattle.netset_commands.proofs.Changed.{changes_clean, are_merged, differ}
 
 -- ---- the rules of a file
 pub no_rules_read : (contents : Option Text) (name : List ℕ) (e : CommandError) → IsNotReadFurther name e → IsUnreadRules contents name e
@@ -117,30 +116,6 @@ shadows_told contents file rules text s t verdict w r read (lines, are, all) cle
       written,
       is,
     )
-
--- something is printed of each change
-some_byte : (b : ℕ) (bytes : List ℕ) → b ∷ bytes ≢ []
-some_byte b bytes e = cc
-
-no_change : (format : LineFormat) (family : Family) (changes : List (Sign × List Bool)) → family_changes format family changes ≡ [] → changes ≡ []
-no_change format family [] e = refl
-no_change by_line.Plain family ((Plus, p) ∷ changes) e = absurd (some_byte 43 (drop 1 (family_changes by_line.Plain family ((Plus, p) ∷ changes))) e)
-no_change by_line.Plain family ((Minus, p) ∷ changes) e = absurd (some_byte 45 (drop 1 (family_changes by_line.Plain family ((Minus, p) ∷ changes))) e)
-no_change by_line.Json family ((sign, p) ∷ changes) e = absurd (some_byte 123 (drop 1 (family_changes by_line.Json family ((sign, p) ∷ changes))) e)
-
-both_empty : (front back : List ℕ) → front ++ back ≡ [] → (front ≡ []) × (back ≡ [])
-both_empty [] back e = (refl, e)
-both_empty (b ∷ front) back e = cc
-
-pub changes_clean : (format : LineFormat) (changes : Family → List (Sign × List Bool)) (verdict : Verdict) → AreSame changes verdict
-    → IsClean (printed_changes format changes) verdict
-changes_clean format changes Yes none =
-    ap (λ (k : List (Sign × List Bool)). family_changes format Ipv4 k ++ family_changes format Ipv6 (changes Ipv6)) (none Ipv4)
-    ∙ ap (λ (k : List (Sign × List Bool)). family_changes format Ipv6 k) (none Ipv6)
-changes_clean format changes No (Ipv4, some) = λ e.
-    some (no_change format Ipv4 (changes Ipv4) (both_empty (family_changes format Ipv4 (changes Ipv4)) (family_changes format Ipv6 (changes Ipv6)) e).0)
-changes_clean format changes No (Ipv6, some) = λ e.
-    some (no_change format Ipv6 (changes Ipv6) (both_empty (family_changes format Ipv4 (changes Ipv4)) (family_changes format Ipv6 (changes Ipv6)) e).1)
 
 pub changes_told : (contents : List ℕ → Option Text) (format : LineFormat) (a b : List ℕ) (old new added lacking : Sets) (s t : State) (verdict : Verdict)
     (w : Result (Unit {0}) OutputFailed) (r : Result Verdict CommandError) → ReadsPermitted (contents a) a (Ok old) → ReadsPermitted (contents b) b (Ok new)

@@ -17,7 +17,7 @@ use Rattle.netset_commands.specs.Commands.{Which, read_files}
 use Rattle.netset_commands.specs.Look.{verdict_of}
 use Rattle.netset_commands.specs.Program.{AnswersRequest, IsBadArgument, by_output}
 use Rattle.netset_commands.specs.Unchecked.{AreToldEntries}
-use Rattle.netset_commands.specs.Which.{IsAnyTold, IsNoAddressArgument, has_address, which_line, which_text}
+use Rattle.netset_commands.specs.Which.{IsNoAddressArgument, has_address, which_line, which_text}
 use Rattle.netset_commands.specs.declared.errors.ArgumentError.TheVariants as bad
 use Rattle.netset_commands.specs.declared.errors.CommandError.{CommandError}
 use Rattle.netset_commands.specs.declared.errors.CommandError.TheVariants as error
@@ -44,10 +44,6 @@ line_skipped address entry s b none =
     subst (λ (k : List ℕ). Collects s s b b k (Ok tt)) (sym (ap (λ (c : Bool). cond c (which_text entry) []) none)) (none_collected s b)
 
 -- ---- the answer
-any_told : (found : Bool) → IsAnyTold found (verdict_of found)
-any_told true = refl
-any_told false = refl
-
 pub lines_answered : (contents : List ℕ → Option Text) (text : List ℕ) (files : List (List ℕ)) (address : IpAddr) (entries : List Entry) (s t : State)
     (w : Result (Unit {0}) OutputFailed) (r : Result Verdict CommandError) → IsIpText text address → AreToldEntries contents (read_files files) entries
     → Answered s t (flat_map (which_line address) entries) w → r ≡ by_output (verdict_of (list_any (has_address address) entries)) w
@@ -57,7 +53,7 @@ lines_answered contents text files address entries s t w r reads are written is 
       flat_map (which_line address) entries,
       verdict_of (list_any (has_address address) entries),
       w,
-      (address, reads, λ texts told. (entries, are texts told, refl, any_told (list_any (has_address address) entries))),
+      (address, reads, λ texts told. (entries, are texts told, refl, refl)),
       written,
       is,
     )

@@ -188,11 +188,11 @@ behind_cause F refused file None r h = h
 behind_cause F refused file (Some n) (Ok verdict) h = tt
 behind_cause F refused file (Some n) (Err e) h = h
 
-pub take_cause : (F : List ℕ → Type 0) (refused : Bool) (P : List ℕ → Result Bool LineError → Type 0) (label : List ℕ) (what : Written) (file : List ℕ) (number : ℕ) (part : List ℕ)
-    (old new : State) (block rest : List ℕ) (e : CommandError) → IsLost P label what file number part old new block rest e → Cause F refused e
-take_cause F refused P label what file number part old new block rest (error.Argument text e) h = tt
-take_cause F refused P label what file number part old new block rest (error.Line name n e) h = tt
-take_cause F refused P label what file number part old new block rest (error.Input name why) h = absurd h
-take_cause F refused P label what file number part old new block rest error.NoMemory h = absurd h
-take_cause F refused P label what file number part old new block rest error.Output h = tt
-take_cause F refused P label what file number part old new block rest (error.File name why) h = tt
+pub take_cause : (F : List ℕ → Type 0) (refused headed : Bool) (P : List ℕ → Result Bool LineError → Type 0) (label : List ℕ) (what : Written) (file : List ℕ) (number : ℕ) (part : List ℕ)
+    (old new : State) (block rest : List ℕ) (e : CommandError) → IsLost headed P label what file number part old new block rest e → Cause F refused e
+take_cause F refused headed P label what file number part old new block rest (error.Argument text e) h = tt
+take_cause F refused headed P label what file number part old new block rest (error.Line name n e) h = tt
+take_cause F refused headed P label what file number part old new block rest (error.Input name why) h = absurd h
+take_cause F refused headed P label what file number part old new block rest error.NoMemory h = absurd h
+take_cause F refused headed P label what file number part old new block rest error.Output h = tt
+take_cause F refused headed P label what file number part old new block rest (error.File name why) h = tt

@@ -1,5 +1,5 @@
 -- What one set has and another has not, both ways, as one list.
-use Rattle.std.proofs.Common.{◌≡◌, ◌≢◌, ◌⊎◌, refl, sym, ◌∙◌, ap, subst, inl, inr, ℕ, Bool, true, false, if◌then◌else◌, List, [], ◌∷◌, Option, Ok, Result, map}
+use Rattle.std.proofs.Common.{◌≡◌, ◌≢◌, ◌⊎◌, refl, sym, ◌∙◌, ap, subst, inl, inr, ℕ, Bool, true, false, if◌then◌else◌, List, [], ◌∷◌, ◌++◌, drop, Option, Ok, Result, map}
 use Rattle.std.specs.List.{AllByRecursion, Contains, flat_map}
 use Rattle.std.specs.List.Sorted.{IsStrictlySortedBy}
 use Rattle.std.specs.Ordering.{is_lt, ordering_reverse}
@@ -15,9 +15,9 @@ use Rattle.cidr_sets.specs.model.Sets.{IsDifference, IsSetOf}
 use Rattle.cidr_sets.proofs.Algebra.{some_address}
 use Rattle.cidr_table.proofs.Beginnings.{bits_exact}
 use Rattle.cidr_table.proofs.MapLaws.{contains_first, contains_later}
-use Rattle.netset_commands.specs.Answering.{ReadsFile, changed}
-use Rattle.cidr_lists.specs.Changes.{AreMerged, adds_first, merged, network_with, printed_changes, signed}
-use Rattle.netset_commands.specs.Changes.{AreSame}
+use Rattle.netset_commands.specs.Answering.{AreSame, ReadsFile, changed}
+use Rattle.cidr_lists.specs.Changes.{AreMerged, adds_first, family_changes, merged, network_with, printed_changes, signed}
+use Rattle.netset_commands.specs.Findings.{IsClean}
 use Rattle.cidr_lists.specs.Sets.{Steps, IsInSets, networks_of}
 use Rattle.netset_commands.specs.Commands.{Diff}
 use Rattle.cidr_lists.specs.Lists.{Text, networks_in}
@@ -25,6 +25,7 @@ use Rattle.netset_commands.specs.Program.{AnswersRequest, by_output}
 use Rattle.netset_commands.specs.declared.output.answers.Verdict.{Verdict}
 use Rattle.netset_commands.specs.declared.output.answers.Verdict.TheVariants.{Yes, No}
 use Rattle.cidr_lists.specs.declared.formats.LineFormat.{LineFormat}
+use Rattle.cidr_lists.specs.declared.formats.LineFormat.TheVariants as by_line
 use Rattle.cidr_lists.specs.declared.changes.Sign.{Sign}
 use Rattle.cidr_lists.specs.declared.changes.Sign.TheVariants.{Plus, Minus}
 use Rattle.netset_commands.specs.declared.errors.CommandError.{CommandError}
@@ -159,6 +160,31 @@ something_changed added lacking h = elim (none_or_some (changed added lacking Ip
   ]
 ]
 
+-- ---- whether something is written
+-- something is printed of each change
+some_byte : (b : ℕ) (bytes : List ℕ) → b ∷ bytes ≢ []
+some_byte b bytes e = cc
+
+no_change : (format : LineFormat) (family : Family) (changes : List (Sign × List Bool)) → family_changes format family changes ≡ [] → changes ≡ []
+no_change format family [] e = refl
+no_change by_line.Plain family ((Plus, p) ∷ changes) e = absurd (some_byte 43 (drop 1 (family_changes by_line.Plain family ((Plus, p) ∷ changes))) e)
+no_change by_line.Plain family ((Minus, p) ∷ changes) e = absurd (some_byte 45 (drop 1 (family_changes by_line.Plain family ((Minus, p) ∷ changes))) e)
+no_change by_line.Json family ((sign, p) ∷ changes) e = absurd (some_byte 123 (drop 1 (family_changes by_line.Json family ((sign, p) ∷ changes))) e)
+
+pub both_empty : (front back : List ℕ) → front ++ back ≡ [] → (front ≡ []) × (back ≡ [])
+both_empty [] back e = (refl, e)
+both_empty (b ∷ front) back e = cc
+
+pub changes_clean : (format : LineFormat) (changes : Family → List (Sign × List Bool)) (verdict : Verdict) → AreSame changes verdict
+    → IsClean (printed_changes format changes) verdict
+changes_clean format changes Yes none =
+    ap (λ (k : List (Sign × List Bool)). family_changes format Ipv4 k ++ family_changes format Ipv6 (changes Ipv6)) (none Ipv4)
+    ∙ ap (λ (k : List (Sign × List Bool)). family_changes format Ipv6 k) (none Ipv6)
+changes_clean format changes No (Ipv4, some) = λ e.
+    some (no_change format Ipv4 (changes Ipv4) (both_empty (family_changes format Ipv4 (changes Ipv4)) (family_changes format Ipv6 (changes Ipv6)) e).0)
+changes_clean format changes No (Ipv6, some) = λ e.
+    some (no_change format Ipv6 (changes Ipv6) (both_empty (family_changes format Ipv4 (changes Ipv4)) (family_changes format Ipv6 (changes Ipv6)) e).1)
+
 -- ---- what is written is what has changed from one list to the other
 pub diff_written : (contents : List ℕ → Option Text) (format : LineFormat) (a b : List ℕ) (old new added lacking : Sets) (s t : State) (verdict : Verdict)
     (w : Result (Unit {0}) OutputFailed) (r : Result Verdict CommandError) → ReadsFile (contents a) a (Ok old) → ReadsFile (contents b) b (Ok new)
@@ -194,7 +220,7 @@ diff_written contents format a b old new added lacking s t verdict w r first sec
                   (differ (networks_in family before) (networks_in family after) (networks_of added family) (networks_of lacking family) (plus family) (minus family)),
             ),
             refl,
-            same,
+            changes_clean format (changed added lacking) verdict same,
           ),
       written,
       is,

@@ -10,7 +10,7 @@ use Rattle.cidr_lists.specs.Lists.{Text, lines_of}
 use Rattle.cidr_lists.specs.LookUps.{LineLooks, is_found, look_line}
 use Rattle.cidr_lists.specs.declared.fields.Asked.TheVariants.{First}
 use Rattle.cidr_lists.specs.Classes.{IsClassLine, registry}
-use Rattle.netset_commands.specs.Class.{IsClass, IsNoAddressText}
+use Rattle.netset_commands.specs.Class.{IsNoAddressText}
 use Rattle.netset_commands.specs.Commands.{Class}
 use Rattle.netset_commands.specs.Look.{verdict_of}
 use Rattle.netset_commands.specs.LookUps.{AreFirstSaid, EndsReading, LooksAll, LooksUp, unread}
@@ -39,15 +39,11 @@ class_lost address line found s t block rest y e r is same (row, looked, shown, 
     (row, looked, subst (λ (k : List ℕ). Part s t (block ++ k)) shown part)
 
 -- ---- the command
-is_class : (address : IpAddr) (line : List ℕ) (found : Bool) → IsClassLine address line found → IsClass address line (verdict_of found)
-is_class address line true is = is
-is_class address line false is = is
-
 pub class_told : (contents : List ℕ → Option Text) (operand : List ℕ) (address : IpAddr) (line : List ℕ) (found : Bool) (s t : State)
     (w : Result (Unit {0}) OutputFailed) (r : Result Verdict CommandError) → IsIpText operand address → IsClassLine address line found
     → Answered s t line w → r ≡ by_output (verdict_of found) w → AnswersRequest contents (Class operand) s t r
 class_told contents operand address line found s t w r reads is written by =
-    inl (inr (line, verdict_of found, w, inl (address, reads, is_class address line found is), written, by))
+    inl (inr (line, verdict_of found, w, inl (address, reads, found, is, refl), written, by))
 
 module _ (contents : List ℕ → Option Text) (file : Bor (List ℕ)) (left : Option (List ℕ)) (s t : State) (none : IsNoAddressText file.now)
     (opens : (text : Text) → contents file.now ≡ Some text → left ≡ Some text.bytes) where

@@ -6,7 +6,7 @@ use Rattle.cidr_io.specs.declared.sink.OutputFailed.{OutputFailed}
 use Rattle.cidr_lists.specs.Lists.{Text}
 use Rattle.netset_commands.specs.Arguments.{Line, line_request}
 use Rattle.netset_commands.specs.Causes.{Refusals}
-use Rattle.netset_commands.specs.Commands.{Request, Lists, Styled, NotIn, Diff, Free, Acl, Split, Check, Which, Match, MatchEach, Look, Compile, Describe, Class, Single, Help, Version, IsAnswer, reading_of}
+use Rattle.netset_commands.specs.Commands.{Request, Lists, Styled, NotIn, Diff, Same, Free, Acl, Split, Check, Which, Match, MatchEach, Look, Compile, Smallest, Describe, Class, Single, Help, Version, IsAnswer, reading_of}
 use Rattle.netset_commands.specs.Program.{AnswersRequest, AnswersWhole, IsRequestRefused, KeepsGoing, Reports, Runs, RunsFound, RunsLine, RunsOnce, RunsRequest, answer_status, by_output, status_of, contents_by}
 use Rattle.netset_commands.specs.Typed.{AnswersTyped}
 use Rattle.netset_commands.specs.declared.output.answers.Verdict.{Verdict}
@@ -16,7 +16,7 @@ use Rattle.netset_commands.specs.declared.commands.AtFault.TheVariants.{Stop, Te
 use Rattle.netset_commands.specs.declared.commands.Reading.{Reading}
 use Rattle.netset_commands.specs.declared.errors.CommandError.{CommandError}
 use Rattle.netset_commands.specs.declared.errors.CommandError.TheVariants as error
-use Rattle.netset_commands.specs.declared.errors.FileError.TheVariants.{TooLarge, NotSaved, Unlike, Version, Short, Long, Changed}
+use Rattle.netset_commands.specs.declared.errors.FileError.TheVariants.{TooLarge, NotSaved, Hole, Unlike, Version, Short, Long, Changed}
 use Rattle.cidr_io.proofs.Chains.{whole_none}
 use Rattle.netset_commands.proofs.Telling.{tells_nothing}
 use Rattle.netset_commands.proofs.Typed.{typed_asks}
@@ -32,6 +32,7 @@ above_one (error.Line name number e) = omega arith
 above_one (error.Input name why) = omega arith
 above_one (error.File name TooLarge) = omega arith
 above_one (error.File name NotSaved) = omega arith
+above_one (error.File name Hole) = omega arith
 above_one (error.File name Unlike) = omega arith
 above_one (error.File name Version) = omega arith
 above_one (error.File name Short) = omega arith
@@ -93,6 +94,7 @@ answer_done contents (Lists operation files) verdict out new h = whole_done cont
 answer_done contents (Styled style operation files) verdict out new h = whole_done contents (Styled style operation files) verdict out new h
 answer_done contents (NotIn style net files) verdict out new h = whole_done contents (NotIn style net files) verdict out new h
 answer_done contents (Diff format old lists) verdict out new h = whole_done contents (Diff format old lists) verdict out new h
+answer_done contents (Same form old lists) verdict out new h = whole_done contents (Same form old lists) verdict out new h
 answer_done contents (Free style extent pool len used) verdict out new h = whole_done contents (Free style extent pool len used) verdict out new h
 answer_done contents (Acl asked file) verdict out new h = whole_done contents (Acl asked file) verdict out new h
 answer_done contents (Split style operand len) verdict out new h = whole_done contents (Split style operand len) verdict out new h
@@ -105,6 +107,7 @@ answer_done contents (MatchEach choice options list files) verdict out new (inr 
 answer_done contents (Look choice form options table file) verdict out new (inl h) = whole_done contents (Look choice form options table file) verdict out new h
 answer_done contents (Look choice form options table file) verdict out new (inr (e, is, of, answer, written, belongs)) = cc
 answer_done contents (Compile form table name) verdict out new (same, (differ, done)) = ([], (refl, done), same_whole out new same)
+answer_done contents (Smallest holes form table) verdict out new h = whole_done contents (Smallest holes form table) verdict out new h
 answer_done contents (Describe what operand) verdict out new h = whole_done contents (Describe what operand) verdict out new h
 answer_done contents (Class operand) verdict out new (inl h) = whole_done contents (Class operand) verdict out new h
 answer_done contents (Class operand) verdict out new (inr (e, is, of, answer, written, belongs)) = cc

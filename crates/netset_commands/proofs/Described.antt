@@ -13,7 +13,8 @@ use Rattle.cidr_lists.specs.declared.sets.Sets.{Sets}
 use Rattle.netset_commands.specs.Answering.{DescribesNetworks, HasAddresses, ReadsOperand}
 use Rattle.netset_commands.specs.Commands.{Describe, IsTold}
 use Rattle.cidr_lists.specs.Descriptions.{length_lines}
-use Rattle.netset_commands.specs.Describing.{IsNoLength, all_told, told_of, zone_length}
+use Rattle.netset_commands.specs.Describing.{IsNoLength, told_of, zone_length}
+use Rattle.netset_commands.specs.Free.{all_told}
 use Rattle.netset_commands.specs.Program.{AnswersRequest, by_output}
 use Rattle.netset_commands.specs.Single.{IsNumber}
 use Rattle.netset_commands.specs.declared.commands.describe.Description.{Description}

@@ -3,7 +3,9 @@ use Rattle.std.proofs.Common.{◌≡◌, sym, ◌∙◌, subst, inr, ℕ, Bool, 
 use Rattle.std.specs.Option.{IfSome}
 use Rattle.cidr.specs.declared.family.Family.{Family}
 use Rattle.cidr_files.specs.Faults.{IsFaultOfBytes}
+use Rattle.cidr_lists.specs.Forms.{AreFit}
 use Rattle.cidr_lists.specs.Lists.{Text}
+use Rattle.cidr_lists.specs.declared.formats.LineFormat.{LineFormat}
 use Rattle.cidr_lists.specs.declared.forms.RowForm.{RowForm}
 use Rattle.netset_commands.specs.Begun.{IsBegunAt, begun_left}
 use Rattle.netset_commands.specs.Causes.{Cause, FileMayFail}
@@ -11,7 +13,7 @@ use Rattle.netset_commands.specs.Compiled.{HasTable, SaysTable, begins_file}
 use Rattle.netset_commands.specs.Gathering.{IsNotReadFurther}
 use Rattle.netset_commands.specs.Look.{IsUnreadTable}
 use Rattle.netset_commands.specs.LookUps.{unread}
-use Rattle.netset_commands.specs.Stored.{AreFileBytes, ChecksFile, IsNoTable, IsNotGiven}
+use Rattle.netset_commands.specs.Stored.{AreFileBytes, ChecksFile, HasUnfitRow, IsNoTable, IsNotGiven, TellsUnfit}
 use Rattle.netset_commands.specs.declared.errors.CommandError.{CommandError}
 use Rattle.netset_commands.specs.declared.errors.CommandError.TheVariants as error
 use Rattle.netset_commands.specs.declared.errors.ReadError.{ReadError}
@@ -99,5 +101,25 @@ file_cause_of contents refused e h = cause_weaker (λ _. ⊥) (FileMayFail conte
 
 -- ---- its table
 pub says_table : (form : RowForm) (contents : Option Text) (bytes : List ℕ) (table : Family → List (List Bool × List ℕ)) → AreFileBytes contents bytes → HasTable table bytes
-    → (text : Text) → contents ≡ Some text → SaysTable form text table
-says_table form contents bytes table are has text is = inr (subst (HasTable table) (are text is).1 has)
+    → ((family : Family) → AreFit form.values (table family)) → (text : Text) → contents ≡ Some text → SaysTable form text table
+says_table form contents bytes table are has fit text is = inr (subst (HasTable table) (are text is).1 has, fit)
+
+-- a row of it has a value that can't be told
+pub unfit_row : (form : RowForm) (contents : Option Text) (name bytes : List ℕ) (table : Family → List (List Bool × List ℕ)) (e : CommandError) → AreFileBytes contents bytes
+    → HasTable table bytes → TellsUnfit form.values table name e → HasUnfitRow form contents name e
+unfit_row form contents name bytes table (error.Argument text e) are has h = absurd h
+unfit_row form contents name bytes table (error.Line file number e) are has (named, unfit) =
+    (named, λ text is. (table, subst (HasTable table) (are text is).1 has, unfit))
+unfit_row form contents name bytes table (error.Input file why) are has h = absurd h
+unfit_row form contents name bytes table error.NoMemory are has h = absurd h
+unfit_row form contents name bytes table error.Output are has h = absurd h
+unfit_row form contents name bytes table (error.File file why) are has h = absurd h
+
+pub unfit_cause : (F : List ℕ → Type 0) (refused : Bool) (format : LineFormat) (table : Family → List (List Bool × List ℕ)) (name : List ℕ) (e : CommandError)
+    → TellsUnfit format table name e → Cause F refused e
+unfit_cause F refused format table name (error.Argument text e) h = tt
+unfit_cause F refused format table name (error.Line file number e) h = tt
+unfit_cause F refused format table name (error.Input file why) h = absurd h
+unfit_cause F refused format table name error.NoMemory h = absurd h
+unfit_cause F refused format table name error.Output h = tt
+unfit_cause F refused format table name (error.File file why) h = tt

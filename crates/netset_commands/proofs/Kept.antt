@@ -1,12 +1,13 @@
--- Lines that are kept, with the networks of their addresses.
-use Rattle.std.proofs.Common.{◌≡◌, refl, sym, ◌∙◌, ap, subst, inl, inr, ℕ, ◌+◌, ◌≤◌, Bool, true, false, ◌||◌, List, [], ◌∷◌, ◌++◌, length, arith, codes, is_some, ◌==◌, Option, Some, None, Result, Ok, Err, append_assoc, length-append}
+-- Addresses that are told with their lines, or as objects.
+use Rattle.std.proofs.Common.{◌≡◌, ◌≢◌, refl, sym, ◌∙◌, ap, subst, inl, inr, ℕ, ◌+◌, ◌≤◌, Bool, true, false, ◌||◌, List, [], ◌∷◌, ◌++◌, length, take, arith, codes, is_some, option_map, Bor, ◌==◌, Option, Some, None, Result, Ok, Err, append_assoc, length-append}
 use Rattle.std.specs.Option.{IfSome}
 use Rattle.std.specs.List.{AllZip, flat_map, list_any}
 use Rattle.std.proofs.lemmas.Bool.{true≢false}
 use Rattle.std.proofs.lemmas.List.{append-nil}
 use Rattle.std.proofs.lemmas.List.Concat.{flat_map-append}
 use Rattle.std.proofs.lemmas.List.Folds.{list_any-append}
-use Rattle.cidr.specs.either.IpAddress.{address_family}
+use Rattle.cidr.specs.either.IpAddress.{address_family, plain_bits}
+use Rattle.cidr.specs.texts.Printed.{plain_text}
 use Rattle.cidr.specs.declared.addr.ip.IpAddr.{IpAddr}
 use Rattle.cidr.specs.declared.family.Family.{Family}
 use borrow.Author.Tests.{eqb-true}
@@ -16,11 +17,13 @@ use Rattle.cidr_io.specs.declared.sink.OutputFailed.{OutputFailed}
 use Rattle.cidr_io.proofs.Chains.{answered, part_none}
 use Rattle.cidr_io.proofs.Collected.{held_lost, held_then, none_collected}
 use Rattle.cidr_lists.specs.Lines.{lines_in}
-use Rattle.cidr_lists.specs.LookUps.{IsBadAsked, LineTells, LinesTell, LookUp, is_found, joint_of, kept_line, printed_found, printed_row, returns_of, told_line, without_returns}
+use Rattle.cidr_lists.specs.LookUps.{IsBadAsked, LineTells, LinesTell, LookUp, is_found, joint_of, kept_line, look_object, printed_found, printed_row, returns_of, told_line, without_returns}
 use Rattle.cidr_lists.specs.declared.fields.Asked.{Asked}
-use Rattle.netset_commands.specs.Causes.{Cause, TextFails}
+use Rattle.cidr_lists.specs.declared.objects.Telling.{Telling}
+use Rattle.cidr_lists.specs.declared.objects.Telling.TheVariants.{Alone, Kept, Objects}
+use Rattle.netset_commands.specs.Causes.{TextFails}
 use Rattle.netset_commands.specs.Gathering.{IsNotReadFurther, Stops, ended_by, lines_of_part}
-use Rattle.netset_commands.specs.KeptLines.{HasNetwork, IsNetworkOf, KeepsLine, KeepsPart, KeepsText}
+use Rattle.netset_commands.specs.KeptLines.{HasNetwork, IsNetworkOf, IsObjectOf, IsRowOf, KeepsLine, TellsBy, TellsPart, TellsText}
 use Rattle.netset_commands.specs.Look.{verdict_of}
 use Rattle.netset_commands.specs.LookUps.{LineAsks}
 use Rattle.netset_commands.specs.Program.{by_output}
@@ -36,6 +39,14 @@ use Rattle.netset_commands.proofs.Looked.{same_some}
 use Rattle.netset_commands.proofs.Matched.{more_parts, part_read}
 
 -- ---- one line
+pub network_printed : (table : Family → List (List Bool × List ℕ)) (address : IpAddr) (len : ℕ) (value text : List ℕ) → IsRowOf table address (Some (len, value))
+    → text ≡ plain_text (address_family address) (take len (plain_bits address)) → IsNetworkOf table address (Some (text, value))
+network_printed table address len value text looked is =
+    (Some (take len (plain_bits address), value), looked, ap (λ (k : List ℕ). Some (k, value)) is)
+
+pub no_network : (table : Family → List (List Bool × List ℕ)) (address : IpAddr) → IsRowOf table address None → IsNetworkOf table address None
+no_network table address looked = (None, looked, refl)
+
 pub nothing_asked : (table : Family → List (List Bool × List ℕ)) → HasNetwork table None None
 nothing_asked table = (None, tt, refl)
 
@@ -78,6 +89,48 @@ pub kept_long : (joint : ℕ) (line n v : List ℕ) (test : Bool) → test ≡ (
 kept_long joint line n [] test is fails = absurd (true≢false (sym is ∙ fails))
 kept_long joint line n (b ∷ v) test is fails = refl
 
+-- ---- one line, as it is told
+-- an object
+pub nothing_to_tell : (table : Family → List (List Bool × List ℕ)) (asked : Option IpAddr) (s : State) (b : List ℕ) → asked ≡ None
+    → TellsBy look_object table asked s s b b (Ok false)
+nothing_to_tell table asked s b none = rw none (None, tt, none_collected s b, refl)
+
+pub object_made : (table : Family → List (List Bool × List ℕ)) (address : IpAddr) (row : Option (ℕ × Bor (List ℕ))) (none text : List ℕ) (found : Bool)
+    → IsRowOf table address (option_map (λ (one : ℕ × Bor (List ℕ)). (one.0, one.1.now)) row) → none ≡ []
+    → text ≡ none ++ look_object (Some (record { address = address; found = option_map (λ (one : ℕ × Bor (List ℕ)). (take one.0 (plain_bits address), one.1.now)) row }))
+    → found ≡ is_some row → IsObjectOf table address text found
+object_made table address None none text found looked empty is hit = (None, looked, is ∙ ap (λ (k : List ℕ). k ++ look_object (Some (record { address = address; found = None }))) empty, hit)
+object_made table address (Some (len, value)) none text found looked empty is hit =
+    let row : Option (List Bool × List ℕ) = Some (take len (plain_bits address), value.now) in
+    (row, looked, is ∙ ap (λ (k : List ℕ). k ++ look_object (Some (record { address = address; found = row }))) empty, hit)
+
+pub told_object : (table : Family → List (List Bool × List ℕ)) (address : IpAddr) (text bytes : List ℕ) (s t : State) (b c : List ℕ) (found : Bool)
+    → IsObjectOf table address text found → bytes ≡ text → Collects s t b c bytes (Ok tt) → TellsBy look_object table (Some address) s t b c (Ok found)
+told_object table address text bytes s t b c found (row, looked, is, hit) same collects = (
+  Some (record { address = address; found = row }),
+  (refl, looked),
+  subst (λ (k : List ℕ). Collects s t b c k (Ok tt)) (same ∙ is) collects,
+  hit,
+)
+
+pub lost_object : (table : Family → List (List Bool × List ℕ)) (address : IpAddr) (text bytes : List ℕ) (s t : State) (b : List ℕ) (c : List ℕ) (found : Bool)
+    → IsObjectOf table address text found → bytes ≡ text → Part s t (b ++ bytes) → TellsBy look_object table (Some address) s t b c (Err error.Output)
+lost_object table address text bytes s t b c found (row, looked, is, hit) same part = (
+  Some (record { address = address; found = row }),
+  (refl, looked),
+  subst (λ (k : List ℕ). Part s t (b ++ k)) (same ∙ is) part,
+)
+
+pub as_object : (place : Asked) (table : Family → List (List Bool × List ℕ)) (line : List ℕ) (asked : Option IpAddr) (s t : State) (b c : List ℕ) (r : Result Bool CommandError)
+    → TellsBy look_object table asked s t b c r → TellsBy (told_line Objects place line) table asked s t b c r
+as_object place table line asked s t b c (Ok hit) h = h
+as_object place table line asked s t b c (Err (error.Argument text e)) h = h
+as_object place table line asked s t b c (Err (error.Line name n e)) h = h
+as_object place table line asked s t b c (Err (error.Input name why)) h = h
+as_object place table line asked s t b c (Err error.NoMemory) h = h
+as_object place table line asked s t b c (Err error.Output) h = h
+as_object place table line asked s t b c (Err (error.File name why)) h = h
+
 -- ---- several lines
 or_none : (b : Bool) → b ≡ (b || false)
 or_none true = refl
@@ -89,21 +142,21 @@ zip_both P [] ys (m ∷ ms) ns h k = absurd h
 zip_both P (x ∷ xs) ys [] ns h k = absurd h
 zip_both P (x ∷ xs) ys (m ∷ ms) ns h k = (h.0, zip_both P xs ys ms ns h.1 k)
 
-module _ (place : Asked) (table : Family → List (List Bool × List ℕ)) where
+module _ (telling : Telling) (place : Asked) (table : Family → List (List Bool × List ℕ)) where
   -- what lines tell
   abbrev Tell : List (List ℕ) → List ℕ × Bool → Type 0
-  Tell lines told = LinesTell true place table lines told
+  Tell lines told = LinesTell telling place table lines told
 
   none_tell : Tell [] ([], false)
   none_tell = ([], tt, refl, refl)
 
-  one_tells : (line : List ℕ) (told : List ℕ × Bool) → LineTells true place table line told → Tell (line ∷ []) told
+  one_tells : (line : List ℕ) (told : List ℕ × Bool) → LineTells telling place table line told → Tell (line ∷ []) told
   one_tells line told h = (told ∷ [], (h, tt), sym (append-nil told.0), or_none told.1)
 
   both_tell : (xs ys : List (List ℕ)) (a b : List ℕ) (f g : Bool) → Tell xs (a, f) → Tell ys (b, g) → Tell (xs ++ ys) (a ++ b, f || g)
   both_tell xs ys a b f g (first, are, text, found) (second, more, other, also) = (
     first ++ second,
-    zip_both (LineTells true place table) xs ys first second are more,
+    zip_both (LineTells telling place table) xs ys first second are more,
     ap (λ (k : List ℕ). k ++ b) text
         ∙ (ap (λ (k : List ℕ). flat_map (λ (one : List ℕ × Bool). one.0) first ++ k) other
         ∙ sym (flat_map-append (λ (one : List ℕ × Bool). one.0) first second)),
@@ -114,38 +167,30 @@ module _ (place : Asked) (table : Family → List (List Bool × List ℕ)) where
 
   -- ---- the line of a part
   pub no_line_kept : (file : List ℕ) (number : ℕ) (part : List ℕ) (more : Bool) (s : State) (b : List ℕ) → lines_of_part part more ≡ []
-      → KeepsPart place table file number part more s s b b (Ok false)
+      → TellsPart telling place table file number part more s s b b (Ok false)
   no_line_kept file number part more s b none =
       ([], subst (λ (k : List (List ℕ)). Tell k ([], false)) (sym none) none_tell, none_collected s b)
 
-  pub part_kept : (file : List ℕ) (number : ℕ) (part : List ℕ) (more : Bool) (asked : Option IpAddr) (s t : State) (b c : List ℕ) (hit : Bool)
-      → lines_of_part part more ≡ part ∷ [] → LineAsks place part asked → KeepsLine place table part asked s t b c (Ok hit)
-      → KeepsPart place table file number part more s t b c (Ok hit)
-  part_kept file number part more asked s t b c hit one says (look, looked, collects, tells) = (
-    told_line true place part look,
-    subst (λ (k : List (List ℕ)). Tell k (told_line true place part look, hit)) (sym one)
-        (one_tells part (told_line true place part look, hit) (look, line_looks place table part asked look says looked, refl, tells)),
+  pub part_told : (file : List ℕ) (number : ℕ) (part : List ℕ) (more : Bool) (asked : Option IpAddr) (s t : State) (b c : List ℕ) (r : Result Bool CommandError)
+      → lines_of_part part more ≡ part ∷ [] → LineAsks place part asked → TellsBy (told_line telling place part) table asked s t b c r
+      → TellsPart telling place table file number part more s t b c r
+  part_told file number part more asked s t b c (Ok hit) one says (look, looked, collects, tells) = (
+    told_line telling place part look,
+    subst (λ (k : List (List ℕ)). Tell k (told_line telling place part look, hit)) (sym one)
+        (one_tells part (told_line telling place part look, hit) (look, line_looks place table part asked look says looked, refl, tells)),
     collects,
   )
-
-  pub part_lost : (file : List ℕ) (number : ℕ) (part : List ℕ) (more : Bool) (asked : Option IpAddr) (s t : State) (b c : List ℕ) (e : OutputFailed)
-      → lines_of_part part more ≡ part ∷ [] → LineAsks place part asked → KeepsLine place table part asked s t b c (Err e)
-      → KeepsPart place table file number part more s t b c (Err error.Output)
-  part_lost file number part more asked s t b c e one says (look, looked, part_written) = (
+  part_told file number part more asked s t b c (Err error.Output) one says (look, looked, part_written) = (
     one,
-    (told_line true place part look, is_found look),
+    (told_line telling place part look, is_found look),
     (look, line_looks place table part asked look says looked, refl, refl),
     part_written,
   )
-
-  pub part_cause : (F : List ℕ → Type 0) (refused : Bool) (file : List ℕ) (number : ℕ) (part : List ℕ) (more : Bool) (s t : State) (b c : List ℕ) (e : CommandError)
-      → KeepsPart place table file number part more s t b c (Err e) → Cause F refused e
-  part_cause F refused file number part more s t b c (error.Argument text e) h = absurd h
-  part_cause F refused file number part more s t b c (error.Line name n e) h = tt
-  part_cause F refused file number part more s t b c (error.Input name why) h = absurd h
-  part_cause F refused file number part more s t b c error.NoMemory h = absurd h
-  part_cause F refused file number part more s t b c error.Output h = tt
-  part_cause F refused file number part more s t b c (error.File name why) h = absurd h
+  part_told file number part more asked s t b c (Err error.NoMemory) one says (still, kept) = (one, still, kept)
+  part_told file number part more asked s t b c (Err (error.Argument text e)) one says h = absurd h
+  part_told file number part more asked s t b c (Err (error.Line name n e)) one says h = absurd h
+  part_told file number part more asked s t b c (Err (error.Input name why)) one says h = absurd h
+  part_told file number part more asked s t b c (Err (error.File name why)) one says h = absurd h
 
   -- ---- one line after the other
   -- the lines before this number were read
@@ -217,7 +262,7 @@ module _ (place : Asked) (table : Family → List (List Bool × List ℕ)) where
 
   pub take_on : (file : List ℕ) (known left next : Option (List ℕ)) (s t u : State) (number : ℕ) (part : List ℕ) (more : Bool) (b c : List ℕ) (found hit any : Bool)
       → any ≡ (found || hit) → Keeping known left s t number b found → IfSome left (λ bytes. IsNextLine bytes part more next)
-      → KeepsPart place table file number part more t u b c (Ok hit) → Taken known next s u number c more any
+      → TellsPart telling place table file number part more t u b c (Ok hit) → Taken known next s u number c more any
   take_on file known left next s t u number part more b c found hit any is st n (one, tells, collects) = rw is (record {
     text = st.text ++ one;
     collected = held_then s t u b c st.text one st.collected collects;
@@ -247,7 +292,7 @@ module _ (place : Asked) (table : Family → List (List Bool × List ℕ)) where
 
   pub ended : (file : List ℕ) (known next : Option (List ℕ)) (s t u : State) (number : ℕ) (block : List ℕ) (more found : Bool)
       (w : Result (Unit {0}) OutputFailed) (r : Result Verdict CommandError) → more ≡ false → s.failed ≡ false → Taken known next s t number block more found
-      → Writes t u block w → r ≡ by_output (verdict_of found) w → KeepsText place table known file s u r
+      → Writes t u block w → r ≡ by_output (verdict_of found) w → TellsText telling place table known file s u r
   ended file known next s t u number block more found w r e fine k wrote is = inl (
     k.text,
     found,
@@ -262,7 +307,7 @@ module _ (place : Asked) (table : Family → List (List Bool × List ℕ)) where
   Cut known answer e = IfSome known (λ bytes. (found : Bool) × IsCut Tell (IsBadAsked place) (lines_in bytes) (answer, found) e)
 
   cut_here : (known left : Option (List ℕ)) (number : ℕ) (text : List ℕ) (found : Bool) (e : CommandError)
-      → ((read after : List (List ℕ)) → IsStop (IsBadAsked place) read after e) → IfSome known (λ bytes. Passed bytes left number (text, found)) → Cut known text e
+      → ((read after : List (List ℕ)) → IsStop (λ before. IsBadAsked place) read after e) → IfSome known (λ bytes. Passed bytes left number (text, found)) → Cut known text e
   cut_here None left number text found e stops p = tt
   cut_here (Some bytes) left number text found e stops p =
       (found, (p.read, lines_in p.rest, record { lines = p.lines; are = p.are }, stops p.read (lines_in p.rest)))
@@ -271,7 +316,7 @@ module _ (place : Asked) (table : Family → List (List Bool × List ℕ)) where
   stopped : (file : List ℕ) (known : Option (List ℕ)) (s t u : State) (block text : List ℕ) (e : CommandError)
       (w : Result (Unit {0}) OutputFailed) (r : Result Verdict CommandError) → s.failed ≡ false → IsOfFile file e
       → ((text : List ℕ) → Whole s u text × (u.failed ≡ false) → IsWritten s u text e) → Holds s t block text → Writes t u block w
-      → r ≡ Err (ended_by e w) → Cut known text e → Cut known text error.Output → KeepsText place table known file s u r
+      → r ≡ Err (ended_by e w) → Cut known text e → Cut known text error.Output → TellsText telling place table known file s u r
   stopped file known s t u block text e (Ok a) r fine of goes collected wrote is cut lost = inr (
     e,
     is,
@@ -290,7 +335,7 @@ module _ (place : Asked) (table : Family → List (List Bool × List ℕ)) where
   )
 
   pub unread : (file : List ℕ) (known left : Option (List ℕ)) (s t u : State) (number : ℕ) (block : List ℕ) (found : Bool) (e : CommandError) (r : Result Verdict CommandError)
-      → s.failed ≡ false → IsNotReadFurther file e → Keeping known left s t number block found → Stops e t u block r → KeepsText place table known file s u r
+      → s.failed ≡ false → IsNotReadFurther file e → Keeping known left s t number block found → Stops e t u block r → TellsText telling place table known file s u r
   unread file known left s t u number block found (error.Argument text e) r fine h st stops = absurd h
   unread file known left s t u number block found (error.Line name n e) r fine h st stops = absurd h
   unread file known left s t u number block found (error.Input name why) r fine h st (w, wrote, is) =
@@ -327,7 +372,7 @@ module _ (place : Asked) (table : Family → List (List Bool × List ℕ)) where
   }
 
   pub unwritten : (file : List ℕ) (known left : Option (List ℕ)) (s t u : State) (number : ℕ) (block : List ℕ) (found : Bool) → s.failed ≡ false → Part t u (block ++ [])
-      → Keeping known left s t number block found → KeepsText place table known file s u (Err error.Output)
+      → Keeping known left s t number block found → TellsText telling place table known file s u (Err error.Output)
   unwritten file known left s t u number block found fine part st = inr (
     error.Output,
     refl,
@@ -340,13 +385,13 @@ module _ (place : Asked) (table : Family → List (List Bool × List ℕ)) where
     cut_here known left number st.text found error.Output (λ _ _. tt) st.passed,
   )
 
-  pub failed_before : (file : List ℕ) (known : Option (List ℕ)) (s : State) → s.failed ≡ true → KeepsText place table known file s s (Err error.Output)
+  pub failed_before : (file : List ℕ) (known : Option (List ℕ)) (s : State) → s.failed ≡ true → TellsText telling place table known file s s (Err error.Output)
   failed_before file known s failed =
       inr (error.Output, refl, tt, [], (part_none s [] failed, λ _. refl), cut_here known known 1 [] false error.Output (λ _ _. tt) (nothing_passed known))
 
   cut_at_line : (known left next : Option (List ℕ)) (number : ℕ) (part : List ℕ) (more : Bool) (text : List ℕ) (found : Bool) (e : CommandError)
       → lines_of_part part more ≡ part ∷ [] → IfSome left (λ bytes. IsNextLine bytes part more next) → IfSome known (λ bytes. Passed bytes left number (text, found))
-      → ((read after : List (List ℕ)) → number ≡ length read + 1 → IsStop (IsBadAsked place) read (part ∷ after) e) → Cut known text e
+      → ((read after : List (List ℕ)) → number ≡ length read + 1 → IsStop (λ before. IsBadAsked place) read (part ∷ after) e) → Cut known text e
   cut_at_line None left next number part more text found e one n p stops = tt
   cut_at_line (Some bytes) left next number part more text found e one n p stops =
       let (after, lines, over, on) = part_read p.rest part more next (rw p.known at n) in
@@ -361,7 +406,7 @@ module _ (place : Asked) (table : Family → List (List Bool × List ℕ)) where
       )
 
   cut_behind : (known left next : Option (List ℕ)) (number : ℕ) (part : List ℕ) (more : Bool) (text : List ℕ) (found : Bool) (told : List ℕ × Bool)
-      → lines_of_part part more ≡ part ∷ [] → LineTells true place table part told
+      → lines_of_part part more ≡ part ∷ [] → LineTells telling place table part told
       → IfSome left (λ bytes. IsNextLine bytes part more next) → IfSome known (λ bytes. Passed bytes left number (text, found)) → Cut known (text ++ told.0) error.Output
   cut_behind None left next number part more text found told one h n p = tt
   cut_behind (Some bytes) left next number part more text found told one h n p =
@@ -381,16 +426,21 @@ module _ (place : Asked) (table : Family → List (List Bool × List ℕ)) where
 
   pub lost : (file : List ℕ) (known left next : Option (List ℕ)) (s t u v : State) (number : ℕ) (block rest part : List ℕ) (more found : Bool) (e : CommandError)
       (r : Result Verdict CommandError) → s.failed ≡ false → Keeping known left s t number block found → IfSome left (λ bytes. IsNextLine bytes part more next)
-      → KeepsPart place table file number part more t u block rest (Err e) → Stops e u v rest r → KeepsText place table known file s v r
+      → TellsPart telling place table file number part more t u block rest (Err e) → Stops e u v rest r → TellsText telling place table known file s v r
   lost file known left next s t u v number block rest part more found (error.Argument text e) r fine st n h stops = absurd h
   lost file known left next s t u v number block rest part more found (error.Input name why) r fine st n h stops = absurd h
-  lost file known left next s t u v number block rest part more found error.NoMemory r fine st n h stops = absurd h
   lost file known left next s t u v number block rest part more found (error.File name why) r fine st n h stops = absurd h
   lost file known left next s t u v number block rest part more found (error.Line name m e) r fine st n (one, same, at, bad, still, kept) (w, wrote, is) =
       let collected : Holds s u rest st.text =
       subst (λ (z : State). Holds s z rest st.text) (sym still) (subst (λ (k : List ℕ). Holds s t k st.text) (sym kept) st.collected) in
       stopped file known s u v rest st.text (error.Line name m e) w r fine same (λ text all. all) collected wrote is
       (cut_at_line known left next number part more st.text found (error.Line name m e) one n st.passed (λ read after here. (at ∙ here, part, after, refl, bad)))
+      (cut_at_line known left next number part more st.text found error.Output one n st.passed (λ _ _ _. tt))
+  lost file known left next s t u v number block rest part more found error.NoMemory r fine st n (one, still, kept) (w, wrote, is) =
+      let collected : Holds s u rest st.text =
+      subst (λ (z : State). Holds s z rest st.text) (sym still) (subst (λ (k : List ℕ). Holds s t k st.text) (sym kept) st.collected) in
+      stopped file known s u v rest st.text error.NoMemory w r fine tt (λ text all. all) collected wrote is
+      (cut_at_line known left next number part more st.text found error.NoMemory one n st.passed (λ _ _ _. tt))
       (cut_at_line known left next number part more st.text found error.Output one n st.passed (λ _ _ _. tt))
   lost file known left next s t u v number block rest part more found error.Output r fine st n (one, told, tells, failed) (still, is) =
       inr (

@@ -29,6 +29,7 @@ pub mod AddressLines
 pub mod TextProgress
 pub mod ReadBy
 pub mod Begun
+pub mod Numbering
 pub mod Good
 pub mod Stored
 pub mod StoredFiles
@@ -37,6 +38,7 @@ pub mod Listed
 pub mod Asked
 pub mod Looked
 pub mod Kept
+pub mod Headed
 pub mod Classed
 pub mod Telling
 pub mod Loading
@@ -46,5 +48,10 @@ pub mod Consequences
 pub mod Failures
 pub mod Skipped
 pub mod Compiling
+pub mod Compared
+pub mod Differing
 pub mod Large
 pub mod Left
+pub mod Revalued
+pub mod FewestRows
+pub mod FewestTold

@@ -1,5 +1,5 @@
 -- Addresses that are looked up, one line after the other.
-use Rattle.std.proofs.Common.{◌≡◌, ◌⊎◌, refl, sym, ◌∙◌, ap, subst, inl, inr, ℕ, ◌+◌, Bool, true, false, List, [], ◌∷◌, ◌++◌, ◌==◌, ◌<◌, ◌≤◌, length, take, drop, get_or, arith, codes, map, is_some, option_map, Bor, Option, Some, None, Result, Ok, Err, ◌||◌}
+use Rattle.std.proofs.Common.{◌≡◌, ◌≢◌, ◌⊎◌, refl, sym, ◌∙◌, ap, subst, inl, inr, ℕ, ◌+◌, Bool, true, false, List, [], ◌∷◌, ◌++◌, ◌==◌, ◌<◌, ◌≤◌, length, take, drop, get_or, arith, codes, map, is_some, option_map, Bor, Option, Some, None, Result, Ok, Err, ◌||◌}
 use Rattle.std.specs.Option.{IfSome}
 use Rattle.std.specs.List.{AllZip, flat_map, list_any}
 use Rattle.std.proofs.lemmas.Bool.{true≢false}
@@ -20,22 +20,24 @@ use Rattle.cidr_table.specs.model.Prefixes.{IsLookedUp}
 use Rattle.cidr_io.specs.Collecting.{Collects}
 use Rattle.netset_commands.specs.Commands.{Look}
 use Rattle.cidr_lists.specs.Lists.{Text, lines_of}
-use Rattle.cidr_lists.specs.LookUps.{IsBadAsked, LineLooks, LinesTell, LookUp, found_line, is_found, lines_by, look_line, printed_row}
-use Rattle.cidr_lists.specs.Lines.{lines_in}
+use Rattle.cidr_lists.specs.LookUps.{IsBadAsked, LineLooks, LinesTell, LookUp, found_line, is_found, lines_by, look_line, printed_row, telling_by}
+use Rattle.cidr_lists.specs.Lines.{IsBadBehind, lines_in}
 use Rattle.cidr_lists.specs.declared.fields.Asked.{Asked}
 use Rattle.cidr_lists.specs.declared.forms.RowForm.{RowForm}
+use Rattle.cidr_lists.specs.declared.objects.Telling.{Telling}
+use Rattle.cidr_lists.specs.declared.objects.Telling.TheVariants.{Alone, Kept, Objects}
 use Rattle.netset_commands.specs.Gathering.{IsNotReadFurther}
-use Rattle.netset_commands.specs.KeptLines.{IsNetworkOf, KeepsText, TellsFile}
-use Rattle.netset_commands.specs.Look.{IsLook, IsLookCut, verdict_of}
+use Rattle.netset_commands.specs.KeptLines.{IsRowOf, TellsFile, TellsLeft, TellsText}
+use Rattle.netset_commands.specs.Look.{HeadedTell, IsLook, IsLookCut, verdict_of}
 use Rattle.netset_commands.specs.Matching.{has}
 use Rattle.netset_commands.specs.Picking.{Choice, IsAsked}
 use Rattle.netset_commands.specs.LookUps.{AreFirstSaid, AllFound, AskLooks, AsksLines, EndsReading, IsFoundOf, LooksAll, LooksEach, LooksLines, LooksOne, LooksUp, PushesFound, answer_of, answer_row, unread}
 use Rattle.cidr_lists.specs.Tables.{resolved, value_at}
 use Rattle.netset_commands.specs.Compiled.{SaysTable}
 use Rattle.netset_commands.specs.Program.{AnswersRequest, IsInputError}
-use Rattle.netset_commands.specs.Stored.{IsNoTable}
+use Rattle.netset_commands.specs.Stored.{HasUnfitRow, IsNoTable}
 use Rattle.netset_commands.specs.Reading.{IsStopped}
-use Rattle.netset_commands.specs.Streaming.{IsCut, IsOfFile, IsWritten}
+use Rattle.netset_commands.specs.Streaming.{IsCut, IsCutBehind, IsOfFile, IsWritten}
 use Rattle.netset_commands.specs.declared.errors.CommandError.{CommandError}
 use Rattle.netset_commands.specs.declared.errors.CommandError.TheVariants as error
 use Rattle.netset_commands.specs.declared.output.answers.Verdict.{Verdict}
@@ -120,16 +122,22 @@ looks_up_row table address family asked found text s t block rest r of bits look
     ∙ printed_found (address_family address) found)
     (subst (λ (k : List ℕ). PushesFound k (option_map (λ (row : List Bool × Bor (List ℕ)). (plain_text family row.0, row.1.now)) found) s t block rest r) shows pushed)
 
-pub network_of_row : (table : Family → List (List Bool × List ℕ)) (address : IpAddr) (family : Family) (asked : List Bool) (found : Option (List Bool × Bor (List ℕ)))
-    → address_family address ≡ family → asked ≡ plain_bits address → IsLookedUp (λ (p : List Bool). p) asked (table family) (option_map found_row found)
-    → IsNetworkOf table address (option_map (λ (row : List Bool × Bor (List ℕ)). (plain_text family row.0, row.1.now)) found)
-network_of_row table address family asked found of bits looked = (
-  option_map found_row found,
-  subst (λ (k : List Bool). IsLookedUp (λ (p : List Bool). p) k (table (address_family address)) (option_map found_row found)) bits
-      (subst (λ (k : Family). IsLookedUp (λ (p : List Bool). p) asked (table k) (option_map found_row found)) (sym of) looked),
-  ap (λ (k : Family). option_map (λ (row : List Bool × Bor (List ℕ)). (plain_text k row.0, row.1.now)) found) (sym of)
-      ∙ printed_found (address_family address) found,
-)
+-- the row of an address, by the length of its network
+pub row_known : (table : Family → List (List Bool × List ℕ)) (address : IpAddr) (family : Family) (asked p : List Bool) (len : ℕ) (value : List ℕ)
+    → address_family address ≡ family → asked ≡ plain_bits address → IsLookedUp (λ (p : List Bool). p) asked (table family) (Some (p, value)) → len ≡ length p
+    → IsRowOf table address (Some (len, value))
+row_known table address family asked p len value of bits looked long =
+    let here : IsLookedUp (λ (p : List Bool). p) (plain_bits address) (table (address_family address)) (Some (p, value)) =
+    subst (λ (k : List Bool). IsLookedUp (λ (p : List Bool). p) k (table (address_family address)) (Some (p, value))) bits
+    (subst (λ (k : Family). IsLookedUp (λ (p : List Bool). p) asked (table k) (Some (p, value))) (sym of) looked) in
+    subst (λ (k : List Bool). IsLookedUp (λ (p : List Bool). p) (plain_bits address) (table (address_family address)) (Some (k, value)))
+    (sym here.begins ∙ ap (λ (n : ℕ). take n (plain_bits address)) (sym long)) here
+
+pub no_row_known : (table : Family → List (List Bool × List ℕ)) (address : IpAddr) (family : Family) (asked : List Bool)
+    → address_family address ≡ family → asked ≡ plain_bits address → IsLookedUp (λ (p : List Bool). p) asked (table family) None → IsRowOf table address None
+no_row_known table address family asked of bits looked =
+    subst (λ (k : List Bool). IsLookedUp (λ (p : List Bool). p) k (table (address_family address)) None) bits
+    (subst (λ (k : Family). IsLookedUp (λ (p : List Bool). p) asked (table k) None) (sym of) looked)
 
 -- ---- the line of an address
 pub row_short : (a n v : List ℕ) (test : Bool) → test ≡ (length v == 0) → test ≡ true → found_line a (Some (n, v)) ≡ a ++ (codes " " ++ (n ++ codes "\n"))
@@ -414,7 +422,7 @@ nothing_looked place table contents s failed = ([], record {}, (part_none s [] f
 -- ---- what is told of them
 -- a line for each address
 plain_told : (place : Asked) (table : Family → List (List Bool × List ℕ)) (lines : List (List ℕ)) (looks : List (Option LookUp)) → AllZip (LineLooks place table) lines looks
-    → LinesTell false place table lines (flat_map look_line looks, list_any is_found looks)
+    → LinesTell Alone place table lines (flat_map look_line looks, list_any is_found looks)
 plain_told place table [] [] h = ([], tt, refl, refl)
 plain_told place table [] (look ∷ looks) h = absurd h
 plain_told place table (line ∷ lines) [] h = absurd h
@@ -429,13 +437,13 @@ plain_told place table (line ∷ lines) (look ∷ looks) (here, others) =
 -- up to where reading ended
 plain_cut : (place : Asked) (table : Family → List (List Bool × List ℕ)) (lines : List (List ℕ)) (looks : List (Option LookUp)) (e : CommandError)
     → IsCut (AllZip (LineLooks place table)) (IsBadAsked place) lines looks e
-    → IsCut (LinesTell false place table) (IsBadAsked place) lines (flat_map look_line looks, list_any is_found looks) e
+    → IsCut (LinesTell Alone place table) (IsBadAsked place) lines (flat_map look_line looks, list_any is_found looks) e
 plain_cut place table lines looks e (read, left, to, stops) =
     (read, left, record { lines = to.lines; are = plain_told place table read looks to.are }, stops)
 
 module _ (place : Asked) (table : Family → List (List Bool × List ℕ)) (text : List ℕ) (looks : List (Option LookUp)) where
   pub ends_as : (file : Bor (List ℕ)) (e : ReadError) → EndsReading place table text looks e
-      → IsCut (LinesTell false place table) (IsBadAsked place) (lines_of text) (flat_map look_line looks, list_any is_found looks) (unread file e)
+      → IsCut (LinesTell Alone place table) (IsBadAsked place) (lines_of text) (flat_map look_line looks, list_any is_found looks) (unread file e)
   ends_as file (Line number e) h =
       plain_cut place table (lines_of text) looks (error.Line file number e) (cut_before (LineLooks place table) (IsBadAsked place) text looks number e file h)
   ends_as file Input h =
@@ -444,10 +452,10 @@ module _ (place : Asked) (table : Family → List (List Bool × List ℕ)) (text
       plain_cut place table (lines_of text) looks error.NoMemory (cut_behind (LineLooks place table) (IsBadAsked place) text looks error.NoMemory (λ _ _. tt) h)
 
   pub lost_as : AreFirstSaid (LineLooks place table) text looks
-      → IsCut (LinesTell false place table) (IsBadAsked place) (lines_of text) (flat_map look_line looks, list_any is_found looks) error.Output
+      → IsCut (LinesTell Alone place table) (IsBadAsked place) (lines_of text) (flat_map look_line looks, list_any is_found looks) error.Output
   lost_as h = plain_cut place table (lines_of text) looks error.Output (cut_behind (LineLooks place table) (IsBadAsked place) text looks error.Output (λ _ _. tt) h)
 
-  pub all_as : AllZip (LineLooks place table) (lines_of text) looks → LinesTell false place table (lines_of text) (flat_map look_line looks, list_any is_found looks)
+  pub all_as : AllZip (LineLooks place table) (lines_of text) looks → LinesTell Alone place table (lines_of text) (flat_map look_line looks, list_any is_found looks)
   all_as h = plain_told place table (lines_of text) looks h
 
 -- ---- a file
@@ -461,95 +469,112 @@ gone file s t (Line number e) text h = h
 gone file s t Input text h = h
 gone file s t NoMemory text h = h
 
-module _ (place : Asked) (table : Family → List (List Bool × List ℕ)) (contents : Option Text) (file : Bor (List ℕ)) (left : Option (List ℕ)) (s t : State)
-    (opens : (text : Text) → contents ≡ Some text → left ≡ Some text.bytes) where
-  pub looked_whole : (found : Bool) → LooksAll place table left s t (Ok found) → TellsFile false place table contents file.now s t (Ok (verdict_of found))
-  looked_whole found (looks, written, hit, says) = inr (inl (
+-- what follows of bytes, if they are told
+pub each_told : (P Q : List ℕ → Type 0) (left : Option (List ℕ)) → ((bytes : List ℕ) → P bytes → Q bytes) → IfSome left P → IfSome left Q
+each_told P Q None f h = tt
+each_told P Q (Some bytes) f h = f bytes h
+
+module _ (place : Asked) (table : Family → List (List Bool × List ℕ)) (file : Bor (List ℕ)) (left : Option (List ℕ)) (s t : State) where
+  pub looked_whole : (found : Bool) → LooksAll place table left s t (Ok found) → TellsLeft false Alone place table left file.now s t (Ok (verdict_of found))
+  looked_whole found (looks, written, hit, says) = inl (
     flat_map look_line looks,
     found,
     Ok tt,
     refl,
     written,
-    λ text at.
-        rw hit (all_as place table text.bytes looks (bytes_read (λ bytes. AllZip (LineLooks place table) (lines_of bytes) looks) left text.bytes (opens text at) says)),
-  ))
+    each_told (λ text. AllZip (LineLooks place table) (lines_of text) looks) (λ text. HeadedTell false Alone place table (lines_of text) (flat_map look_line looks, found)) left
+        (λ text h. subst (λ (k : Bool). LinesTell Alone place table (lines_of text) (flat_map look_line looks, k)) (sym hit) (all_as place table text looks h)) says,
+  )
 
-  pub ended_early : (e : ReadError) → LooksAll place table left s t (Err (Reading e)) → TellsFile false place table contents file.now s t (Err (unread file e))
-  ended_early e (looks, written, ends) = inr (inr (
+  -- the lines that were read, where there are others
+  abbrev IsCutAs : List (Option LookUp) → CommandError → List ℕ → Type 0
+  IsCutAs looks e text = (found : Bool) × IsCut (LinesTell Alone place table) (IsBadAsked place) (lines_of text) (flat_map look_line looks, found) e
+
+  pub ended_early : (e : ReadError) → LooksAll place table left s t (Err (Reading e)) → TellsLeft false Alone place table left file.now s t (Err (unread file e))
+  ended_early e (looks, written, ends) = inr (
     unread file e,
     refl,
     of_file file e,
     flat_map look_line looks,
     gone file s t e (flat_map look_line looks) written,
-    λ text at. (
-      list_any is_found looks,
-      ends_as place table text.bytes looks file e (bytes_read (λ bytes. EndsReading place table bytes looks e) left text.bytes (opens text at) ends),
-    ),
-  ))
+    each_told (λ text. EndsReading place table text looks e) (IsCutAs looks (unread file e)) left (λ text h. (list_any is_found looks, ends_as place table text looks file e h)) ends,
+  )
 
-  pub output_failed : LooksAll place table left s t (Err Output) → TellsFile false place table contents file.now s t (Err error.Output)
-  output_failed (looks, f, written, ends) = inr (inr (
+  pub output_failed : LooksAll place table left s t (Err Output) → TellsLeft false Alone place table left file.now s t (Err error.Output)
+  output_failed (looks, f, written, ends) = inr (
     error.Output,
     refl,
     tt,
     flat_map look_line looks,
     written,
-    λ text at. (
-      list_any is_found looks,
-      lost_as place table text.bytes looks (bytes_read (λ bytes. AreFirstSaid (LineLooks place table) bytes looks) left text.bytes (opens text at) ends),
-    ),
-  ))
+    each_told (λ text. AreFirstSaid (LineLooks place table) text looks) (IsCutAs looks error.Output) left (λ text h. (list_any is_found looks, lost_as place table text looks h)) ends,
+  )
 
--- lines that are kept
-module _ (keeps : Bool) (place : Asked) (table : Family → List (List Bool × List ℕ)) (contents : Option Text) (file : List ℕ) (left : Option (List ℕ)) (s t : State)
-    (opens : (text : Text) → contents ≡ Some text → left ≡ Some text.bytes) (is : keeps ≡ true) where
-  pub kept_file : (r : Result Verdict CommandError) → KeepsText place table left file s t r → TellsFile keeps place table contents file s t r
-  kept_file r (inl (answer, found, w, by, written, tells)) = inr (inl (
+-- lines that are told one after the other
+lines_told : (telling : Telling) (text : List ℕ) → telling ≢ Alone → lines_by telling text ≡ lines_in text
+lines_told Alone text behind = absurd (behind refl)
+lines_told Kept text behind = refl
+lines_told Objects text behind = refl
+
+module _ (telling : Telling) (place : Asked) (table : Family → List (List Bool × List ℕ)) (file : List ℕ) (left : Option (List ℕ)) (s t : State) (behind : telling ≢ Alone) where
+  pub told_text : (r : Result Verdict CommandError) → TellsText telling place table left file s t r → TellsLeft false telling place table left file s t r
+  told_text r (inl (answer, found, w, by, written, tells)) = inl (
     answer,
     found,
     w,
     by,
     written,
-    λ text at. subst (λ (k : Bool). LinesTell k place table (lines_by k text.bytes) (answer, found)) (sym is)
-        (bytes_read (λ bytes. LinesTell true place table (lines_in bytes) (answer, found)) left text.bytes (opens text at) tells),
-  ))
-  kept_file r (inr (e, same, of, answer, written, belongs)) = inr (inr (
+    each_told (λ text. LinesTell telling place table (lines_in text) (answer, found)) (λ text. LinesTell telling place table (lines_by telling text) (answer, found)) left
+        (λ text h. subst (λ (k : List (List ℕ)). LinesTell telling place table k (answer, found)) (sym (lines_told telling text behind)) h) tells,
+  )
+  told_text r (inr (e, same, of, answer, written, belongs)) = inr (
     e,
     same,
     of,
     answer,
     written,
-    λ text at. subst (λ (k : Bool). (found : Bool) × IsCut (LinesTell k place table) (IsBadAsked place) (lines_by k text.bytes) (answer, found) e) (sym is)
-        (bytes_read (λ bytes. (found : Bool) × IsCut (LinesTell true place table) (IsBadAsked place) (lines_in bytes) (answer, found) e) left text.bytes (opens text at) belongs),
-  ))
+    each_told (λ text. (found : Bool) × IsCut (LinesTell telling place table) (IsBadAsked place) (lines_in text) (answer, found) e)
+        (λ text. (found : Bool) × IsCut (LinesTell telling place table) (IsBadAsked place) (lines_by telling text) (answer, found) e) left
+        (λ text h. subst (λ (k : List (List ℕ)). (found : Bool) × IsCut (LinesTell telling place table) (IsBadAsked place) k (answer, found) e) (sym (lines_told telling text behind)) h) belongs,
+  )
 
 -- ---- the command
-module _ (contents : List ℕ → Option Text) (choice : Choice) (form : RowForm) (options : List (List ℕ)) (rows file : List ℕ) (place : Asked) (keeps : Bool)
+module _ (contents : List ℕ → Option Text) (choice : Choice) (form : RowForm) (options : List (List ℕ)) (rows file : List ℕ) (place : Asked) (telling : Telling)
     (table : Family → List (List Bool × List ℕ)) (s t : State) (asks : IsAsked choice (has (codes "--any") options) place)
-    (is : keeps ≡ has (codes "--keep") options) (reads : (text : Text) → contents rows ≡ Some text → SaysTable form text table) where
-  not_read : (e : CommandError) → IsNotReadFurther file e → IsNoTable form (contents rows) rows e ⊎ IsInputError file e
+    (is : telling ≡ telling_by form.values (has (codes "--keep") options)) (reads : (text : Text) → contents rows ≡ Some text → SaysTable form text table) where
+  not_read : (e : CommandError) → IsNotReadFurther file e → IsNoTable form (contents rows) rows e ⊎ (HasUnfitRow form (contents rows) rows e ⊎ IsInputError file e)
   not_read (error.Argument text e) h = absurd h
   not_read (error.Line name number e) h = absurd h
-  not_read (error.Input name why) h = inr h
+  not_read (error.Input name why) h = inr (inr h)
   not_read error.NoMemory h = inl tt
   not_read error.Output h = absurd h
   not_read (error.File name e) h = absurd h
 
-  pub told_file : (r : Result Verdict CommandError) → TellsFile keeps place table (contents file) file s t r → AnswersRequest contents (Look choice form options rows file) s t r
+  -- with a header or not
+  abbrev headed : Bool
+  headed = has (codes "--header") options
+
+  pub told_file : (r : Result Verdict CommandError) → TellsFile headed telling place table (contents file) file s t r → AnswersRequest contents (Look choice form options rows file) s t r
   told_file r (inl (none, e, same, why)) = rw same (inl (inl (none, inr (place, asks, not_read e why))))
-  told_file r (inr (inl (answer, found, w, by, written, tells))) = inl (inr (
+  told_file r (inr (left, opens, inl (answer, found, w, by, written, tells))) = inl (inr (
     answer,
     verdict_of found,
     w,
     (
       place,
       asks,
-      λ first second one two. subst (λ (k : Bool). IsLook k place form first second.bytes answer (verdict_of found)) is (table, reads first one, found, tells second two, refl),
+      λ first second one two. subst (λ (k : Telling). IsLook headed k place form first second.bytes answer (verdict_of found)) is (
+        table,
+        reads first one,
+        found,
+        bytes_read (λ text. HeadedTell headed telling place table (lines_by telling text) (answer, found)) left second.bytes (opens second two) tells,
+        refl,
+      ),
     ),
     written,
     by,
   ))
-  told_file r (inr (inr (e, same, of, answer, written, belongs))) = inr (
+  told_file r (inr (left, opens, inr (e, same, of, answer, written, belongs))) = inr (
     e,
     same,
     of,
@@ -558,7 +583,9 @@ module _ (contents : List ℕ → Option Text) (choice : Choice) (form : RowForm
     (
       place,
       asks,
-      λ first second one two. subst (λ (k : Bool). IsLookCut k place form first second.bytes answer e) is
-          (table, reads first one, (belongs second two).0, (belongs second two).1),
+      λ first second one two.
+          let (found, cut) = bytes_read (λ text. (found : Bool) × IsCutBehind (HeadedTell headed telling place table) (IsBadBehind headed (IsBadAsked place)) (lines_by telling text) (answer, found) e)
+          left second.bytes (opens second two) belongs in
+          subst (λ (k : Telling). IsLookCut headed k place form first second.bytes answer e) is (table, reads first one, found, cut),
     ),
   )

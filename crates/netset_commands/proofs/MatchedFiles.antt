@@ -60,10 +60,10 @@ unopened_written s t text file error.Output fine whole h = absurd h
 unopened_written s t text file (error.File name e) fine whole h = absurd h
 
 -- ---- files
-module _ (contents : List ℕ → Option Text) (P : List ℕ → Result Bool LineError → Type 0) (what : Written) where
-  matched_more : (files : List (List ℕ)) (file answer more : List ℕ) (verdict one : Verdict) → AreMatched contents P what files answer verdict
-      → ((text : Text) → contents file ≡ Some text → IsMatch P (file_label file) what text.bytes None more one)
-      → AreMatched contents P what (files ++ file ∷ []) (answer ++ more) (either verdict one)
+module _ (contents : List ℕ → Option Text) (headed : Bool) (P : List ℕ → Result Bool LineError → Type 0) (what : Written) where
+  matched_more : (files : List (List ℕ)) (file answer more : List ℕ) (verdict one : Verdict) → AreMatched contents headed P what files answer verdict
+      → ((text : Text) → contents file ≡ Some text → IsMatch headed P (file_label file) what text.bytes None more one)
+      → AreMatched contents headed P what (files ++ file ∷ []) (answer ++ more) (either verdict one)
   matched_more [] file answer more verdict one (none, lacks) match = (
     more,
     [],
@@ -86,41 +86,41 @@ module _ (contents : List ℕ → Option Text) (P : List ℕ → Result Bool Lin
   )
 
   -- a file that is not read at all, and one that is not read further
-  never_read : (file : List ℕ) (text : Text) (e : CommandError) → IsNotReadFurther file e → IsEndedBy P (file_label file) what text.bytes [] e
+  never_read : (file : List ℕ) (text : Text) (e : CommandError) → IsNotReadFurther file e → IsEndedBy headed P (file_label file) what text.bytes [] e
   never_read file text (error.Argument name e) h = absurd h
   never_read file text (error.Line name number e) h = absurd h
   never_read file text (error.Input name why) h =
-      cut_here P (file_label file) what (Some text.bytes) (Some text.bytes) 1 [] None (error.Input name why) (λ _ _. tt) (nothing_passed P (file_label file) what (Some text.bytes))
+      cut_here headed P (file_label file) what (Some text.bytes) (Some text.bytes) 1 ([], []) None (error.Input name why) (λ _ _. tt) (nothing_passed headed P (file_label file) what (Some text.bytes))
   never_read file text error.NoMemory h =
-      cut_here P (file_label file) what (Some text.bytes) (Some text.bytes) 1 [] None error.NoMemory (λ _ _. tt) (nothing_passed P (file_label file) what (Some text.bytes))
+      cut_here headed P (file_label file) what (Some text.bytes) (Some text.bytes) 1 ([], []) None error.NoMemory (λ _ _. tt) (nothing_passed headed P (file_label file) what (Some text.bytes))
   never_read file text error.Output h = absurd h
   never_read file text (error.File name e) h = absurd h
 
-  pub none_streamed : (s : State) → AreStreamed contents P what [] s s No
+  pub none_streamed : (s : State) → AreStreamed contents headed P what [] s s No
   none_streamed s = ([], (refl, refl), whole_none s)
 
-  more_streamed : (files : List (List ℕ)) (file : List ℕ) (s t u : State) (verdict one : Verdict) → AreStreamed contents P what files s t verdict
-      → StreamsFile P (file_label file) what file (contents file) t u (Ok one) → AreStreamed contents P what (files ++ file ∷ []) s u (either verdict one)
+  more_streamed : (files : List (List ℕ)) (file : List ℕ) (s t u : State) (verdict one : Verdict) → AreStreamed contents headed P what files s t verdict
+      → StreamsFile headed P (file_label file) what file (contents file) t u (Ok one) → AreStreamed contents headed P what (files ++ file ∷ []) s u (either verdict one)
   more_streamed files file s t u verdict one (answer, are, whole) (inl (same, e, is, of)) = cc
   more_streamed files file s t u verdict one (answer, are, whole) (inr (known, opens, inl (more, v, w, match, wrote, by))) =
       let (same, all) = written_whole t u more v one w by wrote in (
         answer ++ more,
         matched_more files file answer more verdict one are
-            (λ text told. subst (λ (k : Verdict). IsMatch P (file_label file) what text.bytes None more k) same (rw (opens text told) at match)),
+            (λ text told. subst (λ (k : Verdict). IsMatch headed P (file_label file) what text.bytes None more k) same (rw (opens text told) at match)),
         whole_whole s t u answer more whole all,
       )
   more_streamed files file s t u verdict one (answer, are, whole) (inr (known, opens, inr (e, is, of, more, begun, cut))) = cc
 
-  all_streamed : (files left : List (List ℕ)) (s t : State) (verdict : Verdict) → s.failed ≡ false → AreStreamed contents P what files s t verdict
-      → (left ≡ []) ⊎ ((what ≡ written.Nothing) × (verdict ≡ Yes)) → StreamsEach contents P what (files ++ left) s t (Ok verdict)
+  all_streamed : (files left : List (List ℕ)) (s t : State) (verdict : Verdict) → s.failed ≡ false → AreStreamed contents headed P what files s t verdict
+      → (left ≡ []) ⊎ ((what ≡ written.Nothing) × (verdict ≡ Yes)) → StreamsEach contents headed P what (files ++ left) s t (Ok verdict)
   all_streamed files left s t verdict fine (answer, are, whole) enough =
       inl (answer, verdict, Ok tt, (files, left, refl, are, enough), (whole, whole.fine ∙ fine), refl)
 
   -- the output failed at what is written of a file
   output_lost : (before after : List (List ℕ)) (file : List ℕ) (s t u : State) (answer more : List ℕ) (verdict v : Verdict) (w : Result (Unit {0}) OutputFailed) (e : CommandError)
-      → s.failed ≡ false → AreMatched contents P what before answer verdict → Whole s t answer
-      → ((text : Text) → contents file ≡ Some text → IsMatch P (file_label file) what text.bytes None more v) → Answered t u more w → Err e ≡ by_output v w
-      → StreamsEach contents P what (before ++ file ∷ after) s u (Err e)
+      → s.failed ≡ false → AreMatched contents headed P what before answer verdict → Whole s t answer
+      → ((text : Text) → contents file ≡ Some text → IsMatch headed P (file_label file) what text.bytes None more v) → Answered t u more w → Err e ≡ by_output v w
+      → StreamsEach contents headed P what (before ++ file ∷ after) s u (Err e)
   output_lost before after file s t u answer more verdict v (Ok a) e fine are whole match wrote by = cc
   output_lost before after file s t u answer more verdict v (Err f) e fine are whole match (part, before_failed) by =
       let is : e ≡ error.Output = cc in
@@ -140,8 +140,8 @@ module _ (contents : List ℕ → Option Text) (P : List ℕ → Result Bool Lin
       ))
 
   one_failed : (before after : List (List ℕ)) (file : List ℕ) (s t u : State) (verdict : Verdict) (e : CommandError) → s.failed ≡ false
-      → AreStreamed contents P what before s t verdict → StreamsFile P (file_label file) what file (contents file) t u (Err e)
-      → StreamsEach contents P what (before ++ file ∷ after) s u (Err e)
+      → AreStreamed contents headed P what before s t verdict → StreamsFile headed P (file_label file) what file (contents file) t u (Err e)
+      → StreamsEach contents headed P what (before ++ file ∷ after) s u (Err e)
   one_failed before after file s t u verdict e fine (answer, are, whole) (inl (same, why, is, of)) =
       let this : e ≡ why = cc in
       let (of_file, wrote) = unopened_written s t answer file why fine whole of in
@@ -172,7 +172,7 @@ module _ (contents : List ℕ → Option Text) (P : List ℕ → Result Bool Lin
       ))
 
   -- an output that had failed before
-  pub failed_before : (files : List (List ℕ)) (s : State) → s.failed ≡ true → StreamsEach contents P what files s s (Err error.Output)
+  pub failed_before : (files : List (List ℕ)) (s : State) → s.failed ≡ true → StreamsEach contents headed P what files s s (Err error.Output)
   failed_before [] s failed = inl ([], No, Err (record {}), ([], [], refl, (refl, refl), inl refl), (part_none s [] failed, λ _. refl), refl)
   failed_before (file ∷ files) s failed = inr (
     [],
@@ -191,15 +191,15 @@ module _ (contents : List ℕ → Option Text) (P : List ℕ → Result Bool Lin
         No,
         (refl, refl),
         refl,
-        λ text told. inl (cut_here P (file_label file) what (Some text.bytes) (Some text.bytes) 1 [] None error.Output (λ _ _. tt)
-            (nothing_passed P (file_label file) what (Some text.bytes))),
+        λ text told. inl (cut_here headed P (file_label file) what (Some text.bytes) (Some text.bytes) 1 ([], []) None error.Output (λ _ _. tt)
+            (nothing_passed headed P (file_label file) what (Some text.bytes))),
       ),
     ),
   )
 
   -- ---- the same of files by their names
   module _ (files : List (Bor (List ℕ))) (i : ℕ) (d : Bor (List ℕ)) (s t u : State) (verdict : Verdict) (within : i < length files)
-      (before : AreStreamed contents P what (take i (bytes_of files)) s t verdict) where
+      (before : AreStreamed contents headed P what (take i (bytes_of files)) s t verdict) where
     abbrev name_of : List ℕ
     name_of = (get_or files i d).now
 
@@ -212,70 +212,70 @@ module _ (contents : List ℕ → Option Text) (P : List ℕ → Result Bool Lin
         sym (take-append-drop i names) ∙ (at_drop_more (λ k. take i names ++ k) names i name_of (within_bytes files i within)
         ∙ ap (λ (k : List ℕ). take i names ++ k ∷ drop (i + 1) names) named)
 
-    pub file_streamed : (one : Verdict) → StreamsFile P (file_label (get_or files i d).now) what (get_or files i d).now (contents (get_or files i d).now) t u (Ok one)
-        → AreStreamed contents P what (take (i + 1) (bytes_of files)) s u (either verdict one)
+    pub file_streamed : (one : Verdict) → StreamsFile headed P (file_label (get_or files i d).now) what (get_or files i d).now (contents (get_or files i d).now) t u (Ok one)
+        → AreStreamed contents headed P what (take (i + 1) (bytes_of files)) s u (either verdict one)
     file_streamed one streams =
-        subst (λ (k : List (List ℕ)). AreStreamed contents P what k s u (either verdict one))
+        subst (λ (k : List (List ℕ)). AreStreamed contents headed P what k s u (either verdict one))
         (sym (next_taken (bytes_of files) i name_of (within_bytes files i within) named))
         (more_streamed (take i (bytes_of files)) name_of s t u verdict one before streams)
 
     pub file_failed : (e : CommandError) → s.failed ≡ false
-        → StreamsFile P (file_label (get_or files i d).now) what (get_or files i d).now (contents (get_or files i d).now) t u (Err e)
-        → StreamsEach contents P what (bytes_of files) s u (Err e)
+        → StreamsFile headed P (file_label (get_or files i d).now) what (get_or files i d).now (contents (get_or files i d).now) t u (Err e)
+        → StreamsEach contents headed P what (bytes_of files) s u (Err e)
     file_failed e fine streams =
-        subst (λ (k : List (List ℕ)). StreamsEach contents P what k s u (Err e)) (sym split)
+        subst (λ (k : List (List ℕ)). StreamsEach contents headed P what k s u (Err e)) (sym split)
         (one_failed (take i (bytes_of files)) (drop (i + 1) (bytes_of files)) name_of s t u verdict e fine before streams)
 
-  pub enough_streamed : (files : List (List ℕ)) (i : ℕ) (s t : State) (verdict : Verdict) → s.failed ≡ false → AreStreamed contents P what (take i files) s t verdict
-      → (what ≡ written.Nothing) × (verdict ≡ Yes) → StreamsEach contents P what files s t (Ok verdict)
+  pub enough_streamed : (files : List (List ℕ)) (i : ℕ) (s t : State) (verdict : Verdict) → s.failed ≡ false → AreStreamed contents headed P what (take i files) s t verdict
+      → (what ≡ written.Nothing) × (verdict ≡ Yes) → StreamsEach contents headed P what files s t (Ok verdict)
   enough_streamed files i s t verdict fine are enough =
-      subst (λ (k : List (List ℕ)). StreamsEach contents P what k s t (Ok verdict)) (take-append-drop i files)
+      subst (λ (k : List (List ℕ)). StreamsEach contents headed P what k s t (Ok verdict)) (take-append-drop i files)
       (all_streamed (take i files) (drop i files) s t verdict fine are (inr enough))
 
   pub files_streamed : (files : List (Bor (List ℕ))) (i : ℕ) (s t : State) (verdict : Verdict) → length files ≤ i → s.failed ≡ false
-      → AreStreamed contents P what (take i (bytes_of files)) s t verdict → StreamsEach contents P what (bytes_of files) s t (Ok verdict)
+      → AreStreamed contents headed P what (take i (bytes_of files)) s t verdict → StreamsEach contents headed P what (bytes_of files) s t (Ok verdict)
   files_streamed files i s t verdict past fine are =
-      subst (λ (k : List (List ℕ)). StreamsEach contents P what k s t (Ok verdict)) (append-nil (bytes_of files))
+      subst (λ (k : List (List ℕ)). StreamsEach contents headed P what k s t (Ok verdict)) (append-nil (bytes_of files))
       (all_streamed (bytes_of files) [] s t verdict fine
-      (subst (λ (k : List (List ℕ)). AreStreamed contents P what k s t verdict) (take_all i (bytes_of files) (omega (arith, same_length files))) are)
+      (subst (λ (k : List (List ℕ)). AreStreamed contents headed P what k s t verdict) (take_all i (bytes_of files) (omega (arith, same_length files))) are)
       (inl refl))
 
 -- ---- by the bytes of the files
-matched_same : (P Q : List ℕ → Result Bool LineError → Type 0) → ((line : List ℕ) (r : Result Bool LineError) → P line r → Q line r) → (contents : List ℕ → Option Text)
-    (what : Written) (files : List (List ℕ)) (answer : List ℕ) (verdict : Verdict) → AreMatched contents P what files answer verdict → AreMatched contents Q what files answer verdict
-matched_same P Q f contents what [] answer verdict h = h
-matched_same P Q f contents what (file ∷ files) answer verdict (first, rest, one, other, match, others, is, by) = (
+matched_same : (headed : Bool) (P Q : List ℕ → Result Bool LineError → Type 0) → ((line : List ℕ) (r : Result Bool LineError) → P line r → Q line r) → (contents : List ℕ → Option Text)
+    (what : Written) (files : List (List ℕ)) (answer : List ℕ) (verdict : Verdict) → AreMatched contents headed P what files answer verdict → AreMatched contents headed Q what files answer verdict
+matched_same headed P Q f contents what [] answer verdict h = h
+matched_same headed P Q f contents what (file ∷ files) answer verdict (first, rest, one, other, match, others, is, by) = (
   first,
   rest,
   one,
   other,
-  λ text told. match_same P Q f (file_label file) what text.bytes first None one (match text told),
-  matched_same P Q f contents what files rest other others,
+  λ text told. match_same headed P Q f (file_label file) what text.bytes first None one (match text told),
+  matched_same headed P Q f contents what files rest other others,
   is,
   by,
 )
 
-each_same : (P Q : List ℕ → Result Bool LineError → Type 0) → ((line : List ℕ) (r : Result Bool LineError) → P line r → Q line r) → (contents : List ℕ → Option Text)
-    (what : Written) (files : List (List ℕ)) (answer : List ℕ) (verdict : Verdict) → IsMatchOfEach contents P what files answer verdict → IsMatchOfEach contents Q what files answer verdict
-each_same P Q f contents what files answer verdict (read, left, split, are, enough) = (read, left, split, matched_same P Q f contents what read answer verdict are, enough)
+each_same : (headed : Bool) (P Q : List ℕ → Result Bool LineError → Type 0) → ((line : List ℕ) (r : Result Bool LineError) → P line r → Q line r) → (contents : List ℕ → Option Text)
+    (what : Written) (files : List (List ℕ)) (answer : List ℕ) (verdict : Verdict) → IsMatchOfEach contents headed P what files answer verdict → IsMatchOfEach contents headed Q what files answer verdict
+each_same headed P Q f contents what files answer verdict (read, left, split, are, enough) = (read, left, split, matched_same headed P Q f contents what read answer verdict are, enough)
 
-ended_same : (P Q : List ℕ → Result Bool LineError → Type 0) → ((line : List ℕ) (r : Result Bool LineError) → P line r → Q line r) → (contents : List ℕ → Option Text)
-    (what : Written) (before : List (List ℕ)) (file answer : List ℕ) (e : CommandError) → IsEndedIn contents P what before file answer e → IsEndedIn contents Q what before file answer e
-ended_same P Q f contents what before file answer e (first, rest, verdict, are, is, ends) = (
+ended_same : (headed : Bool) (P Q : List ℕ → Result Bool LineError → Type 0) → ((line : List ℕ) (r : Result Bool LineError) → P line r → Q line r) → (contents : List ℕ → Option Text)
+    (what : Written) (before : List (List ℕ)) (file answer : List ℕ) (e : CommandError) → IsEndedIn contents headed P what before file answer e → IsEndedIn contents headed Q what before file answer e
+ended_same headed P Q f contents what before file answer e (first, rest, verdict, are, is, ends) = (
   first,
   rest,
   verdict,
-  matched_same P Q f contents what before first verdict are,
+  matched_same headed P Q f contents what before first verdict are,
   is,
   λ text told. elim (ends text told) [
-    | inl cut ↦ inl (cut_same P Q f (file_label file) what text.bytes rest e cut)
-    | inr (v, match, lost) ↦ inr (v, match_same P Q f (file_label file) what text.bytes rest None v match, lost)
+    | inl cut ↦ inl (cut_same headed P Q f (file_label file) what text.bytes rest e cut)
+    | inr (v, match, lost) ↦ inr (v, match_same headed P Q f (file_label file) what text.bytes rest None v match, lost)
   ],
 )
 
 pub matched_each : (contents : List ℕ → Option Text) (choice : Choice) (column : Column) (options : List (List ℕ)) (list : List ℕ) (files : List (List ℕ)) (sets : Sets) (s t : State) (r : Result Verdict CommandError)
     → IsChosen choice column → ((text : Text) → contents list ≡ Some text → HaveListAddresses text sets)
-    → StreamsEach contents (Picks (has (codes "--any") options) column (IsInSets sets) (has (codes "-v") options)) (written_of options) files s t r
+    → StreamsEach contents (has (codes "--header") options) (Picks (has (codes "--any") options) column (IsInSets sets) (has (codes "-v") options)) (written_of options) files s t r
     → AnswersRequest contents (MatchEach choice options list files) s t r
 matched_each contents choice column options list files sets s t r chosen reads (inl (answer, verdict, w, match, written, is)) =
     inl (inr (
@@ -286,7 +286,7 @@ matched_each contents choice column options list files sets s t r chosen reads (
         column,
         chosen,
         λ networks told.
-            of_list networks _ _ (λ IsIn same. each_same _ _ (picks_same IsIn sets same (has (codes "--any") options) column (has (codes "-v") options)) contents (written_of options) files answer verdict match)
+            of_list networks _ _ (λ IsIn same. each_same (has (codes "--header") options) _ _ (picks_same IsIn sets same (has (codes "--any") options) column (has (codes "-v") options)) contents (written_of options) files answer verdict match)
             (reads networks told),
       ),
       written,
@@ -307,7 +307,7 @@ matched_each contents choice column options list files sets s t r chosen reads (
       column,
       chosen,
       λ networks told.
-          of_list networks _ _ (λ IsIn same. ended_same _ _ (picks_same IsIn sets same (has (codes "--any") options) column (has (codes "-v") options)) contents (written_of options) before file answer e cut)
+          of_list networks _ _ (λ IsIn same. ended_same (has (codes "--header") options) _ _ (picks_same IsIn sets same (has (codes "--any") options) column (has (codes "-v") options)) contents (written_of options) before file answer e cut)
           (reads networks told),
     ),
   ),

@@ -1,11 +1,10 @@
 -- Words of a command line in their parts.
-use Rattle.std.proofs.Common.{◌≡◌, refl, sym, ◌∙◌, ap, ℕ, ◌+◌, ◌<◌, ◌≤◌, cond, ◌&&◌, Bool, true, false, List, [], ◌∷◌, ◌++◌, length, take, drop, get_or, map, Bor, codes, nat_eq, arith, Option, Some, None, Result, Ok, Err, subst, MatchResult, ◌≢◌, ne_eqb}
+use Rattle.std.proofs.Common.{◌≡◌, refl, sym, ◌∙◌, ap, ℕ, ◌+◌, ◌<◌, ◌≤◌, cond, ◌&&◌, Bool, true, false, List, [], ◌∷◌, ◌++◌, length, take, drop, get_or, map, Bor, codes, nat_eq, arith, Result, Ok, Err, subst, MatchResult, ◌≢◌, ne_eqb}
 use Rattle.std.proofs.lemmas.List.Sums.{position_or_len_is}
-use Rattle.std.specs.List.{after_first, before_first, find, list_all, position_or_len, starts_with}
-use Rattle.std.specs.Option.{option_or}
+use Rattle.std.specs.List.{after_first, before_first, list_all, position_or_len, starts_with}
 use Rattle.std.proofs.lemmas.Bool.{true≢false}
-use Rattle.std.proofs.lemmas.List.{append-nil, append_assoc, drop_all, drop_more, get_or-map, length-map, map-append, take_all, take_more, take-append-drop}
-use Rattle.std.proofs.lemmas.List.Folds.{find-append, list_all_at}
+use Rattle.std.proofs.lemmas.List.{append-nil, append_assoc, drop_all, drop_more, get_or-map, length-map, map-append, take_all, take_more}
+use Rattle.std.proofs.lemmas.List.Folds.{list_all_at}
 use Rattle.netset_commands.specs.Arguments.{Parts, and_then, is_equals, is_option, is_topic, joined_arguments, letter_options, letter_parts, long_parts, misuse_text, named_value, no_option, no_parts, only_operand, only_options, only_value, parts_from, short_option, short_parts, takes, topic_parts, word_parts}
 use Rattle.netset_commands.specs.Command.{AddsParts, IsUsageError}
 use Rattle.netset_commands.specs.Matching.{is_word}
@@ -249,19 +248,3 @@ module _ (verb : Verb) (words : List (Bor (List ℕ))) (i : ℕ) (front : Parts)
 
   pub operand_left : next ≡ Operand → parts_from verb (texts words) Any ≡ Ok front
   operand_left is = at_end ∙ (ap (λ (k : Next). behind front (parts_from verb [] k)) is ∙ ap (λ (k : Parts). Ok k) (none_behind front))
-
--- ---- the verb of a name
-module _ {X : Type 0} (p : X → Bool) (xs : List X) (i : ℕ) (d : X) (within : i < length xs) (before : find p (take i xs) ≡ None) where
-  pub none_found_yet : p (get_or xs i d) ≡ false → find p (take (i + 1) xs) ≡ None
-  none_found_yet here =
-      ap (find p) (take_more xs i d within) ∙ (find-append p (take i xs) (get_or xs i d ∷ [])
-      ∙ (ap (λ (k : Option X). option_or k (find p (get_or xs i d ∷ []))) before ∙ if_false (p (get_or xs i d)) (Some (get_or xs i d)) None here))
-
-  pub found_here : p (get_or xs i d) ≡ true → Some (get_or xs i d) ≡ find p xs
-  found_here here =
-      sym (ap (find p) (sym (take-append-drop i xs)) ∙ (find-append p (take i xs) (drop i xs)
-      ∙ (ap (λ (k : Option X). option_or k (find p (drop i xs))) before
-      ∙ (ap (find p) (drop_more xs i d within) ∙ if_true (p (get_or xs i d)) (Some (get_or xs i d)) (find p (drop (i + 1) xs)) here))))
-
-pub none_found : {X : Type 0} (p : X → Bool) (xs : List X) (i : ℕ) → length xs ≤ i → find p (take i xs) ≡ None → None ≡ find p xs
-none_found p xs i past before = sym (ap (find p) (sym (take_all i xs past)) ∙ before)

@@ -17,7 +17,7 @@ use Rattle.cidr_sets.specs.model.Sets.{IsSetOf}
 use Rattle.netset_commands.specs.Answering.{AreRead, HasAddresses, ReadsListed, ReadsOperand, SplitsList, SplitsNetwork, TellsFree}
 use Rattle.netset_commands.specs.Combining.{IsMade}
 use Rattle.cidr_lists.specs.Texts.{SaysAddress}
-use Rattle.netset_commands.specs.Commands.{Free, IsFreeOfUsed, Split}
+use Rattle.netset_commands.specs.Commands.{AreTold, Free, IsFree, OfLists, Split}
 use Rattle.netset_commands.specs.Free.{Extent, Count, IsBadCount, IsBadFree, IsBadLength, IsMost, inside_of}
 use Rattle.netset_commands.specs.Operands.{IsNoNetworkText, OfOperand}
 use Rattle.netset_commands.specs.Program.{AnswersRequest, IsBadArgument}
@@ -52,7 +52,8 @@ free_written contents style extent pool len used n most first others rest s t r 
         number.1,
         most,
         count,
-        operand_weaker contents pool (λ said. HasAddresses said first) (IsFreeOfUsed contents style n most used answer verdict)
+        operand_weaker contents pool (λ said. HasAddresses said first)
+            (λ said. (texts : List Text) → AreTold contents used texts → OfLists texts (λ all. IsFree style n most (said ∷ all) answer verdict))
             (λ said has texts told_so.
             let (all, says, hass) = are texts told_so in (
               all,

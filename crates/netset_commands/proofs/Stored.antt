@@ -20,7 +20,9 @@ use Rattle.netset_commands.specs.Reading.{IsNextLine, IsStopped}
 use Rattle.netset_commands.specs.declared.errors.ReadError.{ReadError}
 use Rattle.netset_commands.specs.declared.errors.ReadError.TheVariants.{Line, Input, NoMemory}
 use Rattle.netset_commands.specs.declared.input.keeping.Said.TheVariants.{Rows as AsRows}
+use Rattle.cidr_lists.specs.declared.formats.LineFormat.{LineFormat}
 use Rattle.cidr_lists.specs.declared.forms.RowForm.{RowForm}
+use Rattle.cidr_lists.specs.declared.forms.RowLayout.{RowLayout}
 use Rattle.cidr_lists.specs.declared.lines.HostBits.{HostBits}
 use Rattle.cidr_lists.specs.declared.rows.Rows.{Rows}
 use Rattle.cidr_lists.specs.declared.rows.Span.{Span}
@@ -183,6 +185,10 @@ pub rows_read : (form : RowForm) (contents : Option Text) (left : Option (List �
     → ((text : Text) → contents ≡ Some text → left ≡ Some text.bytes) → ((text : Text) → contents ≡ Some text → text.host_bits ≡ bits)
     → IfSome left (λ bytes. ReadsRows form (text_by bits bytes) (Ok rows)) → ReadsFileRows form contents name (Ok rows)
 rows_read form contents left bits name rows opens by reads text is = told_rows form bits left text (Ok rows) (opens text is) (by text is) reads
+
+-- two ways of reading rows are the same
+pub same_form : (one other : RowForm) → one.layout ≡ other.layout → one.values ≡ other.values → one ≡ other
+same_form one other same told = ap₂ (λ (l : RowLayout) (f : LineFormat). record { layout = l; values = f }) same told
 
 -- the rows of a file, as they were kept
 same_rows : (rows others : Rows) → AreCopies rows others → (family : Family) → stored others family ≡ stored rows family

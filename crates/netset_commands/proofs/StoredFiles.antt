@@ -1,16 +1,23 @@
 -- The rows of files of look-ups.
-use Rattle.std.proofs.Common.{◌≡◌, refl, sym, ◌∙◌, ap, ap₂, subst, inl, inr, arith, ℕ, zero, suc, ◌+◌, ◌<◌, ◌≤◌, Bool, List, [], ◌∷◌, length, get_or, take, slice_get, Some, None}
+use Rattle.std.proofs.Common.{◌≡◌, refl, sym, ◌∙◌, ap, ap₂, subst, inl, inr, arith, ℕ, zero, suc, ◌+◌, ◌<◌, ◌≤◌, Bool, List, [], ◌∷◌, length, map, min, get_or, take, slice_get, Some, None}
 use Rattle.std.specs.List.{Contains}
-use Rattle.std.proofs.lemmas.List.{get_or_default, length-take}
+use Rattle.std.proofs.lemmas.Bool.{cases_lt}
+use Rattle.std.proofs.lemmas.List.{get_or_default, length-map, length-take}
+use Rattle.std.proofs.lemmas.List.Elements.{All-cons, All-nil}
 use Rattle.std.proofs.lemmas.Option.{get_or_from_slice_get, slice_get_within}
 use Rattle.std.proofs.lemmas.Slice.Zip.{get_or-zip, length-zip}
 use Rattle.cidr.specs.laws.BitLaws.{length-bits}
 use Rattle.cidr.specs.model.Bits.{bits}
 use Rattle.cidr.specs.model.Network.{BeginsWith}
+use Rattle.cidr.specs.declared.family.Family.{Family}
+use Rattle.cidr.specs.declared.family.Family.TheVariants.{Ipv4, Ipv6}
 use Rattle.cidr_arrays.specs.Arrays.{prefix_bits}
 use Rattle.cidr_files.specs.Layout.{wide_words, words}
 use Rattle.cidr_files.specs.Tables.{IsFile, IsStoredTable, IsTableCutFrom, part_at, parts_in, stored_networks, value_in}
 use Rattle.cidr_files.specs.declared.layout.Table.{Table}
+use Rattle.cidr_lists.specs.Forms.{AreFit, Fits, IsUnfit, IsUnfitAt}
+use Rattle.cidr_lists.specs.declared.errors.LineError.{LineError}
+use Rattle.cidr_lists.specs.declared.formats.LineFormat.{LineFormat}
 use Rattle.cidr_table.proofs.MapLaws.{contains_cases, contains_first, contains_later, contains_nothing}
 use Rattle.cidr_table.specs.model.Prefixes.{IsLongestAt, IsLongestMatch, IsLookedUp}
 use Rattle.netset_commands.specs.Compiled.{HasTable, HasTheRows}
@@ -30,6 +37,33 @@ module _ (w : ℕ) (value : ℕ → List ℕ) where
       row_at networks (suc place) i (omega (arith, l))
       ∙ ap (λ (k : ℕ). (prefix_bits w (get_or networks i (0, 0)), value k)) (omega arith)
 
+  -- ---- their values
+  pub values_fit : (format : LineFormat) (networks : List (ℕ × ℕ)) (place : ℕ) → ((i : ℕ) → i < length networks → Fits format (value (place + i)))
+      → AreFit format (rows_from w value networks place)
+  values_fit format [] place fits = All-nil (λ (row : List Bool × List ℕ). Fits format row.1)
+  values_fit format (network ∷ networks) place fits =
+      All-cons (λ (row : List Bool × List ℕ). Fits format row.1) (prefix_bits w network, value place) (rows_from w value networks (suc place))
+      (subst (λ (k : ℕ). Fits format (value k)) (omega arith) (fits 0 (omega arith)))
+      (values_fit format networks (suc place) (λ i l. subst (λ (k : ℕ). Fits format (value k)) (omega arith) (fits (suc i) (omega (arith, l)))))
+
+  pub fit_more : (format : LineFormat) (row : ℕ) → ((i : ℕ) → i < row → Fits format (value i)) → Fits format (value row) → (i : ℕ) → i < row + 1
+      → Fits format (value i)
+  fit_more format row fits last i l = elim (cases_lt i row) [
+    | inl low ↦ fits i low
+    | inr high ↦ (let is : row ≡ i = omega (arith, high, l) in subst (λ (k : ℕ). Fits format (value k)) is last)
+  ]
+
+  pub unfit_at : (format : LineFormat) (networks : List (ℕ × ℕ)) (i number : ℕ) (text : List ℕ) (e : LineError) → i < length networks → number ≡ i + 1
+      → text ≡ value i → IsUnfit format text e → IsUnfitAt format (rows_from w value networks 0) number e
+  unfit_at format networks i number text e l is same unfit = (
+    i,
+    is,
+    omega (arith, l, length-rows_from networks 0),
+    subst (λ (k : List ℕ). IsUnfit format k e)
+        (same ∙ (ap value (omega arith) ∙ sym (ap (λ (row : List Bool × List ℕ). row.1) (row_at networks 0 i l)))) unfit,
+  )
+
+  -- ---- their networks
   -- a row of these is one of a network
   pub network_of_row : (networks : List (ℕ × ℕ)) (place : ℕ) (row : List Bool × List ℕ) → Contains (rows_from w value networks place) row
       → (network : ℕ × ℕ) × Contains networks network × (row.0 ≡ prefix_bits w network)
@@ -120,6 +154,12 @@ table_had bytes table file cut = record {
   ipv4 = subst (λ (parts : List (List ℕ)). HasTheRows 32 words parts (stored_rows 32 words (parts_in table.ipv4))) cut.ipv4 (rows_had 32 words (parts_in table.ipv4));
   ipv6 = subst (λ (parts : List (List ℕ)). HasTheRows 128 wide_words parts (stored_rows 128 wide_words (parts_in table.ipv6))) cut.ipv6 (rows_had 128 wide_words (parts_in table.ipv6));
 }
+
+-- as many rows as there are addresses with a length
+pub rows_counted : {W : Type 0} (value : W → ℕ) (numbers : List ℕ → List ℕ) (parts : List (List ℕ)) (addresses : List W) (rows : ℕ)
+    → map value addresses ≡ numbers (part_at parts 3) → rows ≡ min (length addresses) (length (part_at parts 4)) → length (stored_networks numbers parts) ≡ rows
+rows_counted value numbers parts addresses rows are is =
+    omega (arith, is, length-zip (numbers (part_at parts 3)) (part_at parts 4), ap length are, length-map addresses value)
 
 pub tables_cut : (bytes : List ℕ) (table : Table) → IsFile bytes → IsTableCutFrom bytes table → AreTables table
 tables_cut bytes table file cut = record {

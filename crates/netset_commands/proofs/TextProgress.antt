@@ -81,7 +81,7 @@ module _ {S : Type 0} (Says : List ℕ → S → Type 0) where
   )
 
   pub cut_behind : (IsBad : List ℕ → LineError → Type 0) (text : List ℕ) (said : List S) (e : CommandError)
-      → ((read left : List (List ℕ)) → IsStop IsBad read left e) → AreFirstSaid Says text said
+      → ((read left : List (List ℕ)) → IsStop (λ before. IsBad) read left e) → AreFirstSaid Says text said
       → IsCut (AllZip Says) IsBad (lines_of text) said e
   cut_behind IsBad text said e stops h = (h.before, h.after, record { lines = h.lines; are = h.fine }, stops h.before h.after)
 

@@ -3,20 +3,22 @@ use Rattle.std.proofs.Common.{◌≡◌, refl, sym, ◌∙◌, ap, subst, inl, i
 use Rattle.std.specs.List.{list_all, list_any}
 use Rattle.std.proofs.lemmas.Bool.{true≢false}
 use Rattle.cidr.specs.declared.family.Family.TheVariants.{Ipv4, Ipv6}
-use Rattle.cidr_lists.specs.Formats.{IsBare, Style, format_name}
+use Rattle.cidr_lists.specs.Formats.{IsBare, Style, format_name, line_style}
 use Rattle.cidr_lists.specs.Rules.{Question, Permitted, Shadowed, Compared}
 use Rattle.cidr_lists.specs.declared.columns.Separator.TheVariants.{WhiteSpace, Byte}
 use Rattle.cidr_lists.specs.declared.formats.LineFormat.TheVariants as by_line
+use Rattle.cidr_lists.specs.declared.formats.LineFormat.{LineFormat}
 use Rattle.cidr_lists.specs.declared.forms.RowForm.{RowForm}
-use Rattle.cidr_lists.specs.declared.forms.RowForm.TheVariants.{Fields, Pfx2as, Routes}
-use Rattle.netset_commands.specs.Arguments.{Parts, and_then, question_by, asks_help, choice_by, choice_in, counted_request, extent_by, extra_operand, form_in, is_option, joined_arguments, line_request, lists_request, look_by, match_by, named_verb, only_operand, only_options, only_value, part_request, parts_from, read_request, style_in_values, takes, target_by, tells_two_ways, value_behind, value_of, verb_request, word_parts}
-use Rattle.netset_commands.specs.Commands.{Request, Lists, Styled, NotIn, Diff, Free, Acl, Split, Check, Which, Match, MatchEach, Look, Compile, Describe, Class, Single, Help, Version, input_name, reading_of}
+use Rattle.cidr_lists.specs.declared.forms.RowLayout.{RowLayout}
+use Rattle.cidr_lists.specs.declared.forms.RowLayout.TheVariants.{Fields, Pfx2as, Routes}
+use Rattle.netset_commands.specs.Arguments.{Parts, and_then, question_by, asks_help, choice_by, choice_in, counted_request, extent_by, extra_operand, form_in, is_option, joined_arguments, line_request, lists_request, look_by, match_by, may_keep, named_verb, only_operand, only_options, only_value, operand_or, part_request, parts_from, read_request, style_in_values, takes, target_by, tells_two_ways, value_behind, value_of, verb_request, word_parts}
+use Rattle.netset_commands.specs.Commands.{Request, Lists, Styled, NotIn, Diff, Same, Free, Acl, Split, Check, Which, Match, MatchEach, Look, Compile, Smallest, Describe, Class, Single, Help, Version, input_name, reading_of}
 use Rattle.netset_commands.specs.Free.{Extent, First, Count, All}
 use Rattle.netset_commands.specs.Matching.{has, is_word}
 use Rattle.netset_commands.specs.Picking.{Choice, FirstField, FieldOf}
 use Rattle.netset_commands.specs.Single.{Show, Nth}
-use Rattle.netset_commands.specs.Table.{commands, name_of, options_of, takes_value}
-use Rattle.netset_commands.specs.Typed.{AreTyped, GoesWith, IsTyped, choice_words, form_words, style_words}
+use Rattle.netset_commands.specs.Table.{commands, name_of, row_of, takes_value}
+use Rattle.netset_commands.specs.Typed.{AreTyped, GoesWith, IsTyped, choice_words, layout_words, style_words}
 use Rattle.netset_commands.specs.declared.commands.arguments.Next.{Next}
 use Rattle.netset_commands.specs.declared.commands.arguments.Next.TheVariants.{Any, Value}
 use Rattle.netset_commands.specs.declared.commands.describe.Description.TheVariants.{Zones, Masks}
@@ -83,6 +85,10 @@ behind_style : (command : Verb) (style : Option Style) (operands : List (List �
 behind_style command None operands is none = operands_alone command operands none
 behind_style command (Some style) operands is none = behind_value command (codes "--format") (format_name style.format) operands is none
 
+behind_format : (format : LineFormat) (operands : List (List ℕ)) → list_any is_option operands ≡ false
+    → parts_from verb.Look (style_words (line_style format) ++ operands) Any ≡ Ok (parts_with [] (style_words (line_style format)) operands)
+behind_format format operands none = behind_style verb.Look (line_style format) operands refl none
+
 -- the options that tell a field before them, of a command that has them
 abbrev HasFields : Verb → Type 0
 HasFields command = (word_parts command Any (codes "--field") ≡ Ok (only_value (codes "--field"), Value))
@@ -109,13 +115,20 @@ abbrev HasForms : Verb → Type 0
 HasForms command = (word_parts command Any (codes "--form") ≡ Ok (only_value (codes "--form"), Value))
     × (word_parts command Any (codes "--table-separator") ≡ Ok (only_value (codes "--table-separator"), Value))
 
-behind_form : (command : Verb) (form : RowForm) (operands : List (List ℕ)) → HasForms command → list_any is_option operands ≡ false
-    → parts_from command (form_words form ++ operands) Any ≡ Ok (parts_with [] (form_words form) operands)
-behind_form command (Fields WhiteSpace) operands has none = operands_alone command operands none
-behind_form command (Fields (Byte c)) operands has none = behind_value command (codes "--table-separator") (c ∷ []) operands has.1 none
-behind_form command Pfx2as operands has none = behind_value command (codes "--form") (codes "pfx2as") operands has.0 none
-behind_form command (Routes Ipv4) operands has none = behind_value command (codes "--form") (codes "routes") operands has.0 none
-behind_form command (Routes Ipv6) operands has none = behind_value command (codes "--form") (codes "routes6") operands has.0 none
+behind_layout : (command : Verb) (layout : RowLayout) (valued operands : List (List ℕ)) → HasForms command
+    → parts_from command (valued ++ operands) Any ≡ Ok (parts_with [] valued operands)
+    → parts_from command ((layout_words layout ++ valued) ++ operands) Any ≡ Ok (parts_with [] (layout_words layout ++ valued) operands)
+behind_layout command (Fields WhiteSpace) valued operands has is = is
+behind_layout command (Fields (Byte c)) valued operands has is = behind_values command (codes "--table-separator") (c ∷ []) valued operands has.1 is
+behind_layout command Pfx2as valued operands has is = behind_values command (codes "--form") (codes "pfx2as") valued operands has.0 is
+behind_layout command (Routes Ipv4) valued operands has is = behind_values command (codes "--form") (codes "routes") valued operands has.0 is
+behind_layout command (Routes Ipv6) valued operands has is = behind_values command (codes "--form") (codes "routes6") valued operands has.0 is
+
+only_layout : (command : Verb) (layout : RowLayout) (operands : List (List ℕ)) → HasForms command → list_any is_option operands ≡ false
+    → parts_from command (layout_words layout ++ operands) Any ≡ Ok (parts_with [] (layout_words layout) operands)
+only_layout command layout operands has none =
+    subst (λ (k : List (List ℕ)). parts_from command (k ++ operands) Any ≡ Ok (parts_with [] k operands)) (append-nil (layout_words layout))
+    (behind_layout command layout [] operands has (operands_alone command operands none))
 
 -- ---- options
 -- the word is an option of the command
@@ -136,7 +149,7 @@ among command [] word each is = absurd (true≢false (sym is))
 among command (name ∷ names) word (first, each) is =
     here_or_later command name word (is_word word name) (has word names) refl first (λ later. among command names word each later) is
 
-its_options : (command : Verb) → HasEach command (options_of command)
+its_options : (command : Verb) → HasEach command (row_of command).options
 its_options (verb.Lists Merge) = (refl, (refl, (refl, (refl, (refl, (refl, tt))))))
 its_options (verb.Lists Nets) = (refl, (refl, (refl, (refl, (refl, (refl, tt))))))
 its_options (verb.Lists Minus) = (refl, (refl, (refl, (refl, (refl, (refl, tt))))))
@@ -145,13 +158,15 @@ its_options (verb.Lists Not) = (refl, (refl, (refl, (refl, (refl, (refl, tt)))))
 its_options (verb.Lists Ranges) = (refl, (refl, (refl, (refl, (refl, (refl, tt))))))
 its_options (verb.Lists of_lists.Count) = (refl, (refl, (refl, (refl, (refl, (refl, tt))))))
 its_options verb.Diff = (refl, (refl, (refl, (refl, (refl, (refl, tt))))))
+its_options verb.Same = (refl, (refl, (refl, (refl, (refl, (refl, tt))))))
 its_options verb.Free = (refl, (refl, (refl, (refl, (refl, (refl, (refl, tt)))))))
 its_options verb.Acl = (refl, (refl, (refl, (refl, (refl, tt)))))
 its_options verb.Check = (refl, (refl, (refl, (refl, tt))))
 its_options verb.Which = (refl, (refl, (refl, (refl, tt))))
-its_options verb.Match = (refl, (refl, (refl, (refl, (refl, (refl, (refl, (refl, (refl, (refl, tt))))))))))
-its_options verb.Look = (refl, (refl, (refl, (refl, (refl, (refl, (refl, (refl, tt))))))))
+its_options verb.Match = (refl, (refl, (refl, (refl, (refl, (refl, (refl, (refl, (refl, (refl, (refl, tt)))))))))))
+its_options verb.Look = (refl, (refl, (refl, (refl, (refl, (refl, (refl, (refl, (refl, tt)))))))))
 its_options verb.Compile = (refl, (refl, (refl, (refl, (refl, tt)))))
+its_options verb.Smallest = (refl, (refl, (refl, (refl, (refl, (refl, (refl, tt)))))))
 its_options (verb.Describe what) = (refl, (refl, (refl, (refl, (refl, (refl, tt))))))
 its_options verb.Class = (refl, (refl, tt))
 its_options verb.Show = (refl, (refl, tt))
@@ -165,7 +180,7 @@ options_first : (command : Verb) (options words values operands : List (List ℕ
 options_first command [] words values operands all is = is
 options_first command (option ∷ options) words values operands all is =
     one_more command option (options ++ words) (only_options (option ∷ [])) (parts_with options values operands)
-    (among command (options_of command) option (its_options command) (and_first (takes command option) (list_all (takes command) options) all))
+    (among command (row_of command).options option (its_options command) (and_first (takes command option) (list_all (takes command) options) all))
     (options_first command options words values operands (and_second (takes command option) (list_all (takes command) options) all) is)
 
 -- ---- the command
@@ -179,6 +194,7 @@ named (verb.Lists Not) = refl
 named (verb.Lists Ranges) = refl
 named (verb.Lists of_lists.Count) = refl
 named verb.Diff = refl
+named verb.Same = refl
 named verb.Free = refl
 named verb.Acl = refl
 named verb.Check = refl
@@ -186,6 +202,7 @@ named verb.Which = refl
 named verb.Match = refl
 named verb.Look = refl
 named verb.Compile = refl
+named verb.Smallest = refl
 named (verb.Describe Zones) = refl
 named (verb.Describe Masks) = refl
 named verb.Class = refl
@@ -273,49 +290,94 @@ choice_asks command FirstField options operands goes = refl
 choice_asks command (FieldOf number None) options operands goes = ap (λ (b : Bool). choice_by command (Some number) b None) goes
 choice_asks command (FieldOf number (Some separator)) options operands goes = ap (λ (b : Bool). choice_by command (Some number) b (Some separator)) goes
 
--- how the rows of a table are read
-form_told : (command : Verb) (form : RowForm) → form_in command (form_words form) ≡ Ok form
-form_told command (Fields WhiteSpace) = refl
-form_told command (Fields (Byte c)) = refl
-form_told command Pfx2as = refl
-form_told command (Routes Ipv4) = refl
-form_told command (Routes Ipv6) = refl
+-- how the rows of a table are read: their layout, and the format of their values
+abbrev form_values : RowLayout → LineFormat → List (List ℕ)
+form_values layout format = layout_words layout ++ style_words (line_style format)
+
+form_told : (command : Verb) (layout : RowLayout) (format : LineFormat) → form_in command (form_values layout format) ≡ Ok (record { layout = layout; values = format })
+form_told command (Fields WhiteSpace) by_line.Plain = refl
+form_told command (Fields WhiteSpace) by_line.Json = refl
+form_told command (Fields (Byte c)) by_line.Plain = refl
+form_told command (Fields (Byte c)) by_line.Json = refl
+form_told command Pfx2as by_line.Plain = refl
+form_told command Pfx2as by_line.Json = refl
+form_told command (Routes Ipv4) by_line.Plain = refl
+form_told command (Routes Ipv4) by_line.Json = refl
+form_told command (Routes Ipv6) by_line.Plain = refl
+form_told command (Routes Ipv6) by_line.Json = refl
+
+layout_told : (command : Verb) (layout : RowLayout) → form_in command (layout_words layout) ≡ Ok (record { layout = layout; values = by_line.Plain })
+layout_told command (Fields WhiteSpace) = refl
+layout_told command (Fields (Byte c)) = refl
+layout_told command Pfx2as = refl
+layout_told command (Routes Ipv4) = refl
+layout_told command (Routes Ipv6) = refl
 
 -- no other value is told by it
-no_file_in : (command : Verb) (form : RowForm) → value_of command (codes "-o") (form_words form) ≡ Ok None
-no_file_in command (Fields WhiteSpace) = refl
-no_file_in command (Fields (Byte c)) = refl
-no_file_in command Pfx2as = refl
-no_file_in command (Routes Ipv4) = refl
-no_file_in command (Routes Ipv6) = refl
+no_file_in : (command : Verb) (layout : RowLayout) (format : LineFormat) → value_of command (codes "-o") (form_values layout format) ≡ Ok None
+no_file_in command (Fields WhiteSpace) by_line.Plain = refl
+no_file_in command (Fields WhiteSpace) by_line.Json = refl
+no_file_in command (Fields (Byte c)) by_line.Plain = refl
+no_file_in command (Fields (Byte c)) by_line.Json = refl
+no_file_in command Pfx2as by_line.Plain = refl
+no_file_in command Pfx2as by_line.Json = refl
+no_file_in command (Routes Ipv4) by_line.Plain = refl
+no_file_in command (Routes Ipv4) by_line.Json = refl
+no_file_in command (Routes Ipv6) by_line.Plain = refl
+no_file_in command (Routes Ipv6) by_line.Json = refl
 
-no_field_in : (command : Verb) (form : RowForm) (found : Option (List ℕ)) → value_behind command (codes "--field") found (form_words form) ≡ Ok found
-no_field_in command (Fields WhiteSpace) found = refl
-no_field_in command (Fields (Byte c)) found = refl
-no_field_in command Pfx2as found = refl
-no_field_in command (Routes Ipv4) found = refl
-no_field_in command (Routes Ipv6) found = refl
+no_file_of : (command : Verb) (layout : RowLayout) → value_of command (codes "-o") (layout_words layout) ≡ Ok None
+no_file_of command (Fields WhiteSpace) = refl
+no_file_of command (Fields (Byte c)) = refl
+no_file_of command Pfx2as = refl
+no_file_of command (Routes Ipv4) = refl
+no_file_of command (Routes Ipv6) = refl
 
-no_separator_in : (command : Verb) (form : RowForm) (found : Option (List ℕ)) → value_behind command (codes "--separator") found (form_words form) ≡ Ok found
-no_separator_in command (Fields WhiteSpace) found = refl
-no_separator_in command (Fields (Byte c)) found = refl
-no_separator_in command Pfx2as found = refl
-no_separator_in command (Routes Ipv4) found = refl
-no_separator_in command (Routes Ipv6) found = refl
+no_field_in : (command : Verb) (layout : RowLayout) (format : LineFormat) (found : Option (List ℕ))
+    → value_behind command (codes "--field") found (form_values layout format) ≡ Ok found
+no_field_in command (Fields WhiteSpace) by_line.Plain found = refl
+no_field_in command (Fields WhiteSpace) by_line.Json found = refl
+no_field_in command (Fields (Byte c)) by_line.Plain found = refl
+no_field_in command (Fields (Byte c)) by_line.Json found = refl
+no_field_in command Pfx2as by_line.Plain found = refl
+no_field_in command Pfx2as by_line.Json found = refl
+no_field_in command (Routes Ipv4) by_line.Plain found = refl
+no_field_in command (Routes Ipv4) by_line.Json found = refl
+no_field_in command (Routes Ipv6) by_line.Plain found = refl
+no_field_in command (Routes Ipv6) by_line.Json found = refl
+
+no_separator_in : (command : Verb) (layout : RowLayout) (format : LineFormat) (found : Option (List ℕ))
+    → value_behind command (codes "--separator") found (form_values layout format) ≡ Ok found
+no_separator_in command (Fields WhiteSpace) by_line.Plain found = refl
+no_separator_in command (Fields WhiteSpace) by_line.Json found = refl
+no_separator_in command (Fields (Byte c)) by_line.Plain found = refl
+no_separator_in command (Fields (Byte c)) by_line.Json found = refl
+no_separator_in command Pfx2as by_line.Plain found = refl
+no_separator_in command Pfx2as by_line.Json found = refl
+no_separator_in command (Routes Ipv4) by_line.Plain found = refl
+no_separator_in command (Routes Ipv4) by_line.Json found = refl
+no_separator_in command (Routes Ipv6) by_line.Plain found = refl
+no_separator_in command (Routes Ipv6) by_line.Json found = refl
 
 -- both, of `look`
 abbrev look_values : Choice → RowForm → List (List ℕ)
-look_values choice form = choice_words choice ++ form_words form
+look_values choice form = choice_words choice ++ form_values form.layout form.values
 
 look_form : (choice : Choice) (form : RowForm) → form_in verb.Look (look_values choice form) ≡ Ok form
-look_form FirstField form = form_told verb.Look form
-look_form (FieldOf number None) form = form_told verb.Look form
-look_form (FieldOf number (Some separator)) form = form_told verb.Look form
+look_form FirstField form = form_told verb.Look form.layout form.values
+look_form (FieldOf number None) form = form_told verb.Look form.layout form.values
+look_form (FieldOf number (Some separator)) form = form_told verb.Look form.layout form.values
 
 look_file : (choice : Choice) (form : RowForm) → value_of verb.Look (codes "-o") (look_values choice form) ≡ Ok None
-look_file FirstField form = no_file_in verb.Look form
-look_file (FieldOf number None) form = no_file_in verb.Look form
-look_file (FieldOf number (Some separator)) form = no_file_in verb.Look form
+look_file FirstField form = no_file_in verb.Look form.layout form.values
+look_file (FieldOf number None) form = no_file_in verb.Look form.layout form.values
+look_file (FieldOf number (Some separator)) form = no_file_in verb.Look form.layout form.values
+
+-- its lines are kept in text alone
+keeps_told : (format : LineFormat) (keeps : Bool) → (format ≡ by_line.Json → keeps ≡ false) → may_keep format keeps ≡ Ok tt
+keeps_told by_line.Plain keeps goes = refl
+keeps_told by_line.Json false goes = refl
+keeps_told by_line.Json true goes = absurd (true≢false (goes refl))
 
 choice_found : (choice : Choice) (options values operands : List (List ℕ)) (number separator : Option (List ℕ)) → value_of verb.Look (codes "--field") values ≡ Ok number
     → value_of verb.Look (codes "--separator") values ≡ Ok separator → choice_by verb.Look number (has (codes "--any") options) separator ≡ Ok choice
@@ -328,13 +390,13 @@ choice_found choice options values operands number separator first second is =
 look_choice : (choice : Choice) (form : RowForm) (options operands : List (List ℕ)) → GoesWith choice options
     → choice_in verb.Look (parts_with options (look_values choice form) operands) ≡ Ok choice
 look_choice FirstField form options operands goes =
-    choice_found FirstField options (look_values FirstField form) operands None None (no_field_in verb.Look form None) (no_separator_in verb.Look form None) refl
+    choice_found FirstField options (look_values FirstField form) operands None None (no_field_in verb.Look form.layout form.values None) (no_separator_in verb.Look form.layout form.values None) refl
 look_choice (FieldOf number None) form options operands goes =
-    choice_found (FieldOf number None) options (look_values (FieldOf number None) form) operands (Some number) None (no_field_in verb.Look form (Some number))
-    (no_separator_in verb.Look form None) (ap (λ (b : Bool). choice_by verb.Look (Some number) b None) goes)
+    choice_found (FieldOf number None) options (look_values (FieldOf number None) form) operands (Some number) None (no_field_in verb.Look form.layout form.values (Some number))
+    (no_separator_in verb.Look form.layout form.values None) (ap (λ (b : Bool). choice_by verb.Look (Some number) b None) goes)
 look_choice (FieldOf number (Some separator)) form options operands goes =
     choice_found (FieldOf number (Some separator)) options (look_values (FieldOf number (Some separator)) form) operands (Some number) (Some separator)
-    (no_field_in verb.Look form (Some number)) (no_separator_in verb.Look form (Some separator))
+    (no_field_in verb.Look form.layout form.values (Some number)) (no_separator_in verb.Look form.layout form.values (Some separator))
     (ap (λ (b : Bool). choice_by verb.Look (Some number) b (Some separator)) goes)
 
 -- no file, where -k and --skip-bad are not both given
@@ -393,16 +455,20 @@ module _ (words options : List (List ℕ)) where
       ∙ ap (λ (k : Request). Ok k) made)
 
   look_asks : (choice : Choice) (form : RowForm) (operands : List (List ℕ)) (request : Request) → GoesWith choice options
+      → (form.values ≡ by_line.Json → has (codes "--keep") options ≡ false)
       → AreTyped verb.Look options (look_values choice form) operands words → extra_operand verb.Look operands ≡ None
-      → look_by choice form (parts_with options (look_values choice form) operands) ≡ request → Asks request
-  look_asks choice form operands request goes (is, all, no_page, none, enough) fits made =
+      → Look choice form options (operand_or operands 0 []) (operand_or operands 1 input_name) ≡ request → Asks request
+  look_asks choice form operands request goes keeps (is, all, no_page, none, enough) fits made =
       let values = look_values choice form in
+      let parts = parts_with options values operands in
       line_asks verb.Look values values operands (is, all, no_page, none, enough)
-      (behind_choice verb.Look choice (form_words form) operands (refl, refl) (behind_form verb.Look form operands (refl, refl) none)) fits (look_file choice form) request
-      (ap (λ (r : Result Choice (List ℕ)). and_then r (λ one. and_then (form_in verb.Look values) (λ f. Ok (look_by one f (parts_with options values operands)))))
-      (look_choice choice form options operands goes)
-      ∙ (ap (λ (r : Result RowForm (List ℕ)). and_then r (λ f. Ok (look_by choice f (parts_with options values operands)))) (look_form choice form)
-      ∙ ap (λ (k : Request). Ok k) made))
+      (behind_choice verb.Look choice (form_values form.layout form.values) operands (refl, refl)
+      (behind_layout verb.Look form.layout (style_words (line_style form.values)) operands (refl, refl) (behind_format form.values operands none))) fits (look_file choice form) request
+      (ap (λ (r : Result Choice (List ℕ)). and_then r (λ one. and_then (form_in verb.Look values) (λ f. look_by one f parts))) (look_choice choice form options operands goes)
+      ∙ (ap (λ (r : Result RowForm (List ℕ)). and_then r (λ f. look_by choice f parts)) (look_form choice form)
+      ∙ (ap (λ (r : Result (Unit {0}) (List ℕ)). and_then r (λ _. Ok (Look choice form options (operand_or operands 0 []) (operand_or operands 1 input_name))))
+      (keeps_told form.values (has (codes "--keep") options) keeps)
+      ∙ ap (λ (k : Request). Ok k) made)))
 
   pub typed_asks : (request : Request) → IsTyped words options request → Asks request
   typed_asks (Lists operation files) typed = plain_asks (verb.Lists operation) files (Lists operation files) typed refl (without_value operation files)
@@ -472,15 +538,28 @@ module _ (words options : List (List ℕ)) where
   typed_asks (MatchEach choice given list (first ∷ second ∷ files)) (same, goes, typed) =
       match_asks choice (list ∷ first ∷ second ∷ files) (MatchEach choice given list (first ∷ second ∷ files)) goes typed
       (ap (λ (k : List (List ℕ)). MatchEach choice k list (first ∷ second ∷ files)) (sym same))
-  typed_asks (Look choice form given table file) (same, goes, inl typed) =
-      look_asks choice form (table ∷ file ∷ []) (Look choice form given table file) goes typed refl (ap (λ (k : List (List ℕ)). Look choice form k table file) (sym same))
-  typed_asks (Look choice form given table file) (same, goes, inr (input, typed)) =
-      look_asks choice form (table ∷ []) (Look choice form given table file) goes typed refl
+  typed_asks (Look choice form given table file) (same, goes, keeps, inl typed) =
+      look_asks choice form (table ∷ file ∷ []) (Look choice form given table file) goes keeps typed refl (ap (λ (k : List (List ℕ)). Look choice form k table file) (sym same))
+  typed_asks (Look choice form given table file) (same, goes, keeps, inr (input, typed)) =
+      look_asks choice form (table ∷ []) (Look choice form given table file) goes keeps typed refl
       (ap (λ (k : List (List ℕ)). Look choice form k table input_name) (sym same) ∙ ap (λ (k : List ℕ). Look choice form given table k) (sym input))
-  typed_asks (Compile form table name) (is, all, no_page, none, enough) =
-      line_asks verb.Compile (form_words form) (form_words form) (table ∷ name ∷ []) (is, all, no_page, none, enough)
-      (behind_form verb.Compile form (table ∷ name ∷ []) (refl, refl) none) refl (no_file_in verb.Compile form) (Compile form table name)
-      (ap (λ (r : Result RowForm (List ℕ)). and_then r (λ f. Ok (Compile f table name))) (form_told verb.Compile form))
+  typed_asks (Compile form table name) (plain, (is, all, no_page, none, enough)) =
+      line_asks verb.Compile (layout_words form.layout) (layout_words form.layout) (table ∷ name ∷ []) (is, all, no_page, none, enough)
+      (only_layout verb.Compile form.layout (table ∷ name ∷ []) (refl, refl) none) refl (no_file_of verb.Compile form.layout) (Compile form table name)
+      (ap (λ (r : Result RowForm (List ℕ)). and_then r (λ f. Ok (Compile f table name))) (layout_told verb.Compile form.layout)
+      ∙ ap (λ (format : LineFormat). Ok (Compile (record { layout = form.layout; values = format }) table name)) (sym plain))
+  typed_asks (Same form old new) (plain, (is, all, no_page, none, enough)) =
+      line_asks verb.Same (layout_words form.layout) (layout_words form.layout) (old ∷ new ∷ []) (is, all, no_page, none, enough)
+      (only_layout verb.Same form.layout (old ∷ new ∷ []) (refl, refl) none) refl (no_file_of verb.Same form.layout) (Same form old new)
+      (ap (λ (r : Result RowForm (List ℕ)). and_then r (λ f. Ok (Same f old new))) (layout_told verb.Same form.layout)
+      ∙ ap (λ (format : LineFormat). Ok (Same (record { layout = form.layout; values = format }) old new)) (sym plain))
+  typed_asks (Smallest holes form table) (given, plain, (is, all, no_page, none, enough)) =
+      let given_holes : Bool = has (codes "--holes") options in
+      line_asks verb.Smallest (layout_words form.layout) (layout_words form.layout) (table ∷ []) (is, all, no_page, none, enough)
+      (only_layout verb.Smallest form.layout (table ∷ []) (refl, refl) none) refl (no_file_of verb.Smallest form.layout) (Smallest holes form table)
+      (ap (λ (r : Result RowForm (List ℕ)). and_then r (λ f. Ok (Smallest given_holes f table))) (layout_told verb.Smallest form.layout)
+      ∙ (ap (λ (format : LineFormat). Ok (Smallest given_holes (record { layout = form.layout; values = format }) table)) (sym plain)
+      ∙ ap (λ (b : Bool). Ok (Smallest b form table)) given))
   typed_asks (Describe what operand) typed = plain_asks (verb.Describe what) (operand ∷ []) (Describe what operand) typed refl refl
   typed_asks (Class operand) typed = plain_asks verb.Class (operand ∷ []) (Class operand) typed refl refl
   typed_asks (Single (Show host)) typed = plain_asks verb.Show (host ∷ []) (Single (Show host)) typed refl refl

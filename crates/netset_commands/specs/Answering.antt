@@ -1,5 +1,5 @@
 -- What functions that read several lists promise.
-use Rattle.std.specs.Prelude.{◌≡◌, ◌⊎◌, ℕ, ◌≤◌, Bool, true, List, [], ◌∷◌, Option, Some, None, Result, Ok, Err}
+use Rattle.std.specs.Prelude.{◌≡◌, ◌≢◌, ◌⊎◌, ℕ, ◌≤◌, Bool, true, List, [], ◌∷◌, Option, Some, None, Result, Ok, Err}
 use Rattle.std.specs.List.{AllZip}
 use Rattle.cidr.specs.declared.cidr.combined.IpCidr.{IpCidr}
 use Rattle.cidr.specs.declared.family.Family.{Family}
@@ -21,7 +21,7 @@ use Rattle.netset_commands.specs.Single.{HasNone, IsNumber, split_text}
 use Rattle.netset_commands.specs.Operands.{IsUnlisted, IsUnreadOperand, OfList, OfOperand}
 use Rattle.netset_commands.specs.declared.commands.describe.Description.{Description}
 use Rattle.netset_commands.specs.declared.output.answers.Verdict.{Verdict}
-use Rattle.netset_commands.specs.declared.output.answers.Verdict.TheVariants.{Yes}
+use Rattle.netset_commands.specs.declared.output.answers.Verdict.TheVariants.{Yes, No}
 use Rattle.cidr_lists.specs.declared.changes.Sign.{Sign}
 use Rattle.netset_commands.specs.declared.errors.CommandError.{CommandError}
 use Rattle.netset_commands.specs.declared.errors.ArgumentError.TheVariants as bad
@@ -141,3 +141,8 @@ DescribesNetworks contents what operand old new r =
 -- the networks of two sets with their signs
 abbrev pub changed : Sets → Sets → Family → List (Sign × List Bool)
 changed added lacking family = merged (λ p. p) (networks_of added family) (networks_of lacking family)
+
+-- yes where nothing has changed
+abbrev pub AreSame : (Family → List (Sign × List Bool)) → Verdict → Type 0
+AreSame changes Yes = (family : Family) → changes family ≡ []
+AreSame changes No = (family : Family) × (changes family ≢ [])

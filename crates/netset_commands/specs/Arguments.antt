@@ -8,17 +8,18 @@ use Rattle.cidr_lists.specs.Rules.{Question, Permitted, Shadowed, Compared}
 use Rattle.cidr.specs.declared.family.Family.TheVariants.{Ipv4, Ipv6}
 use Rattle.cidr_lists.specs.declared.columns.Separator.TheVariants.{WhiteSpace, Byte}
 use Rattle.cidr_lists.specs.declared.forms.RowForm.{RowForm}
-use Rattle.cidr_lists.specs.declared.forms.RowForm.TheVariants.{Fields, Pfx2as, Routes}
+use Rattle.cidr_lists.specs.declared.forms.RowLayout.{RowLayout}
+use Rattle.cidr_lists.specs.declared.forms.RowLayout.TheVariants.{Fields, Pfx2as, Routes}
 use Rattle.cidr_lists.specs.declared.formats.Format.{Format}
 use Rattle.cidr_lists.specs.declared.formats.Format.TheVariants as format
 use Rattle.cidr_lists.specs.declared.formats.LineFormat.{LineFormat}
 use Rattle.cidr_lists.specs.declared.formats.LineFormat.TheVariants as by_line
-use Rattle.netset_commands.specs.Commands.{Request, Lists, Styled, NotIn, Diff, Free, Acl, Split, Check, Which, Match, MatchEach, Look, Compile, Describe, Class, Single, Help, Version, input_name, reading_of}
+use Rattle.netset_commands.specs.Commands.{Request, Lists, Styled, NotIn, Diff, Same, Free, Acl, Split, Check, Which, Match, MatchEach, Look, Compile, Smallest, Describe, Class, Single, Help, Version, input_name, reading_of}
 use Rattle.netset_commands.specs.Free.{Extent, First, Count, All}
 use Rattle.netset_commands.specs.Matching.{has, is_word}
 use Rattle.netset_commands.specs.Picking.{Choice, FirstField, FieldOf}
 use Rattle.netset_commands.specs.Single.{Show, Nth}
-use Rattle.netset_commands.specs.Table.{commands, most_of, name_of, needed_of, options_of, takes_value}
+use Rattle.netset_commands.specs.Table.{commands, name_of, row_of, takes_value}
 use Rattle.netset_commands.specs.declared.commands.Reading.{Reading}
 use Rattle.netset_commands.specs.declared.commands.arguments.Next.{Next}
 use Rattle.netset_commands.specs.declared.commands.arguments.Next.TheVariants.{Any, Value, Operand}
@@ -26,7 +27,7 @@ use Rattle.netset_commands.specs.declared.commands.operations.Operation.{Operati
 use Rattle.netset_commands.specs.declared.commands.table.Verb.{Verb}
 use Rattle.netset_commands.specs.declared.commands.table.Verb.TheVariants as verb
 use Rattle.netset_commands.specs.declared.errors.Misfit.{Misfit}
-use Rattle.netset_commands.specs.declared.errors.Misfit.TheVariants.{Unnamed, NoCommand, NoOption, Missing, Extra, NoFormat, NotPlain, NoField, Anywhere, Skipping, NoLineFormat, WithShadowed, WithDiff, NoForm, NotOneByte, WithForm}
+use Rattle.netset_commands.specs.declared.errors.Misfit.TheVariants.{Unnamed, NoCommand, NoOption, Missing, Extra, NoFormat, NotPlain, NoField, Anywhere, Skipping, NoLineFormat, WithShadowed, WithDiff, NoForm, NotOneByte, WithForm, WithJson}
 
 -- ---- the line of a word that is wrong
 abbrev pub misfit_text : Misfit → List ℕ
@@ -46,6 +47,7 @@ misfit_text WithDiff = codes ": not with --diff, see: netset help "
 misfit_text NoForm = codes ": no such form, but pfx2as, routes and routes6, see: netset help "
 misfit_text NotOneByte = codes ": more or less than one byte, see: netset help "
 misfit_text WithForm = codes ": not with --form, see: netset help "
+misfit_text WithJson = codes ": not with the format json, see: netset help "
 
 -- the word or what is missing, what is wrong with it, and the command whose page is to be seen
 abbrev pub misuse_text : List ℕ → Misfit → List ℕ → List ℕ
@@ -92,7 +94,7 @@ short_option letter = 45 ∷ letter ∷ []
 
 -- the command has the option
 abbrev pub takes : Verb → List ℕ → Bool
-takes command option = has option (options_of command)
+takes command option = has option (row_of command).options
 
 -- = parts a long option from its value
 abbrev pub is_equals : ℕ → Bool
@@ -325,44 +327,65 @@ choice_in command parts = and_then (value_of command (codes "--field") parts.val
 abbrev pub match_request : Parts → Result Request (List ℕ)
 match_request parts = and_then (choice_in verb.Match parts) (λ choice. Ok (match_by choice parts (slice_get parts.operands 2)))
 
--- the form of a name
-abbrev pub named_form : Verb → List ℕ → Result RowForm (List ℕ)
-named_form command name = if is_word (codes "pfx2as") name then Ok Pfx2as
+-- the layout of a form of this name
+abbrev pub named_layout : Verb → List ℕ → Result RowLayout (List ℕ)
+named_layout command name = if is_word (codes "pfx2as") name then Ok Pfx2as
     else if is_word (codes "routes") name then Ok (Routes Ipv4)
     else if is_word (codes "routes6") name then Ok (Routes Ipv6)
     else Err (misuse_text name NoForm (name_of command))
 
 -- that of fields with a byte between them
-abbrev pub parted_form : Verb → List ℕ → Result RowForm (List ℕ)
-parted_form command (byte ∷ []) = Ok (Fields (Byte byte))
-parted_form command text = Err (misuse_text text NotOneByte (name_of command))
+abbrev pub parted_layout : Verb → List ℕ → Result RowLayout (List ℕ)
+parted_layout command (byte ∷ []) = Ok (Fields (Byte byte))
+parted_layout command text = Err (misuse_text text NotOneByte (name_of command))
 
--- how the rows of a table are read, by the values of --form and --table-separator: one of these at most
-abbrev pub form_by : Verb → Option (List ℕ) → Option (List ℕ) → Result RowForm (List ℕ)
-form_by command None None = Ok (Fields WhiteSpace)
-form_by command None (Some separator) = parted_form command separator
-form_by command (Some name) None = named_form command name
-form_by command (Some name) (Some separator) = Err (misuse_text (codes "--table-separator") WithForm (name_of command))
+-- how the rows of a table are laid out, by the values of --form and --table-separator: one of these at most
+abbrev pub layout_by : Verb → Option (List ℕ) → Option (List ℕ) → Result RowLayout (List ℕ)
+layout_by command None None = Ok (Fields WhiteSpace)
+layout_by command None (Some separator) = parted_layout command separator
+layout_by command (Some name) None = named_layout command name
+layout_by command (Some name) (Some separator) = Err (misuse_text (codes "--table-separator") WithForm (name_of command))
 
+abbrev pub layout_in : Verb → List (List ℕ) → Result RowLayout (List ℕ)
+layout_in command values = and_then (value_of command (codes "--form") values)
+    (λ name. and_then (value_of command (codes "--table-separator") values) (λ separator. layout_by command name separator))
+
+-- how they are read, whose values are told in the format that is asked for
 abbrev pub form_in : Verb → List (List ℕ) → Result RowForm (List ℕ)
-form_in command values = and_then (value_of command (codes "--form") values)
-    (λ name. and_then (value_of command (codes "--table-separator") values) (λ separator. form_by command name separator))
+form_in command values = and_then (layout_in command values)
+    (λ layout. and_then (line_format_in command values) (λ format. Ok (record { layout = layout; values = format })))
+
+-- lines are kept, if at all, in text alone
+abbrev pub may_keep : LineFormat → Bool → Result (Unit {0}) (List ℕ)
+may_keep by_line.Plain keeps = Ok tt
+may_keep by_line.Json false = Ok tt
+may_keep by_line.Json true = Err (misuse_text (codes "--keep") WithJson (codes "look"))
 
 -- the command look, of a table and a file or the standard input
-abbrev pub look_by : Choice → RowForm → Parts → Request
-look_by choice form parts = Look choice form parts.options (operand_or parts.operands 0 []) (operand_or parts.operands 1 input_name)
+abbrev pub look_by : Choice → RowForm → Parts → Result Request (List ℕ)
+look_by choice form parts = and_then (may_keep form.values (has (codes "--keep") parts.options))
+    (λ _. Ok (Look choice form parts.options (operand_or parts.operands 0 []) (operand_or parts.operands 1 input_name)))
 
 abbrev pub look_request : Parts → Result Request (List ℕ)
-look_request parts = and_then (choice_in verb.Look parts) (λ choice. and_then (form_in verb.Look parts.values) (λ form. Ok (look_by choice form parts)))
+look_request parts = and_then (choice_in verb.Look parts) (λ choice. and_then (form_in verb.Look parts.values) (λ form. look_by choice form parts))
 
 abbrev pub compile_request : Parts → Result Request (List ℕ)
 compile_request parts = and_then (form_in verb.Compile parts.values)
     (λ form. Ok (Compile form (operand_or parts.operands 0 []) (operand_or parts.operands 1 [])))
 
+abbrev pub same_request : Parts → Result Request (List ℕ)
+same_request parts = and_then (form_in verb.Same parts.values)
+    (λ form. Ok (Same form (operand_or parts.operands 0 []) (operand_or parts.operands 1 [])))
+
+abbrev pub smallest_request : Parts → Result Request (List ℕ)
+smallest_request parts = and_then (form_in verb.Smallest parts.values)
+    (λ form. Ok (Smallest (has (codes "--holes") parts.options) form (operand_or parts.operands 0 [])))
+
 -- a command with as many operands as it takes
 abbrev pub verb_request : Verb → Parts → Result Request (List ℕ)
 verb_request (verb.Lists operation) parts = lists_request operation parts.values parts.operands
 verb_request verb.Diff parts = diff_request parts
+verb_request verb.Same parts = same_request parts
 verb_request verb.Free parts = free_request parts
 verb_request verb.Acl parts = acl_request parts
 verb_request verb.Check parts = Ok (Check parts.operands)
@@ -370,6 +393,7 @@ verb_request verb.Which parts = Ok (Which (operand_or parts.operands 0 []) (drop
 verb_request verb.Match parts = match_request parts
 verb_request verb.Look parts = look_request parts
 verb_request verb.Compile parts = compile_request parts
+verb_request verb.Smallest parts = smallest_request parts
 verb_request (verb.Describe what) parts = Ok (Describe what (operand_or parts.operands 0 []))
 verb_request verb.Class parts = Ok (Class (operand_or parts.operands 0 []))
 verb_request verb.Show parts = Ok (Single (Show (operand_or parts.operands 0 [])))
@@ -380,10 +404,10 @@ verb_request verb.Version parts = Ok Version
 
 -- the first operand that is missing, by its name on the page, and the first one too many
 abbrev pub missing_operand : Verb → List (List ℕ) → Option (List ℕ)
-missing_operand command operands = slice_get (needed_of command) (length operands)
+missing_operand command operands = slice_get (row_of command).needed (length operands)
 
 abbrev pub extra_operand : Verb → List (List ℕ) → Option (List ℕ)
-extra_operand command operands = option_and_then (λ (most : ℕ). slice_get operands most) (most_of command)
+extra_operand command operands = option_and_then (λ (most : ℕ). slice_get operands most) (row_of command).most
 
 -- a command, where this operand is missing or too many
 abbrev pub counted_request : Verb → Parts → Option (List ℕ) → Option (List ℕ) → Result Request (List ℕ)

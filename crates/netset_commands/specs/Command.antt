@@ -3,7 +3,7 @@ use Rattle.std.specs.Prelude.{◌≡◌, ℕ, Bool, true, List, map, Option, opt
 use Rattle.cidr_lists.specs.Formats.{style_in}
 use Rattle.cidr_lists.specs.Rules.{Question, Permitted, Shadowed, Compared}
 use Rattle.netset_commands.specs.Arguments.{Parts, joined_arguments, misuse_text}
-use Rattle.netset_commands.specs.Commands.{Request, Lists, Styled, NotIn, Diff, Free, Acl, Split, Check, Which, Match, MatchEach, Look, Compile, Describe, Class, Single as ASingle, Help, Version}
+use Rattle.netset_commands.specs.Commands.{Request, Lists, Styled, NotIn, Diff, Same, Free, Acl, Split, Check, Which, Match, MatchEach, Look, Compile, Smallest, Describe, Class, Single as ASingle, Help, Version}
 use Rattle.netset_commands.specs.Free.{Extent, First, Count, All}
 use Rattle.netset_commands.specs.Picking.{Choice, FirstField, FieldOf}
 use Rattle.netset_commands.specs.Table.{texts}
@@ -57,6 +57,7 @@ request_of (command.Lists operation files) = Lists operation (map (λ file. file
 request_of (command.Styled style operation files) = Styled (style_in style) operation (map (λ file. file.now) files.now)
 request_of (command.NotIn style net files) = NotIn (option_map (λ s. style_in s) style) net.now (map (λ file. file.now) files.now)
 request_of (command.Diff format old new) = Diff format old.now new.now
+request_of (command.Same form old new) = Same form old.now new.now
 request_of (command.Free style extent pool len used) = Free (option_map (λ s. style_in s) style) (extent_of extent) pool.now len.now (map (λ file. file.now) used.now)
 request_of (command.Acl asked file) = Acl (question_of asked) file.now
 request_of (command.Split style operand len) = Split (option_map (λ s. style_in s) style) operand.now len.now
@@ -66,6 +67,7 @@ request_of (command.Match choice options list file) = Match (choice_of choice) (
 request_of (command.MatchEach choice options list files) = MatchEach (choice_of choice) (map (λ w. w.now) options.now) list.now (map (λ file. file.now) files.now)
 request_of (command.Look choice form options table file) = Look (choice_of choice) form (map (λ w. w.now) options.now) table.now file.now
 request_of (command.Compile form table name) = Compile form table.now name.now
+request_of (command.Smallest holes form table) = Smallest holes form table.now
 request_of (command.Describe what operand) = Describe what operand.now
 request_of (command.Class operand) = Class operand.now
 request_of (command.Single single) = ASingle (single_request single)

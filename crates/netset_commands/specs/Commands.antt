@@ -9,19 +9,20 @@ use Rattle.cidr_table.specs.model.Cover.{Covers}
 use Rattle.cidr_sets.specs.model.Sets.{IsSetOf}
 use Rattle.netset_commands.specs.Class.{IsClassOf}
 use Rattle.netset_commands.specs.Compiled.{HasTable}
-use Rattle.netset_commands.specs.Describing.{IsNoLength, IsOfLength, all_told, told_of}
+use Rattle.netset_commands.specs.Describing.{IsNoLength, IsOfLength, told_of}
 use Rattle.netset_commands.specs.Findings.{IsCheck, IsClean}
-use Rattle.netset_commands.specs.Free.{Extent, IsFreeText, IsMost}
+use Rattle.netset_commands.specs.Free.{Extent, IsFreeText, IsMost, all_told}
 use Rattle.netset_commands.specs.Look.{IsLook}
 use Rattle.cidr_lists.specs.Lists.{Text, ListSays, line_networks, networks_in, way_of}
 use Rattle.cidr_lists.specs.Formats.{Style, IsPrintBy}
 use Rattle.cidr_lists.specs.Rules.{Question, IsRulesAnswer, compared_with, faults_in}
 use Rattle.cidr_lists.specs.Changes.{AreChanges, printed_changes}
-use Rattle.netset_commands.specs.Changes.{AreSame}
+use Rattle.cidr_lists.specs.LookUps.{telling_by}
 use Rattle.netset_commands.specs.Combining.{form_of, IsMade}
 use Rattle.netset_commands.specs.Operands.{IsNoNetworkText, OfList, OfOperand, ReadsAsNetwork}
 use Rattle.netset_commands.specs.Matching.{has, is_word, written_of, IsMatch, IsMatchOfEach, Picks}
 use Rattle.netset_commands.specs.Picking.{Choice, IsAsked, IsChosen}
+use Rattle.netset_commands.specs.Smallest.{IsSmallestOf}
 use Rattle.netset_commands.specs.Table.{help_text}
 use Rattle.netset_commands.specs.Which.{IsWhich}
 use Rattle.cidr.specs.either.IpAddress.{IsIpText}
@@ -42,6 +43,7 @@ use Rattle.netset_commands.specs.declared.commands.operations.Operation.{Operati
 use Rattle.netset_commands.specs.declared.commands.operations.Operation.TheVariants.{Minus, Not}
 use Rattle.cidr_lists.specs.Sets.{IsPrinted}
 use Rattle.cidr_lists.specs.Texts.{SaysAddress}
+use Rattle.netset_commands.specs.Same.{IsSame}
 use Rattle.netset_commands.specs.Single.{SingleRequest, HasNone, IsNumber, IsSingleAnswer, split_text}
 use Rattle.netset_commands.specs.declared.output.answers.Verdict.{Verdict}
 use Rattle.netset_commands.specs.declared.output.answers.Verdict.TheVariants.{Yes}
@@ -53,6 +55,7 @@ pub data Request : Type 0 where
   Styled : Style → Operation → List (List ℕ) → Request
   NotIn : Option Style → List ℕ → List (List ℕ) → Request
   Diff : LineFormat → List ℕ → List ℕ → Request
+  Same : RowForm → List ℕ → List ℕ → Request
   Free : Option Style → Extent → List ℕ → List ℕ → List (List ℕ) → Request
   Acl : Question → List ℕ → Request
   Split : Option Style → List ℕ → List ℕ → Request
@@ -62,6 +65,7 @@ pub data Request : Type 0 where
   MatchEach : Choice → List (List ℕ) → List ℕ → List (List ℕ) → Request
   Look : Choice → RowForm → List (List ℕ) → List ℕ → List ℕ → Request
   Compile : RowForm → List ℕ → List ℕ → Request
+  Smallest : Bool → RowForm → List ℕ → Request
   Describe : Description → List ℕ → Request
   Class : List ℕ → Request
   Single : SingleRequest → Request
@@ -84,6 +88,7 @@ lists_of (Lists operation files) = read_files files
 lists_of (Styled style operation files) = read_files files
 lists_of (NotIn style net files) = read_files files
 lists_of (Diff format old new) = old ∷ new ∷ []
+lists_of (Same form old new) = old ∷ new ∷ []
 lists_of (Free style extent pool len used) = pool ∷ used
 lists_of (Split style operand len) = operand ∷ []
 lists_of (Check files) = read_files files
@@ -92,6 +97,7 @@ lists_of (Match choice options list file) = list ∷ []
 lists_of (MatchEach choice options list files) = list ∷ []
 lists_of (Look choice form options table file) = table ∷ []
 lists_of (Compile form table name) = table ∷ []
+lists_of (Smallest holes form table) = table ∷ []
 lists_of (Describe what operand) = operand ∷ []
 lists_of request = []
 
@@ -145,40 +151,27 @@ AreTold contents names texts = AllZip (λ name text. contents name ≡ Some text
 -- what is printed of the shortest list of networks of each family that has these addresses: the list, their ranges, or
 -- how many they are
 abbrev pub IsPrintOf : Form → (Family → List Bool → Type 0) → List ℕ → Type 0
-IsPrintOf form IsIn text =
-    (sets : Family → List (List Bool)) × ((family : Family) → IsSetOf 129 (IsIn family) (sets family)) × IsPrinted form sets text
+IsPrintOf form IsIn text = (sets : Family → List (List Bool)) × ((family : Family) → IsSetOf 129 (IsIn family) (sets family)) × IsPrinted form sets text
+
+-- what the lists say is so
+abbrev pub OfLists : List Text → (List (List (List IpCidr)) → Type 0) → Type 0
+OfLists texts Is = (said : List (List (List IpCidr))) × AllZip ListSays texts said × Is said
 
 -- what the operation makes of the lists
 abbrev pub IsMadeOf : Operation → List Text → List ℕ → Type 0
-IsMadeOf operation texts answer =
-    (said : List (List (List IpCidr))) × AllZip ListSays texts said × IsPrintOf (form_of operation) (IsMade SaysAddress operation said) answer
-
--- the same in a style
-abbrev pub IsStyledOf : Style → Operation → List Text → List ℕ → Type 0
-IsStyledOf style operation texts answer =
-    (said : List (List (List IpCidr))) × AllZip ListSays texts said × IsPrintBy (Some style) (IsMade SaysAddress operation said) answer
-
--- the addresses of a network that none of the lists has
-abbrev pub IsNotIn : Option Style → IpCidr → List Text → List ℕ → Type 0
-IsNotIn style network texts answer = (said : List (List (List IpCidr))) × AllZip ListSays texts said
-    × IsPrintBy style (λ family a. Covers (line_networks family (network ∷ [])) a × IsMade SaysAddress Not said family a) answer
+IsMadeOf operation texts answer = OfLists texts (λ said. IsPrintOf (form_of operation) (IsMade SaysAddress operation said) answer)
 
 -- what a list has and another has not, both ways
 abbrev pub IsDiff : LineFormat → Text → Text → List ℕ → Verdict → Type 0
 IsDiff format old new answer verdict = (before after : List (List IpCidr)) × ListSays old before × ListSays new after
     × (changes : Family → List (Sign × List Bool))
     × ((family : Family) → AreChanges (networks_in family before) (networks_in family after) (changes family))
-    × (answer ≡ printed_changes format changes) × AreSame changes verdict
+    × (answer ≡ printed_changes format changes) × IsClean answer verdict
 
 -- the first networks of n bits that have only addresses of a first list that no other has, at most so many
 abbrev pub IsFree : Option Style → ℕ → Option ℕ → List (List (List IpCidr)) → List ℕ → Verdict → Type 0
 IsFree style n most said answer verdict = (sets : Family → List (List Bool))
     × ((family : Family) → IsSetOf 129 (IsMade SaysAddress Minus said family) (sets family)) × IsFreeText style sets n most answer verdict
-
--- the same of a pool and of files whose lists are used
-abbrev pub IsFreeOfUsed : (List ℕ → Option Text) → Option Style → ℕ → Option ℕ → List (List ℕ) → List ℕ → Verdict → List (List IpCidr) → Type 0
-IsFreeOfUsed contents style n most used answer verdict pool = (texts : List Text) → AreTold contents used texts
-    → (said : List (List (List IpCidr))) × AllZip ListSays texts said × IsFree style n most (pool ∷ said) answer verdict
 
 -- the networks of n bits inside a network, or inside the networks of a list
 abbrev pub IsSplitInto : (List ℕ → Option Text) → Option Style → List ℕ → ℕ → List ℕ → Verdict → Type 0
@@ -205,11 +198,6 @@ abbrev pub HoldsOf : Text → ((Family → List Bool → Type 0) → Type 0) →
 HoldsOf text P = ((said : List (List IpCidr)) × ListSays text said × P (SaysAddress said))
     ⊎ ((table : Family → List (List Bool × List ℕ)) × HasTable table text.bytes × P (IsInRow table))
 
--- the lines of a file that a list picks, where no line that was read is too long
-abbrev pub IsMatchOf : Column → List (List ℕ) → Text → List ℕ → List ℕ → Verdict → Type 0
-IsMatchOf column options networks text answer verdict = HoldsOf networks
-    (λ IsIn. IsMatch (Picks (has (codes "--any") options) column IsIn (has (codes "-v") options)) [] (written_of options) text None answer verdict)
-
 -- what `--version` writes: the version, and the line that `rt version` prints of the kit that proves it
 abbrev pub version_text : List ℕ
 version_text = codes "netset 0.1.0\nrattle-kit-13f logic dac8208d650f15bf\n"
@@ -218,29 +206,30 @@ version_text = codes "netset 0.1.0\nrattle-kit-13f logic dac8208d650f15bf\n"
 abbrev pub IsAnswer : (List ℕ → Option Text) → Request → List ℕ → Verdict → Type 0
 IsAnswer contents (Lists operation files) answer verdict =
     ((texts : List Text) → AreTold contents (read_files files) texts → IsMadeOf operation texts answer) × (verdict ≡ Yes)
-IsAnswer contents (Styled style operation files) answer verdict =
-    ((texts : List Text) → AreTold contents (read_files files) texts → IsStyledOf style operation texts answer) × (verdict ≡ Yes)
-IsAnswer contents (NotIn style net files) answer verdict = (network : IpCidr) × IsIpNetworkText net network
-    × ((texts : List Text) → AreTold contents (read_files files) texts → IsNotIn style network texts answer) × (verdict ≡ Yes)
-IsAnswer contents (Diff format old new) answer verdict =
-    (before after : Text) → contents old ≡ Some before → contents new ≡ Some after → IsDiff format before after answer verdict
+IsAnswer contents (Styled style operation files) answer verdict = ((texts : List Text) → AreTold contents (read_files files) texts
+    → OfLists texts (λ said. IsPrintBy (Some style) (IsMade SaysAddress operation said) answer)) × (verdict ≡ Yes)
+IsAnswer contents (NotIn style net files) answer verdict = (network : IpCidr) × IsIpNetworkText net network × ((texts : List Text) → AreTold contents (read_files files) texts
+    → OfLists texts (λ said. IsPrintBy style (λ family a. Covers (line_networks family (network ∷ [])) a × IsMade SaysAddress Not said family a) answer)) × (verdict ≡ Yes)
+IsAnswer contents (Diff format old new) answer verdict = (before after : Text) → contents old ≡ Some before → contents new ≡ Some after → IsDiff format before after answer verdict
+IsAnswer contents (Same form old new) answer verdict = (before after : Text) → contents old ≡ Some before → contents new ≡ Some after → IsSame form before after answer verdict
 IsAnswer contents (Free style extent pool len used) answer verdict = (n : ℕ) × IsNumber len n × (n ≤ 128) × (most : Option ℕ) × IsMost extent most
-    × OfOperand contents pool (IsFreeOfUsed contents style n most used answer verdict)
+    × OfOperand contents pool (λ first. (texts : List Text) → AreTold contents used texts → OfLists texts (λ said. IsFree style n most (first ∷ said) answer verdict))
 IsAnswer contents (Acl asked file) answer verdict = IsRulesAnswer contents asked file answer × IsClean (faults_in asked answer) verdict
 IsAnswer contents (Split style operand len) answer verdict = (n : ℕ) × IsNumber len n × IsSplitInto contents style operand n answer verdict
 IsAnswer contents (Check files) answer verdict =
     (texts : List Text) → AreTold contents (read_files files) texts → IsCheck (read_files files) texts answer verdict
 IsAnswer contents (Which text files) answer verdict = (address : IpAddr) × IsIpText text address
     × ((texts : List Text) → AreTold contents (read_files files) texts → IsWhich address (read_files files) texts answer verdict)
-IsAnswer contents (Match choice options list file) answer verdict =
-    (column : Column) × IsChosen choice column
-    × ((networks text : Text) → contents list ≡ Some networks → contents file ≡ Some text → IsMatchOf column options networks text.bytes answer verdict)
+IsAnswer contents (Match choice options list file) answer verdict = (column : Column) × IsChosen choice column
+    × ((networks text : Text) → contents list ≡ Some networks → contents file ≡ Some text → HoldsOf networks
+    (λ IsIn. IsMatch (has (codes "--header") options) (Picks (has (codes "--any") options) column IsIn (has (codes "-v") options)) [] (written_of options) text.bytes None answer verdict))
 IsAnswer contents (MatchEach choice options list files) answer verdict = (column : Column) × IsChosen choice column
     × ((networks : Text) → contents list ≡ Some networks → HoldsOf networks
-    (λ IsIn. IsMatchOfEach contents (Picks (has (codes "--any") options) column IsIn (has (codes "-v") options)) (written_of options) files answer verdict))
+    (λ IsIn. IsMatchOfEach contents (has (codes "--header") options) (Picks (has (codes "--any") options) column IsIn (has (codes "-v") options)) (written_of options) files answer verdict))
 IsAnswer contents (Look choice form options table file) answer verdict = (asked : Asked) × IsAsked choice (has (codes "--any") options) asked
-    × ((rows text : Text) → contents table ≡ Some rows → contents file ≡ Some text → IsLook (has (codes "--keep") options) asked form rows text.bytes answer verdict)
+    × ((rows text : Text) → contents table ≡ Some rows → contents file ≡ Some text → IsLook (has (codes "--header") options) (telling_by form.values (has (codes "--keep") options)) asked form rows text.bytes answer verdict)
 IsAnswer contents (Compile form table name) answer verdict = (answer ≡ []) × (verdict ≡ Yes)
+IsAnswer contents (Smallest holes form table) answer verdict = ((text : Text) → contents table ≡ Some text → IsSmallestOf holes form text answer) × (verdict ≡ Yes)
 IsAnswer contents (Describe what operand) answer verdict = IsDescription contents what operand answer × (verdict ≡ Yes)
 IsAnswer contents (Class operand) answer verdict = IsClassOf contents operand answer verdict
 IsAnswer contents (Single request) answer verdict = IsSingleAnswer request answer verdict

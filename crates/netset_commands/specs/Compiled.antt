@@ -6,6 +6,7 @@ use Rattle.cidr.specs.declared.family.Family.TheVariants.{Ipv4, Ipv6}
 use Rattle.cidr_arrays.specs.Arrays.{prefix_bits}
 use Rattle.cidr_files.specs.Layout.{ipv4_parts, ipv6_parts, wide_words, words}
 use Rattle.cidr_files.specs.Tables.{IsFile, IsSmall, stored_networks, value_in}
+use Rattle.cidr_lists.specs.Forms.{AreFit}
 use Rattle.cidr_lists.specs.Lists.{Text}
 use Rattle.cidr_lists.specs.Tables.{IsTable}
 use Rattle.cidr_lists.specs.declared.forms.RowForm.{RowForm}
@@ -43,4 +44,4 @@ begins_file (byte ∷ bytes) = byte == 137
 
 -- what a file says as a table: the rows of its lines, or those of a file of look-ups
 abbrev pub SaysTable : RowForm → Text → (Family → List (List Bool × List ℕ)) → Type 0
-SaysTable form text table = IsTable form text table ⊎ HasTable table text.bytes
+SaysTable form text table = IsTable form text table ⊎ (HasTable table text.bytes × ((family : Family) → AreFit form.values (table family)))

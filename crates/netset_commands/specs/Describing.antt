@@ -1,11 +1,9 @@
 -- What is told of networks, a line or more each: the names of their zones in reverse DNS, or their masks.
-use Rattle.std.specs.Prelude.{◌≡◌, ℕ, ◌+◌, ◌-◌, ◌*◌, ◌/◌, ◌<◌, ◌≤◌, Bool, List, ◌++◌, length}
+use Rattle.std.specs.Prelude.{◌≡◌, ℕ, ◌+◌, ◌-◌, ◌*◌, ◌/◌, ◌<◌, ◌≤◌, List, length}
 use Rattle.std.specs.List.{flat_map}
 use Rattle.cidr.specs.either.IpNetwork.{network_family, network_prefix}
 use Rattle.cidr.specs.declared.cidr.combined.IpCidr.{IpCidr}
-use Rattle.cidr.specs.declared.cidr.combined.IpCidr.TheVariants.{V4, V6}
 use Rattle.cidr.specs.declared.family.Family.{Family}
-use Rattle.cidr.specs.declared.family.Family.TheVariants.{Ipv4, Ipv6}
 use Rattle.cidr_ext.specs.texts.Reverse.{label_width}
 use Rattle.cidr_ext.specs.texts.Zones.{zones_of}
 use Rattle.cidr_lists.specs.Descriptions.{length_lines, mask_line}
@@ -28,10 +26,6 @@ zone_lines n =
 abbrev pub told_of : Description → IpCidr → List ℕ
 told_of Zones network = zone_lines network
 told_of Masks network = mask_line network
-
--- what is told of each network of sets, IPv4 before IPv6
-abbrev pub all_told : (IpCidr → List ℕ) → (Family → List (List Bool)) → List ℕ
-all_told told sets = flat_map (λ p. told (V4 p)) (sets Ipv4) ++ flat_map (λ p. told (V6 p)) (sets Ipv6)
 
 -- the operand is a prefix length, of which this is told, or it is none
 abbrev pub IsOfLength : Description → List ℕ → List ℕ → Type 0

@@ -44,15 +44,15 @@ abbrev pub inside_of : ℕ → IpCidr → List (Family × List Bool)
 inside_of n network = if nat_lt n (length (network_prefix network)) then []
     else (if nat_lt (width_of (network_family network)) n then [] else subnets_of (network_family network) (network_prefix network) n)
 
--- those inside the networks of sets, IPv4 before IPv6: where these are the shortest list of some addresses, all networks of n
--- bits that have only such addresses
-abbrev pub all_inside : ℕ → (Family → List (List Bool)) → List (Family × List Bool)
-all_inside n sets = flat_map (λ p. inside_of n (V4 p)) (sets Ipv4) ++ flat_map (λ p. inside_of n (V6 p)) (sets Ipv6)
+-- what is told of each network of sets, IPv4 before IPv6
+abbrev pub all_told : {X : Type 0} → (IpCidr → List X) → (Family → List (List Bool)) → List X
+all_told told sets = flat_map (λ p. told (V4 p)) (sets Ipv4) ++ flat_map (λ p. told (V6 p)) (sets Ipv6)
 
--- the first of them, or none where there is none
+-- the first of those inside the networks of sets, or none where there is none: where these are the shortest list of some
+-- addresses, they are all networks of n bits that have only such addresses
 abbrev pub IsFreeText : Option Style → (Family → List (List Bool)) → ℕ → Option ℕ → List ℕ → Verdict → Type 0
 IsFreeText style sets n most answer Yes =
-    (network : IpCidr) × IsFreeOf sets n (Some network) × (answer ≡ printed_walk style (taken most (all_inside n sets)))
+    (network : IpCidr) × IsFreeOf sets n (Some network) × (answer ≡ printed_walk style (taken most (all_told (inside_of n) sets)))
 IsFreeText style sets n most answer No = IsFreeOf sets n None × (answer ≡ printed_walk style [])
 
 -- ---- arguments that are wrong

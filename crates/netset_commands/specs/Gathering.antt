@@ -5,8 +5,8 @@ use Rattle.std.specs.List.{flat_map}
 use Rattle.cidr_io.specs.Writing.{State, Part, Whole, Writes, Answered}
 use Rattle.cidr_io.specs.declared.sink.OutputFailed.{OutputFailed}
 use Rattle.cidr_io.specs.Collecting.{Collects}
-use Rattle.netset_commands.specs.Matching.{ArePicked, AreMatched, IsEndedBy, IsEndedIn, IsMatch, IsMatchOfEach, file_label, line_written}
-use Rattle.cidr_lists.specs.Lines.{last_line}
+use Rattle.netset_commands.specs.Matching.{ArePicked, AreMatched, IsEndedBy, IsEndedIn, IsErrorBy, IsMatch, IsMatchOfEach, file_label, line_written}
+use Rattle.cidr_lists.specs.Lines.{IsBadBehind, last_line}
 use Rattle.cidr_lists.specs.Lists.{IsTooLong, Text}
 use Rattle.cidr_lists.specs.Printing.{line}
 use Rattle.netset_commands.specs.Program.{by_output}
@@ -40,25 +40,35 @@ abbrev pub label_of : Option (Bor (List ℕ)) → List ℕ
 label_of None = []
 label_of (Some name) = file_label name.now
 
--- a line is in error, and nothing is written; or the output failed at a line that is picked
-abbrev pub IsLost : (List ℕ → Result Bool LineError → Type 0) → List ℕ → Written → List ℕ → ℕ → List ℕ → State → State → List ℕ → List ℕ → CommandError → Type 0
-IsLost PicksLine label what file number part old new block rest (error.Argument text e) = ⊥
-IsLost PicksLine label what file number part old new block rest (error.Line name n e) =
-    (name.now ≡ file) × (n ≡ number) × PicksLine part (Err e) × (new ≡ old) × (rest ≡ block)
-IsLost PicksLine label what file number part old new block rest (error.Input name why) = ⊥
-IsLost PicksLine label what file number part old new block rest error.NoMemory = ⊥
-IsLost PicksLine label what file number part old new block rest (error.File name e) = ⊥
-IsLost PicksLine label what file number part old new block rest error.Output =
-    PicksLine part (Ok true) × Part old new (block ++ line_written label what part)
+-- a line is in error, and nothing is written; or the output failed at a line that is picked, or at the header
+abbrev pub IsLost : Bool → (List ℕ → Result Bool LineError → Type 0) → List ℕ → Written → List ℕ → ℕ → List ℕ → State → State → List ℕ → List ℕ → CommandError → Type 0
+IsLost headed PicksLine label what file number part old new block rest (error.Argument text e) = ⊥
+IsLost headed PicksLine label what file number part old new block rest (error.Line name n e) =
+    (name.now ≡ file) × (n ≡ number) × IsBadBehind headed (IsErrorBy PicksLine) [] part e × (new ≡ old) × (rest ≡ block)
+IsLost headed PicksLine label what file number part old new block rest (error.Input name why) = ⊥
+IsLost headed PicksLine label what file number part old new block rest error.NoMemory = ⊥
+IsLost headed PicksLine label what file number part old new block rest (error.File name e) = ⊥
+IsLost headed PicksLine label what file number part old new block rest error.Output =
+    (counted : List (List ℕ)) × ArePicked headed PicksLine (part ∷ []) (part ∷ [], counted) × Part old new (block ++ line_written label what part)
 
--- the line of a part is gathered, if it is one and is picked
-abbrev pub GathersPart : (List ℕ → Result Bool LineError → Type 0) → List ℕ → Written → List ℕ → ℕ → List ℕ → Bool → State → State → Gathered → Gathered
+-- a header is gathered and not counted; or it is too long, or the output failed at it
+abbrev pub TakesHeader : List ℕ → Written → List ℕ → List ℕ → State → State → Gathered → Gathered → Result (Unit {0}) CommandError → Type 0
+TakesHeader label what file header old new before after (Ok _) = ¬ (IsTooLong header) × (after.count ≡ before.count)
+    × Collects old new before.block after.block (line_written label what header) (Ok tt)
+TakesHeader label what file header old new before after (Err (error.Line name n e)) =
+    (name.now ≡ file) × (n ≡ 1) × (e ≡ TooLong) × IsTooLong header × (new ≡ old) × (after.block ≡ before.block)
+TakesHeader label what file header old new before after (Err error.Output) =
+    ¬ (IsTooLong header) × Part old new (before.block ++ line_written label what header)
+TakesHeader label what file header old new before after (Err e) = ⊥
+
+-- the line of a part is gathered, if it is one and is picked, or is a header
+abbrev pub GathersPart : Bool → (List ℕ → Result Bool LineError → Type 0) → List ℕ → Written → List ℕ → ℕ → List ℕ → Bool → State → State → Gathered → Gathered
     → Result (Unit {0}) CommandError → Type 0
-GathersPart PicksLine label what file number part more old new before after (Ok _) = (picked : List (List ℕ))
-    × ArePicked PicksLine (lines_of_part part more) picked × (after.count ≡ before.count + length picked) × (length picked ≤ 1)
-    × Collects old new before.block after.block (flat_map (line_written label what) picked) (Ok tt)
-GathersPart PicksLine label what file number part more old new before after (Err e) =
-    (lines_of_part part more ≡ part ∷ []) × IsLost PicksLine label what file number part old new before.block after.block e
+GathersPart headed PicksLine label what file number part more old new before after (Ok _) = (picked : List (List ℕ) × List (List ℕ))
+    × ArePicked headed PicksLine (lines_of_part part more) picked × (after.count ≡ before.count + length picked.1) × (length picked.1 ≤ 1)
+    × Collects old new before.block after.block (flat_map (line_written label what) picked.0) (Ok tt)
+GathersPart headed PicksLine label what file number part more old new before after (Err e) =
+    (lines_of_part part more ≡ part ∷ []) × IsLost headed PicksLine label what file number part old new before.block after.block e
 
 -- what is written behind the lines
 abbrev pub rest_written : List ℕ → Written → ℕ → List ℕ
@@ -102,27 +112,27 @@ told_behind file (Some n) (Ok verdict) = Err (error.Line file n TooLong)
 told_behind file (Some n) (Err e) = Err e
 
 -- what becomes of a file that is read line by line, of which these bytes are known
-abbrev pub Streams : (List ℕ → Result Bool LineError → Type 0) → List ℕ → Written → List ℕ → Option (List ℕ) → State → State → Result Verdict CommandError → Type 0
-Streams PicksLine label what file known old new r =
+abbrev pub Streams : Bool → (List ℕ → Result Bool LineError → Type 0) → List ℕ → Written → List ℕ → Option (List ℕ) → State → State → Result Verdict CommandError → Type 0
+Streams headed PicksLine label what file known old new r =
     ((answer : List ℕ) × (verdict : Verdict) × (w : Result (Unit {0}) OutputFailed)
-    × IfSome known (λ text. IsMatch PicksLine label what text None answer verdict) × Answered old new answer w × (r ≡ by_output verdict w))
-    ⊎ IsCutShort (λ answer e. IfSome known (λ text. IsEndedBy PicksLine label what text answer e)) file old new r
+    × IfSome known (λ text. IsMatch headed PicksLine label what text None answer verdict) × Answered old new answer w × (r ≡ by_output verdict w))
+    ⊎ IsCutShort (λ answer e. IfSome known (λ text. IsEndedBy headed PicksLine label what text answer e)) file old new r
 
 -- the same of a file that is opened first: nothing is written of one that can't be opened
-abbrev pub StreamsFile : (List ℕ → Result Bool LineError → Type 0) → List ℕ → Written → List ℕ → Option Text → State → State → Result Verdict CommandError → Type 0
-StreamsFile PicksLine label what file contents old new r =
+abbrev pub StreamsFile : Bool → (List ℕ → Result Bool LineError → Type 0) → List ℕ → Written → List ℕ → Option Text → State → State → Result Verdict CommandError → Type 0
+StreamsFile headed PicksLine label what file contents old new r =
     ((new ≡ old) × (e : CommandError) × (r ≡ Err e) × IsNotReadFurther file e)
-    ⊎ ((known : Option (List ℕ)) × ((text : Text) → contents ≡ Some text → known ≡ Some text.bytes) × Streams PicksLine label what file known old new r)
+    ⊎ ((known : Option (List ℕ)) × ((text : Text) → contents ≡ Some text → known ≡ Some text.bytes) × Streams headed PicksLine label what file known old new r)
 
 -- some files were read to their ends, and all of this was written
-abbrev pub AreStreamed : (List ℕ → Option Text) → (List ℕ → Result Bool LineError → Type 0) → Written → List (List ℕ) → State → State → Verdict → Type 0
-AreStreamed contents PicksLine what files old new verdict =
-    (answer : List ℕ) × AreMatched contents PicksLine what files answer verdict × Whole old new answer
+abbrev pub AreStreamed : (List ℕ → Option Text) → Bool → (List ℕ → Result Bool LineError → Type 0) → Written → List (List ℕ) → State → State → Verdict → Type 0
+AreStreamed contents headed PicksLine what files old new verdict =
+    (answer : List ℕ) × AreMatched contents headed PicksLine what files answer verdict × Whole old new answer
 
 -- what becomes of files that are read one after another
-abbrev pub StreamsEach : (List ℕ → Option Text) → (List ℕ → Result Bool LineError → Type 0) → Written → List (List ℕ) → State → State → Result Verdict CommandError → Type 0
-StreamsEach contents PicksLine what files old new r =
+abbrev pub StreamsEach : (List ℕ → Option Text) → Bool → (List ℕ → Result Bool LineError → Type 0) → Written → List (List ℕ) → State → State → Result Verdict CommandError → Type 0
+StreamsEach contents headed PicksLine what files old new r =
     ((answer : List ℕ) × (verdict : Verdict) × (w : Result (Unit {0}) OutputFailed)
-    × IsMatchOfEach contents PicksLine what files answer verdict × Answered old new answer w × (r ≡ by_output verdict w))
+    × IsMatchOfEach contents headed PicksLine what files answer verdict × Answered old new answer w × (r ≡ by_output verdict w))
     ⊎ ((before after : List (List ℕ)) × (file : List ℕ) × (files ≡ before ++ file ∷ after)
-    × IsCutShort (IsEndedIn contents PicksLine what before file) file old new r)
+    × IsCutShort (IsEndedIn contents headed PicksLine what before file) file old new r)

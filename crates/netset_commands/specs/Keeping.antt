@@ -5,7 +5,7 @@ use Rattle.cidr.specs.declared.cidr.combined.IpCidr.{IpCidr}
 use Rattle.cidr.specs.declared.family.Family.{Family}
 use Rattle.cidr_io.specs.Collecting.{HasSaid}
 use Rattle.cidr_io.specs.Writing.{State, Tells}
-use Rattle.netset_commands.specs.Commands.{Request, Check, Which, Match, MatchEach, Look, Compile, AreTold}
+use Rattle.netset_commands.specs.Commands.{Request, Check, Which, Match, MatchEach, Look, Compile, Smallest, Same, AreTold}
 use Rattle.netset_commands.specs.Compiled.{begins_file}
 use Rattle.netset_commands.specs.Entries.{AddsEntry}
 use Rattle.cidr_lists.specs.Entries.{AreEntries}
@@ -38,6 +38,8 @@ kind_of (Check files) = kind.Hosts
 kind_of (Which address files) = kind.Hosts
 kind_of (Look choice form options table file) = kind.Rows form
 kind_of (Compile form table name) = kind.Rows form
+kind_of (Same form old new) = kind.Rows form
+kind_of (Smallest holes form table) = kind.Rows form
 kind_of request = kind.Networks
 
 -- whether its list may be a file of look-ups

@@ -8,7 +8,6 @@ pub mod Operands
 pub mod Picking
 pub mod Sets
 pub mod Combining
-pub mod Changes
 pub mod Free
 pub mod Describing
 pub mod Entries
@@ -17,6 +16,8 @@ pub mod Which
 pub mod Matching
 pub mod Compiled
 pub mod Look
+pub mod Same
+pub mod Smallest
 pub mod Stored
 pub mod Class
 pub mod Single
@@ -32,9 +33,12 @@ pub mod Leaving
 pub mod Begun
 pub mod Reading
 pub mod Columns
+pub mod Numbers
+pub mod Compared
 pub mod Command
 pub mod Gathering
 pub mod Loading
 pub mod Answering
 pub mod LookUps
 pub mod KeptLines
+pub mod Fewest

@@ -1,13 +1,13 @@
 -- The lines of a file of which a field lies in a list, or that have an address of it.
 use Rattle.std.specs.Prelude.{◌≡◌, ◌≢◌, ◌⊎◌, ℕ, Bool, true, false, if◌then◌else◌, List, [], ◌∷◌, ◌++◌, length, codes, decimal, Option, Some, None, Result, Ok, Err, ◌+◌}
 use Rattle.std.specs.Bool.{Decides}
-use Rattle.std.specs.List.{AllByRecursion, AllZip, flat_map, items_where_true, list_any}
+use Rattle.std.specs.List.{AllByRecursion, flat_map, items_where_true, list_any}
 use Rattle.std.specs.Str.{bytes_eq}
 use Rattle.cidr.specs.declared.cidr.combined.IpCidr.{IpCidr}
 use Rattle.cidr.specs.declared.family.Family.{Family}
 use Rattle.netset_commands.specs.Combining.{Turned}
 use Rattle.cidr_lists.specs.Printing.{line}
-use Rattle.netset_commands.specs.Streaming.{IsCut, ReadTo}
+use Rattle.netset_commands.specs.Streaming.{IsCutBehind, ReadTo}
 use Rattle.netset_commands.specs.declared.output.answers.Verdict.{Verdict}
 use Rattle.netset_commands.specs.declared.output.answers.Verdict.TheVariants.{Yes, No}
 use Rattle.netset_commands.specs.declared.errors.CommandError.{CommandError}
@@ -19,7 +19,7 @@ use Rattle.netset_commands.specs.declared.commands.matching.Written.{Written}
 use Rattle.netset_commands.specs.declared.commands.matching.Written.TheVariants as written
 use Rattle.cidr_lists.specs.Fields.{FieldSays, IsBadField}
 use Rattle.cidr_lists.specs.Within.{LiesIn, HasOneIn}
-use Rattle.cidr_lists.specs.Lines.{lines_in}
+use Rattle.cidr_lists.specs.Lines.{AllBehind, IsBadBehind, behind_header, lines_in}
 use Rattle.cidr_lists.specs.Lists.{IsTooLong, Text}
 
 -- ---- options
@@ -42,14 +42,11 @@ PicksByField column IsIn inverted line (Ok picked) =
     (said : Option IpCidr) × FieldSays column line said × Decides picked (Turned inverted (LiesIn IsIn said))
 PicksByField column IsIn inverted line (Err e) = IsBadField column line e
 
--- whether a line is picked: if it has an address of the list, or with -v if it has none; no such line is in error
-abbrev pub PicksAnywhere : (Family → List Bool → Type 0) → Bool → List ℕ → Result Bool LineError → Type 0
-PicksAnywhere IsIn inverted line (Ok picked) = Decides picked (Turned inverted (HasOneIn IsIn line))
-PicksAnywhere IsIn inverted line (Err e) = ⊥
-
--- whether a line is picked, with --any or without, or its error
+-- whether a line is picked: with --any if it has an address of the list, or with -v if it has none, and no such line is in error;
+-- and without by its field
 abbrev pub PicksBy : Bool → Column → (Family → List Bool → Type 0) → Bool → List ℕ → Result Bool LineError → Type 0
-PicksBy true column IsIn inverted line r = PicksAnywhere IsIn inverted line r
+PicksBy true column IsIn inverted line (Ok picked) = Decides picked (Turned inverted (HasOneIn IsIn line))
+PicksBy true column IsIn inverted line (Err e) = ⊥
 PicksBy false column IsIn inverted line r = PicksByField column IsIn inverted line r
 
 -- what becomes of a line that is too long: with --any it is passed over, and else it is in error
@@ -66,10 +63,15 @@ Picks anywhere column IsIn inverted line r =
 abbrev pub IsErrorBy : (List ℕ → Result Bool LineError → Type 0) → List ℕ → LineError → Type 0
 IsErrorBy PicksLine line e = PicksLine line (Err e)
 
--- the lines that are picked, in their order
-abbrev pub ArePicked : (List ℕ → Result Bool LineError → Type 0) → List (List ℕ) → List (List ℕ) → Type 0
-ArePicked PicksLine lines picked =
-    (marks : List Bool) × AllZip (λ line mark. PicksLine line (Ok mark)) lines marks × (picked ≡ items_where_true marks lines)
+-- a header is written whatever it says, and may not be too long
+abbrev pub IsHeader : List ℕ → Bool → Type 0
+IsHeader line mark = ¬ (IsTooLong line) × (mark ≡ true)
+
+-- the lines that are written, in their order: those that are picked, and in front of them the header, if the first is one; and
+-- the former, which alone are counted
+abbrev pub ArePicked : Bool → (List ℕ → Result Bool LineError → Type 0) → List (List ℕ) → List (List ℕ) × List (List ℕ) → Type 0
+ArePicked headed PicksLine lines picked = (marks : List Bool) × AllBehind headed IsHeader (λ line mark. PicksLine line (Ok mark)) lines marks
+    × (picked.0 ≡ items_where_true marks lines) × (picked.1 ≡ behind_header headed picked.0)
 
 -- ---- what is written
 -- what stands in front of a line of a file that is not the only one: its name and a colon
@@ -82,14 +84,14 @@ line_written label written.Lines l = label ++ line l
 line_written label what l = []
 
 -- of all lines that were picked
-abbrev pub all_written : List ℕ → Written → List (List ℕ) → List ℕ
-all_written label written.Lines picked = flat_map (line_written label written.Lines) picked
-all_written label written.Count picked = label ++ line (decimal (length picked))
+abbrev pub all_written : List ℕ → Written → List (List ℕ) × List (List ℕ) → List ℕ
+all_written label written.Lines picked = flat_map (line_written label written.Lines) picked.0
+all_written label written.Count picked = label ++ line (decimal (length picked.1))
 all_written label written.Nothing picked = []
 
--- no line is left, or -q needs no more
-abbrev pub IsEnough : Written → List (List ℕ) → List (List ℕ) → Type 0
-IsEnough what left picked = (left ≡ []) ⊎ ((what ≡ written.Nothing) × (picked ≢ []))
+-- no line or file is left, or -q needs no more
+abbrev pub IsEnough : Written → List (List ℕ) → Verdict → Type 0
+IsEnough what left verdict = (left ≡ []) ⊎ ((what ≡ written.Nothing) × (verdict ≡ Yes))
 
 -- yes if a line was picked
 abbrev pub ArePickedBy : List (List ℕ) → Verdict → Type 0
@@ -103,15 +105,16 @@ IsFirstLong lines (Some n) = (before : List (List ℕ)) × (line : List ℕ) × 
     × (n ≡ length before + 1) × IsTooLong line × AllByRecursion (λ line. ¬ (IsTooLong line)) before
 
 -- what is written of a text, the first of the lines that were read that is too long, if one is, and whether a line was picked
-abbrev pub IsMatch : (List ℕ → Result Bool LineError → Type 0) → List ℕ → Written → List ℕ → Option ℕ → List ℕ → Verdict → Type 0
-IsMatch PicksLine label what text long answer verdict = (read left picked : List (List ℕ))
-    × ReadTo (ArePicked PicksLine) (lines_in text) read left picked × IsFirstLong read long
-    × IsEnough what left picked × (answer ≡ all_written label what picked) × ArePickedBy picked verdict
+abbrev pub IsMatch : Bool → (List ℕ → Result Bool LineError → Type 0) → List ℕ → Written → List ℕ → Option ℕ → List ℕ → Verdict → Type 0
+IsMatch headed PicksLine label what text long answer verdict = (read left : List (List ℕ)) × (picked : List (List ℕ) × List (List ℕ))
+    × ReadTo (ArePicked headed PicksLine) (lines_in text) read left picked × IsFirstLong read long
+    × IsEnough what left verdict × (answer ≡ all_written label what picked) × ArePickedBy picked.1 verdict
 
 -- the text was not read to its end, for this reason, and this belongs to the lines that were picked
-abbrev pub IsCutAt : (List ℕ → Result Bool LineError → Type 0) → List ℕ → Written → List ℕ → List ℕ → CommandError → Type 0
-IsCutAt PicksLine label what text answer e = (picked : List (List ℕ))
-    × IsCut (ArePicked PicksLine) (IsErrorBy PicksLine) (lines_in text) picked e × (answer ≡ flat_map (line_written label what) picked)
+abbrev pub IsCutAt : Bool → (List ℕ → Result Bool LineError → Type 0) → List ℕ → Written → List ℕ → List ℕ → CommandError → Type 0
+IsCutAt headed PicksLine label what text answer e = (picked : List (List ℕ) × List (List ℕ))
+    × IsCutBehind (ArePicked headed PicksLine) (IsBadBehind headed (IsErrorBy PicksLine)) (lines_in text) picked e
+    × (answer ≡ flat_map (line_written label what) picked.0)
 
 -- the error is that this line is too long, or that the output has failed
 abbrev pub IsLongOrLost : ℕ → CommandError → Type 0
@@ -120,13 +123,13 @@ IsLongOrLost n error.Output = Unit {0}
 IsLongOrLost n e = ⊥
 
 -- the text was answered, but for lines that are too long, and the first of these is the error
-abbrev pub IsMatchBut : (List ℕ → Result Bool LineError → Type 0) → List ℕ → Written → List ℕ → List ℕ → CommandError → Type 0
-IsMatchBut PicksLine label what text answer e =
-    (n : ℕ) × (verdict : Verdict) × IsMatch PicksLine label what text (Some n) answer verdict × IsLongOrLost n e
+abbrev pub IsMatchBut : Bool → (List ℕ → Result Bool LineError → Type 0) → List ℕ → Written → List ℕ → List ℕ → CommandError → Type 0
+IsMatchBut headed PicksLine label what text answer e =
+    (n : ℕ) × (verdict : Verdict) × IsMatch headed PicksLine label what text (Some n) answer verdict × IsLongOrLost n e
 
 -- either
-abbrev pub IsEndedBy : (List ℕ → Result Bool LineError → Type 0) → List ℕ → Written → List ℕ → List ℕ → CommandError → Type 0
-IsEndedBy PicksLine label what text answer e = IsCutAt PicksLine label what text answer e ⊎ IsMatchBut PicksLine label what text answer e
+abbrev pub IsEndedBy : Bool → (List ℕ → Result Bool LineError → Type 0) → List ℕ → Written → List ℕ → List ℕ → CommandError → Type 0
+IsEndedBy headed PicksLine label what text answer e = IsCutAt headed PicksLine label what text answer e ⊎ IsMatchBut headed PicksLine label what text answer e
 
 -- ---- several files
 -- yes if one of the two is
@@ -136,25 +139,21 @@ either No other = other
 
 -- what is written of some files, one after another, each with its name in front, and whether a line of one was picked; no
 -- line that was read is too long
-abbrev pub AreMatched : (List ℕ → Option Text) → (List ℕ → Result Bool LineError → Type 0) → Written → List (List ℕ) → List ℕ → Verdict → Type 0
-AreMatched contents PicksLine what [] answer verdict = (answer ≡ []) × (verdict ≡ No)
-AreMatched contents PicksLine what (file ∷ files) answer verdict = (first rest : List ℕ) × (one other : Verdict)
-    × ((text : Text) → contents file ≡ Some text → IsMatch PicksLine (file_label file) what text.bytes None first one)
-    × AreMatched contents PicksLine what files rest other × (answer ≡ first ++ rest) × (verdict ≡ either one other)
-
--- no file is left, or -q needs no more
-abbrev pub AreEnough : Written → List (List ℕ) → Verdict → Type 0
-AreEnough what left verdict = (left ≡ []) ⊎ ((what ≡ written.Nothing) × (verdict ≡ Yes))
+abbrev pub AreMatched : (List ℕ → Option Text) → Bool → (List ℕ → Result Bool LineError → Type 0) → Written → List (List ℕ) → List ℕ → Verdict → Type 0
+AreMatched contents headed PicksLine what [] answer verdict = (answer ≡ []) × (verdict ≡ No)
+AreMatched contents headed PicksLine what (file ∷ files) answer verdict = (first rest : List ℕ) × (one other : Verdict)
+    × ((text : Text) → contents file ≡ Some text → IsMatch headed PicksLine (file_label file) what text.bytes None first one)
+    × AreMatched contents headed PicksLine what files rest other × (answer ≡ first ++ rest) × (verdict ≡ either one other)
 
 -- the same of as many of the files as are needed
-abbrev pub IsMatchOfEach : (List ℕ → Option Text) → (List ℕ → Result Bool LineError → Type 0) → Written → List (List ℕ) → List ℕ → Verdict → Type 0
-IsMatchOfEach contents PicksLine what files answer verdict = (read left : List (List ℕ))
-    × (files ≡ read ++ left) × AreMatched contents PicksLine what read answer verdict × AreEnough what left verdict
+abbrev pub IsMatchOfEach : (List ℕ → Option Text) → Bool → (List ℕ → Result Bool LineError → Type 0) → Written → List (List ℕ) → List ℕ → Verdict → Type 0
+IsMatchOfEach contents headed PicksLine what files answer verdict = (read left : List (List ℕ))
+    × (files ≡ read ++ left) × AreMatched contents headed PicksLine what read answer verdict × IsEnough what left verdict
 
 -- behind these files one was not read to its end, for this reason, or has lines that are too long, or the output failed at
 -- what is written of it; and this belongs to all of them
-abbrev pub IsEndedIn : (List ℕ → Option Text) → (List ℕ → Result Bool LineError → Type 0) → Written → List (List ℕ) → List ℕ → List ℕ → CommandError → Type 0
-IsEndedIn contents PicksLine what before file answer e = (first rest : List ℕ) × (verdict : Verdict)
-    × AreMatched contents PicksLine what before first verdict × (answer ≡ first ++ rest)
-    × ((text : Text) → contents file ≡ Some text → IsEndedBy PicksLine (file_label file) what text.bytes rest e
-    ⊎ ((one : Verdict) × IsMatch PicksLine (file_label file) what text.bytes None rest one × (e ≡ error.Output)))
+abbrev pub IsEndedIn : (List ℕ → Option Text) → Bool → (List ℕ → Result Bool LineError → Type 0) → Written → List (List ℕ) → List ℕ → List ℕ → CommandError → Type 0
+IsEndedIn contents headed PicksLine what before file answer e = (first rest : List ℕ) × (verdict : Verdict)
+    × AreMatched contents headed PicksLine what before first verdict × (answer ≡ first ++ rest)
+    × ((text : Text) → contents file ≡ Some text → IsEndedBy headed PicksLine (file_label file) what text.bytes rest e
+    ⊎ ((one : Verdict) × IsMatch headed PicksLine (file_label file) what text.bytes None rest one × (e ≡ error.Output)))

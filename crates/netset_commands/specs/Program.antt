@@ -11,7 +11,7 @@ use Rattle.cidr_io.specs.Writing.{State, Answered, Tells}
 use Rattle.cidr_io.specs.declared.sink.OutputFailed.{OutputFailed}
 use Rattle.cidr_lists.specs.Lists.{Text, text_by, ListSays, IsFirstError}
 use Rattle.netset_commands.specs.Arguments.{Line, line_request}
-use Rattle.netset_commands.specs.Commands.{Request, Lists, Styled, NotIn, Diff, Free, Acl, Split, Check, Which, Match, MatchEach, Look, Compile, Describe, Class, Single, ReadsInputTwice, input_name, read_files, AreLists, AreTold, HoldsOf, IsAnswer}
+use Rattle.netset_commands.specs.Commands.{Request, Lists, Styled, NotIn, Diff, Same, Free, Acl, Split, Check, Which, Match, MatchEach, Look, Compile, Smallest, Describe, Class, Single, ReadsInputTwice, input_name, read_files, AreLists, AreTold, HoldsOf, IsAnswer}
 use Rattle.cidr_lists.specs.Rules.{compared_with}
 use Rattle.netset_commands.specs.Acl.{IsUnreadAcl}
 use Rattle.netset_commands.specs.Causes.{Cause, FileMayFail, Refusals}
@@ -23,12 +23,15 @@ use Rattle.netset_commands.specs.Operands.{IsNoNetworkText, IsUnlisted, IsUnread
 use Rattle.cidr_lists.specs.Faults.{AreTellings}
 use Rattle.netset_commands.specs.Keeping.{IsBegun, IsGoodFile, IsLoadError, good_files, kind_of, lined, takes_file}
 use Rattle.cidr_lists.specs.Messages.{fault_line, fault_words}
+use Rattle.cidr_lists.specs.LookUps.{telling_by}
 use Rattle.cidr_lists.specs.Tables.{IsTable}
 use Rattle.netset_commands.specs.Look.{IsLookCut, IsUnreadTable}
-use Rattle.netset_commands.specs.Stored.{IsNoTable, IsNotGiven}
+use Rattle.netset_commands.specs.Smallest.{IsNoHole}
+use Rattle.netset_commands.specs.Stored.{HasUnfitRow, IsNoTable, IsNotGiven}
 use Rattle.netset_commands.specs.Matching.{has, written_of, IsEndedBy, IsEndedIn, Picks}
 use Rattle.netset_commands.specs.Streaming.{IsCutShort}
 use Rattle.netset_commands.specs.Picking.{Choice, IsAsked, IsBadChoice, IsChosen}
+use Rattle.netset_commands.specs.Same.{AreUnreadTables}
 use Rattle.netset_commands.specs.Single.{HasNone, IsBadSingle, IsNoNetwork, IsNumber}
 use Rattle.netset_commands.specs.Unchecked.{IsUnchecked}
 use Rattle.netset_commands.specs.Which.{IsNoAddressArgument}
@@ -37,7 +40,7 @@ use Rattle.cidr.specs.declared.addr.ip.IpAddr.{IpAddr}
 use Rattle.netset_commands.specs.declared.errors.ArgumentError.{ArgumentError}
 use Rattle.netset_commands.specs.declared.errors.ArgumentError.TheVariants as bad
 use Rattle.netset_commands.specs.declared.errors.FileError.{FileError}
-use Rattle.netset_commands.specs.declared.errors.FileError.TheVariants.{TooLarge, NotSaved, Unlike, Version, Short, Long, Changed}
+use Rattle.netset_commands.specs.declared.errors.FileError.TheVariants.{TooLarge, NotSaved, Hole, Unlike, Version, Short, Long, Changed}
 use Rattle.netset_commands.specs.declared.commands.AtFault.{AtFault}
 use Rattle.netset_commands.specs.declared.commands.AtFault.TheVariants.{Stop, Tell, Skip}
 use Rattle.netset_commands.specs.declared.commands.Reading.{Reading}
@@ -108,6 +111,7 @@ IsRequestRefused contents (Styled style operation files) (Err e) = IsUnread cont
 IsRequestRefused contents (NotIn style net files) (Err e) = IsWrong (NotIn style net files) e
     ⊎ ((network : IpCidr) × IsIpNetworkText net network × IsUnread contents (read_files files) e)
 IsRequestRefused contents (Diff format old new) (Err e) = IsUnread contents (old ∷ new ∷ []) e
+IsRequestRefused contents (Same form old new) (Err e) = AreUnreadTables form contents old new e
 IsRequestRefused contents (Free style extent pool len used) (Err e) = IsBadArgument (IsBadFree extent len) e
     ⊎ ((n : ℕ) × IsNumber len n × (n ≤ 128) × (most : Option ℕ) × IsMost extent most × IsUnreadPool contents pool used e)
 IsRequestRefused contents (Acl asked file) (Err e) = IsUnreadAcl contents (compared_with asked ++ file ∷ []) e
@@ -122,7 +126,8 @@ IsRequestRefused contents (Match choice options list file) (Err e) = IsBadArgume
 IsRequestRefused contents (MatchEach choice options list files) (Err e) = IsBadArgument (IsBadChoice choice) e
     ⊎ ((column : Column) × IsChosen choice column × IsNotGiven (IsUnread contents (list ∷ [])) (contents list) list e)
 IsRequestRefused contents (Look choice form options table file) (Err e) = IsBadArgument (IsBadChoice choice) e
-    ⊎ ((asked : Asked) × IsAsked choice (has (codes "--any") options) asked × (IsNoTable form (contents table) table e ⊎ IsInputError file e))
+    ⊎ ((asked : Asked) × IsAsked choice (has (codes "--any") options) asked × (IsNoTable form (contents table) table e ⊎ (HasUnfitRow form (contents table) table e ⊎ IsInputError file e)))
+IsRequestRefused contents (Smallest holes form table) (Err e) = IsUnreadTable form (contents table) table e ⊎ IsNoHole holes form (contents table) table e
 IsRequestRefused contents (Describe what operand) (Err e) = IsNoLength what operand × IsUnreadOperand contents operand e
 IsRequestRefused contents (Class operand) (Err e) = IsUnclassed contents operand e
 IsRequestRefused contents (Single request) (Err e) = IsBadArgument (IsBadSingle request) e
@@ -144,18 +149,18 @@ AnswersWhole contents request old new r =
 -- what belongs to the lines that `match` has read of its file, if it was not read to its end, or has lines that are too long
 abbrev pub IsMatchUntil : (List ℕ → Option Text) → Choice → List (List ℕ) → List ℕ → List ℕ → List ℕ → CommandError → Type 0
 IsMatchUntil contents choice options list file answer e = (column : Column) × IsChosen choice column × ((networks text : Text) → contents list ≡ Some networks → contents file ≡ Some text
-    → HoldsOf networks (λ IsIn. IsEndedBy (Picks (has (codes "--any") options) column IsIn (has (codes "-v") options)) [] (written_of options) text.bytes answer e))
+    → HoldsOf networks (λ IsIn. IsEndedBy (has (codes "--header") options) (Picks (has (codes "--any") options) column IsIn (has (codes "-v") options)) [] (written_of options) text.bytes answer e))
 
 -- the same of several files, of which those before this one were read to their ends
 abbrev pub IsMatchEachUntil : (List ℕ → Option Text) → Choice → List (List ℕ) → List ℕ → List (List ℕ) → List ℕ → List ℕ → CommandError → Type 0
 IsMatchEachUntil contents choice options list before file answer e = (column : Column) × IsChosen choice column
     × ((networks : Text) → contents list ≡ Some networks → HoldsOf networks
-    (λ IsIn. IsEndedIn contents (Picks (has (codes "--any") options) column IsIn (has (codes "-v") options)) (written_of options) before file answer e))
+    (λ IsIn. IsEndedIn contents (has (codes "--header") options) (Picks (has (codes "--any") options) column IsIn (has (codes "-v") options)) (written_of options) before file answer e))
 
 -- the same of `look`
 abbrev pub IsLookUntil : (List ℕ → Option Text) → Choice → RowForm → List (List ℕ) → List ℕ → List ℕ → List ℕ → CommandError → Type 0
 IsLookUntil contents choice form options table file answer e = (asked : Asked) × IsAsked choice (has (codes "--any") options) asked
-    × ((rows text : Text) → contents table ≡ Some rows → contents file ≡ Some text → IsLookCut (has (codes "--keep") options) asked form rows text.bytes answer e)
+    × ((rows text : Text) → contents table ≡ Some rows → contents file ≡ Some text → IsLookCut (has (codes "--header") options) (telling_by form.values (has (codes "--keep") options)) asked form rows text.bytes answer e)
 
 -- the error is that the table that a text says is too large for a file, or that the file can't be written
 abbrev pub IsNoFile : RowForm → Option Text → List ℕ → List ℕ → CommandError → Type 0
@@ -211,6 +216,7 @@ argument_message bad.Same = codes "the same file as TABLE"
 abbrev pub file_message : FileError → List ℕ
 file_message TooLarge = codes ": too large for a file of look-ups\n"
 file_message NotSaved = codes ": cannot be written\n"
+file_message Hole = codes ": a value is -, which with --holes stands for none\n"
 file_message Unlike = codes ": no lines, and no file of look-ups\n"
 file_message Version = codes ": a file of look-ups of another version\n"
 file_message Short = codes ": a file of look-ups that is cut short\n"

@@ -38,20 +38,11 @@ HasNone network n = (n < length (network_prefix network)) ⊎ (width_of (network
 abbrev pub split_text : Option Style → IpCidr → ℕ → List ℕ
 split_text style network n = printed_walk style (subnets_of (network_family network) (network_prefix network) n)
 
--- how many addresses a network has
-abbrev pub count_in : IpCidr → ℕ
-count_in network = 2 ^ (width_of (network_family network) - length (network_prefix network))
-
--- this is the address at index i of a network
-abbrev pub IsNthAddress : IpCidr → ℕ → IpAddr → Type 0
-IsNthAddress network i address =
-    (address_family address ≡ network_family network)
-    × IsAddressAt (width_of (network_family network)) (network_prefix network) i (plain_bits address)
-
 -- the address at index i of a network as a line, or nothing where the network has no more addresses than that
 abbrev pub IsNthText : IpCidr → ℕ → List ℕ → Verdict → Type 0
-IsNthText network i answer Yes = (address : IpAddr) × IsNthAddress network i address × (answer ≡ line (ip_text address))
-IsNthText network i answer No = (count_in network ≤ i) × (answer ≡ [])
+IsNthText network i answer Yes = (address : IpAddr) × (address_family address ≡ network_family network)
+    × IsAddressAt (width_of (network_family network)) (network_prefix network) i (plain_bits address) × (answer ≡ line (ip_text address))
+IsNthText network i answer No = (2 ^ (width_of (network_family network) - length (network_prefix network)) ≤ i) × (answer ≡ [])
 
 -- what a request is answered with
 abbrev pub IsSingleAnswer : SingleRequest → List ℕ → Verdict → Type 0

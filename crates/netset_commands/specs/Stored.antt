@@ -11,7 +11,10 @@ use Rattle.cidr_files.specs.declared.faults.Fault.TheVariants as fault
 use Rattle.cidr_files.specs.declared.faults.TableFault.{TableFault}
 use Rattle.cidr_files.specs.declared.faults.TableFault.TheVariants as in_table
 use Rattle.cidr_files.specs.declared.layout.Table.{Table}
+use Rattle.cidr_lists.specs.declared.errors.LineError.{LineError}
+use Rattle.cidr_lists.specs.declared.formats.LineFormat.{LineFormat}
 use Rattle.cidr_lists.specs.declared.forms.RowForm.{RowForm}
+use Rattle.cidr_lists.specs.Forms.{IsUnfitAt}
 use Rattle.cidr_lists.specs.Lists.{Text}
 use Rattle.netset_commands.specs.Compiled.{HasTable, begins_file}
 use Rattle.netset_commands.specs.Look.{IsUnreadTable}
@@ -46,6 +49,16 @@ IsNotGiven IsOther contents name e = IsOther e
 -- the same of a table
 abbrev pub IsNoTable : RowForm → Option Text → List ℕ → CommandError → Type 0
 IsNoTable form contents name e = IsNotGiven (IsUnreadTable form contents name) contents name e
+
+-- a row of this number among those of its family, from 1 on, has a value that can't be told in the format
+abbrev pub IsUnfitIn : LineFormat → (Family → List (List Bool × List ℕ)) → ℕ → LineError → Type 0
+IsUnfitIn format table number e = (family : Family) × IsUnfitAt format (table family) number e
+
+-- that of a file of look-ups
+abbrev pub HasUnfitRow : RowForm → Option Text → List ℕ → CommandError → Type 0
+HasUnfitRow form contents name (error.Line file number e) = (file.now ≡ name) × ((text : Text) → contents ≡ Some text
+    → (table : Family → List (List Bool × List ℕ)) × HasTable table text.bytes × IsUnfitIn form.values table number e)
+HasUnfitRow form contents name e = ⊥
 
 -- ---- what private functions promise
 -- the rows of a table in a file, from one on that has this place: each network by its bits, and its value
@@ -84,3 +97,8 @@ abbrev pub ChecksFile : List ℕ → List ℕ → Result (List (List Bool × Lis
 ChecksFile name bytes (Ok rows) = HasTable (by_family rows) bytes
 ChecksFile name bytes (Err (error.File file why)) = (file.now ≡ name) × IsFaultTold bytes why
 ChecksFile name bytes (Err e) = e ≡ error.NoMemory
+
+-- the error of a row that can't be told in a format, in the file of a name
+abbrev pub TellsUnfit : LineFormat → (Family → List (List Bool × List ℕ)) → List ℕ → CommandError → Type 0
+TellsUnfit format table name (error.Line file number e) = (file.now ≡ name) × IsUnfitIn format table number e
+TellsUnfit format table name e = ⊥

@@ -20,14 +20,17 @@ pub record ReadTo {S : Type 0} (Say : List (List ℕ) → S → Type 0) (all rea
   pub are : Say read said
 
 -- what the error says of the lines: if it is one of a line, the first that is left is in error
-abbrev pub IsStop : (List ℕ → LineError → Type 0) → List (List ℕ) → List (List ℕ) → CommandError → Type 0
+abbrev pub IsStop : (List (List ℕ) → List ℕ → LineError → Type 0) → List (List ℕ) → List (List ℕ) → CommandError → Type 0
 IsStop IsBad read left (error.Line name number e) = (number ≡ length read + 1)
-    × (line : List ℕ) × (after : List (List ℕ)) × (left ≡ line ∷ after) × IsBad line e
+    × (line : List ℕ) × (after : List (List ℕ)) × (left ≡ line ∷ after) × IsBad read line e
 IsStop IsBad read left e = Unit {0}
 
--- lines were read up to some that are left, for this reason
+-- lines were read up to some that are left, for this reason, where a line may be in error by those before it, or by itself alone
+abbrev pub IsCutBehind : {S : Type 0} → (List (List ℕ) → S → Type 0) → (List (List ℕ) → List ℕ → LineError → Type 0) → List (List ℕ) → S → CommandError → Type 0
+IsCutBehind Say IsBad all said e = (read left : List (List ℕ)) × ReadTo Say all read left said × IsStop IsBad read left e
+
 abbrev pub IsCut : {S : Type 0} → (List (List ℕ) → S → Type 0) → (List ℕ → LineError → Type 0) → List (List ℕ) → S → CommandError → Type 0
-IsCut Say IsBad all said e = (read left : List (List ℕ)) × ReadTo Say all read left said × IsStop IsBad read left e
+IsCut Say IsBad all said e = IsCutBehind Say (λ before. IsBad) all said e
 
 -- a text was written; or the output has failed, and a beginning of it was written, none if it had failed before
 abbrev pub IsWritten : State → State → List ℕ → CommandError → Type 0

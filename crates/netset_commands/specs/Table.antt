@@ -6,9 +6,9 @@ use Rattle.netset_commands.specs.declared.commands.describe.Description.{Descrip
 use Rattle.netset_commands.specs.declared.commands.describe.Description.TheVariants.{Zones, Masks}
 use Rattle.netset_commands.specs.declared.commands.operations.Operation.{Operation}
 use Rattle.netset_commands.specs.declared.commands.operations.Operation.TheVariants.{Merge, Nets, Minus, And, Not, Ranges, Count}
-use Rattle.netset_commands.specs.declared.commands.table.TheConstants.{COMMANDS, MERGE, NETS, MINUS, AND, NOT, RANGES, COUNT, DIFF, FREE, ACL, CHECK, WHICH, MATCH, LOOK, COMPILE, REVERSE, MASK, CLASS, SHOW, SPLIT, NTH, HELP, VERSION, OPTIONS, HOST_BITS, KEEP_GOING, SKIP_BAD, FORMS, FORMAT, OUTPUT, LISTS}
+use Rattle.netset_commands.specs.declared.commands.table.TheConstants.{COMMANDS, MERGE, NETS, MINUS, AND, NOT, RANGES, COUNT, DIFF, SAME, FREE, ACL, CHECK, WHICH, MATCH, LOOK, COMPILE, SMALLEST, REVERSE, MASK, CLASS, SHOW, SPLIT, NTH, HELP, VERSION, OPTIONS, HOST_BITS, KEEP_GOING, SKIP_BAD, FORMS, FORMAT, OUTPUT, LISTS}
 use Rattle.netset_commands.specs.declared.commands.table.Verb.{Verb}
-use Rattle.netset_commands.specs.declared.commands.table.Verb.TheVariants.{Lists, Diff, Free, Acl, Check, Which, Match, Look, Compile, Describe, Class, Show, Split, Nth, Help, Version}
+use Rattle.netset_commands.specs.declared.commands.table.Verb.TheVariants.{Lists, Diff, Same, Free, Acl, Check, Which, Match, Look, Compile, Smallest, Describe, Class, Show, Split, Nth, Help, Version}
 use denote.Ref.{Bor}
 
 -- the bytes of some words
@@ -73,13 +73,15 @@ abbrev pub row_of : Verb → Row
 row_of (Lists op) = row (lists_row op).0 list_options (lists_row op).1.0 (lists_row op).1.1.0 None (lists_row op).1.1.1
 row_of (Describe what) = row (told_row what).0 list_options output_values (told_row what).1.0 (Some 1) (told_row what).1.1
 row_of Diff = row (codes "diff") list_options (codes "--format" ∷ output_values) two_lists (Some 2) DIFF.now
+row_of Same = row (codes "same") list_options (codes "--form" ∷ codes "--table-separator" ∷ output_values) two_lists (Some 2) SAME.now
 row_of Free = row (codes "free") (codes "--all" ∷ list_options) (codes "--count" ∷ style_values) (codes "POOL" ∷ codes "LEN" ∷ []) None FREE.now
 row_of Acl = row (codes "acl") (codes "--shadowed" ∷ codes "--host-bits" ∷ codes "--masks" ∷ help_options) (codes "--diff" ∷ style_values) (codes "RULES" ∷ []) (Some 1) ACL.now
 row_of Check = row (codes "check") keep_options [] [] None CHECK.now
 row_of Which = row (codes "which") keep_options [] (codes "ADDR" ∷ []) None WHICH.now
-row_of Match = row (codes "match") (codes "--any" ∷ codes "-v" ∷ codes "-c" ∷ codes "-q" ∷ list_options) (codes "--field" ∷ codes "--separator" ∷ []) (codes "LIST" ∷ []) None MATCH.now
-row_of Look = row (codes "look") (codes "--any" ∷ codes "--keep" ∷ list_options) (codes "--field" ∷ codes "--separator" ∷ codes "--form" ∷ codes "--table-separator" ∷ []) (codes "TABLE" ∷ []) (Some 2) LOOK.now
+row_of Match = row (codes "match") (codes "--any" ∷ codes "--header" ∷ codes "-v" ∷ codes "-c" ∷ codes "-q" ∷ list_options) (codes "--field" ∷ codes "--separator" ∷ []) (codes "LIST" ∷ []) None MATCH.now
+row_of Look = row (codes "look") (codes "--any" ∷ codes "--header" ∷ codes "--keep" ∷ list_options) (codes "--field" ∷ codes "--separator" ∷ codes "--form" ∷ codes "--table-separator" ∷ codes "--format" ∷ []) (codes "TABLE" ∷ []) (Some 2) LOOK.now
 row_of Compile = row (codes "compile") (codes "--host-bits" ∷ codes "--masks" ∷ codes "-k" ∷ help_options) (codes "--form" ∷ codes "--table-separator" ∷ []) (codes "TABLE" ∷ codes "OUT" ∷ []) (Some 2) COMPILE.now
+row_of Smallest = row (codes "smallest") (codes "--holes" ∷ list_options) (codes "--form" ∷ codes "--table-separator" ∷ output_values) (codes "TABLE" ∷ []) (Some 1) SMALLEST.now
 row_of Class = row (codes "class") help_options [] (codes "ADDR|FILE" ∷ []) (Some 1) CLASS.now
 row_of Show = row (codes "show") help_options [] (codes "HOST" ∷ []) (Some 1) SHOW.now
 row_of Split = row (codes "split") list_options style_values (codes "NET|FILE" ∷ codes "LEN" ∷ []) (Some 2) SPLIT.now
@@ -90,28 +92,16 @@ row_of Version = row (codes "--version") help_options [] [] (Some 0) VERSION.now
 abbrev pub name_of : Verb → List ℕ
 name_of command = (row_of command).name
 
-abbrev pub options_of : Verb → List (List ℕ)
-options_of command = (row_of command).options
-
-abbrev pub values_of : Verb → List (List ℕ)
-values_of command = (row_of command).values
-
-abbrev pub needed_of : Verb → List (List ℕ)
-needed_of command = (row_of command).needed
-
-abbrev pub most_of : Verb → Option ℕ
-most_of command = (row_of command).most
-
 abbrev pub about_of : Verb → List ℕ
 about_of command = (row_of command).about
 
 -- it has this option with a value
 abbrev pub takes_value : Verb → List ℕ → Bool
-takes_value command option = has option (values_of command)
+takes_value command option = has option (row_of command).values
 
 -- a note on an option, if the command has the option
 abbrev pub note_of : Verb → List ℕ → List ℕ → List ℕ
-note_of command option note = if has option (options_of command) || takes_value command option then note else []
+note_of command option note = if has option (row_of command).options || takes_value command option then note else []
 
 -- the page of a command, or of all
 abbrev pub help_text : Option Verb → List ℕ

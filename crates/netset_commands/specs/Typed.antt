@@ -6,12 +6,13 @@ use Rattle.cidr.specs.declared.family.Family.TheVariants.{Ipv4, Ipv6}
 use Rattle.cidr_io.specs.Writing.{State, Whole, Tells}
 use Rattle.cidr_lists.specs.Lists.{Text}
 use Rattle.cidr_lists.specs.declared.columns.Separator.TheVariants.{WhiteSpace, Byte}
-use Rattle.cidr_lists.specs.declared.forms.RowForm.{RowForm}
-use Rattle.cidr_lists.specs.declared.forms.RowForm.TheVariants.{Fields, Pfx2as, Routes}
+use Rattle.cidr_lists.specs.declared.formats.LineFormat.TheVariants.{Plain, Json}
+use Rattle.cidr_lists.specs.declared.forms.RowLayout.{RowLayout}
+use Rattle.cidr_lists.specs.declared.forms.RowLayout.TheVariants.{Fields, Pfx2as, Routes}
 use Rattle.cidr_lists.specs.Formats.{IsBare, Style, format_name, line_style}
 use Rattle.cidr_lists.specs.Rules.{compared_with, is_shadowed, style_asked}
 use Rattle.netset_commands.specs.Arguments.{asks_help, is_option, missing_operand, takes, tells_two_ways}
-use Rattle.netset_commands.specs.Commands.{Request, Lists, Styled, NotIn, Diff, Free, Acl, Split, Check, Which, Match, MatchEach, Look, Compile, Describe, Class, Single, Help, Version, IsAnswer, bits_of, input_name}
+use Rattle.netset_commands.specs.Commands.{Request, Lists, Styled, NotIn, Diff, Same, Free, Acl, Split, Check, Which, Match, MatchEach, Look, Compile, Smallest, Describe, Class, Single, Help, Version, IsAnswer, bits_of, input_name}
 use Rattle.netset_commands.specs.Free.{First, Count, All}
 use Rattle.netset_commands.specs.Matching.{has}
 use Rattle.netset_commands.specs.Picking.{Choice, FirstField, FieldOf}
@@ -32,8 +33,7 @@ AreTyped command options valued operands words = (words ≡ name_of command ∷ 
 
 -- the same of a list and a file, or without the file of a list and the standard input
 abbrev pub AreTypedFor : Verb → List (List ℕ) → List (List ℕ) → List ℕ → List ℕ → List (List ℕ) → Type 0
-AreTypedFor command options valued list file words =
-    AreTyped command options valued (list ∷ file ∷ []) words ⊎ ((file ≡ input_name) × AreTyped command options valued (list ∷ []) words)
+AreTypedFor command options valued list file words = AreTyped command options valued (list ∷ file ∷ []) words ⊎ ((file ≡ input_name) × AreTyped command options valued (list ∷ []) words)
 
 -- the options of `match` and `look` that tell the field, with their values; --any goes with none of them
 abbrev pub choice_words : Choice → List (List ℕ)
@@ -45,13 +45,13 @@ abbrev pub GoesWith : Choice → List (List ℕ) → Type 0
 GoesWith FirstField options = Unit {0}
 GoesWith (FieldOf number separator) options = has (codes "--any") options ≡ false
 
--- the option of `look` and `compile` that tells how the rows of a table are read, with its value
-abbrev pub form_words : RowForm → List (List ℕ)
-form_words (Fields WhiteSpace) = []
-form_words (Fields (Byte separator)) = codes "--table-separator" ∷ (separator ∷ []) ∷ []
-form_words Pfx2as = codes "--form" ∷ codes "pfx2as" ∷ []
-form_words (Routes Ipv4) = codes "--form" ∷ codes "routes" ∷ []
-form_words (Routes Ipv6) = codes "--form" ∷ codes "routes6" ∷ []
+-- the option of `look`, `compile`, `same` and `smallest` that tells how the rows of a table are laid out, with its value
+abbrev pub layout_words : RowLayout → List (List ℕ)
+layout_words (Fields WhiteSpace) = []
+layout_words (Fields (Byte separator)) = codes "--table-separator" ∷ (separator ∷ []) ∷ []
+layout_words Pfx2as = codes "--form" ∷ codes "pfx2as" ∷ []
+layout_words (Routes Ipv4) = codes "--form" ∷ codes "routes" ∷ []
+layout_words (Routes Ipv6) = codes "--form" ∷ codes "routes6" ∷ []
 
 -- the option that tells a style, with its value
 abbrev pub style_words : Option Style → List (List ℕ)
@@ -65,6 +65,7 @@ IsTyped words options (Styled style operation files) = IsBare (Some style) × (t
     × AreTyped (verb.Lists operation) options (style_words (Some style)) files words
 IsTyped words options (NotIn style net files) = IsBare style × AreTyped (verb.Lists Not) options (codes "--in" ∷ net ∷ style_words style) files words
 IsTyped words options (Diff format old new) = AreTyped verb.Diff options (style_words (line_style format)) (old ∷ new ∷ []) words
+IsTyped words options (Same form old new) = (form.values ≡ Plain) × AreTyped verb.Same options (layout_words form.layout) (old ∷ new ∷ []) words
 IsTyped words options (Free style First pool len used) = IsBare style × (has (codes "--all") options ≡ false) × AreTyped verb.Free options (style_words style) (pool ∷ len ∷ used) words
 IsTyped words options (Free style (Count count) pool len used) = IsBare style
     × (has (codes "--all") options ≡ false) × AreTyped verb.Free options (codes "--count" ∷ count ∷ style_words style) (pool ∷ len ∷ used) words
@@ -79,9 +80,10 @@ IsTyped words options (Match choice given list file) =
 IsTyped words options (MatchEach choice given list (first ∷ second ∷ files)) = (given ≡ options) × GoesWith choice options
     × AreTyped verb.Match options (choice_words choice) (list ∷ first ∷ second ∷ files) words
 IsTyped words options (MatchEach choice given list files) = ⊥
-IsTyped words options (Look choice form given table file) =
-    (given ≡ options) × GoesWith choice options × AreTypedFor verb.Look options (choice_words choice ++ form_words form) table file words
-IsTyped words options (Compile form table name) = AreTyped verb.Compile options (form_words form) (table ∷ name ∷ []) words
+IsTyped words options (Look choice form given table file) = (given ≡ options) × GoesWith choice options × (form.values ≡ Json → has (codes "--keep") options ≡ false)
+    × AreTypedFor verb.Look options (choice_words choice ++ (layout_words form.layout ++ style_words (line_style form.values))) table file words
+IsTyped words options (Compile form table name) = (form.values ≡ Plain) × AreTyped verb.Compile options (layout_words form.layout) (table ∷ name ∷ []) words
+IsTyped words options (Smallest holes form table) = (has (codes "--holes") options ≡ holes) × (form.values ≡ Plain) × AreTyped verb.Smallest options (layout_words form.layout) (table ∷ []) words
 IsTyped words options (Describe what operand) = AreTyped (verb.Describe what) options [] (operand ∷ []) words
 IsTyped words options (Class operand) = AreTyped verb.Class options [] (operand ∷ []) words
 IsTyped words options (Single (Show host)) = AreTyped verb.Show options [] (host ∷ []) words

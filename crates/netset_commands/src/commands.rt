@@ -24,7 +24,9 @@ pub mod look;
 pub mod matching;
 pub mod operations;
 pub mod picking;
+pub mod same;
 pub mod single;
+pub mod smallest;
 pub mod split;
 pub mod table;
 pub mod which;
@@ -56,6 +58,8 @@ pub enum Command<'a> {
     NotIn(Option<Style<'a>>, &'a str, &'a [&'a str]),
     /// What the second file adds to the first one, and what it lacks, and how that is written.
     Diff(LineFormat, &'a str, &'a str),
+    /// How rows are read, and two tables, of which it is told where they differ.
+    Same(RowForm, &'a str, &'a str),
     /// The free networks of a prefix length in a pool, of whose addresses others are used.
     Free(Option<Style<'a>>, Extent<'a>, &'a str, &'a str, &'a [&'a str]),
     /// What is asked of an access list.
@@ -75,6 +79,8 @@ pub enum Command<'a> {
     Look(Choice<'a>, RowForm, &'a [&'a str], &'a str, &'a str),
     /// How rows are read, the table that is compiled, and the file that is written.
     Compile(RowForm, &'a str, &'a str),
+    /// Whether rows may be holes, how rows are read, and the table that is told in the fewest rows.
+    Smallest(bool, RowForm, &'a str),
     /// What is told of a network, an address or the networks of a list.
     Describe(Description, &'a str),
     /// What an address, or the addresses of a file, are for.
@@ -88,7 +94,7 @@ pub enum Command<'a> {
 }
 
 /// What is done at a line in error.
-#[derive(Clone, Copy, Debug, Drop, PartialEq)]
+#[derive(Clone, Copy, Drop)]
 pub enum AtFault {
     /// It is told, and no line behind it is read.
     Stop,
@@ -99,7 +105,7 @@ pub enum AtFault {
 }
 
 /// How lists are read.
-#[derive(Clone, Copy, Debug, Drop, PartialEq)]
+#[derive(Clone, Copy, Drop)]
 pub struct Reading {
     /// What is done with a set bit after the prefix of a network.
     pub host_bits: HostBits,
@@ -173,7 +179,7 @@ impl<'a> Command<'a> {
                 }
                 names.extend_from_slice(files)?;
             }
-            Command::Diff(_, old, new) => {
+            Command::Diff(_, old, new) | Command::Same(_, old, new) => {
                 names.push(*old)?;
                 names.push(*new)?;
             }
@@ -185,6 +191,7 @@ impl<'a> Command<'a> {
             | Command::MatchEach(_, _, list, _)
             | Command::Look(_, _, _, list, _)
             | Command::Compile(_, list, _)
+            | Command::Smallest(_, _, list)
             | Command::Split(_, list, _)
             | Command::Describe(_, list) => names.push(*list)?,
             Command::Acl(_, _)
@@ -208,6 +215,7 @@ impl<'a> Command<'a> {
             | Command::Styled(_, _, _)
             | Command::NotIn(_, _, _)
             | Command::Diff(_, _, _)
+            | Command::Same(_, _, _)
             | Command::Acl(_, _)
             | Command::Check(_)
             | Command::Which(_, _)
@@ -215,6 +223,7 @@ impl<'a> Command<'a> {
             | Command::MatchEach(_, _, _, _)
             | Command::Look(_, _, _, _, _)
             | Command::Compile(_, _, _)
+            | Command::Smallest(_, _, _)
             | Command::Class(_)
             | Command::Single(_)
             | Command::Help(_)
@@ -277,7 +286,10 @@ impl<'a> Command<'a> {
     {
         match self {
             Command::Check(_) | Command::Which(_, _) => Kind::Hosts,
-            Command::Look(_, form, _, _, _) | Command::Compile(form, _, _) => Kind::Rows(*form),
+            Command::Look(_, form, _, _, _)
+            | Command::Compile(form, _, _)
+            | Command::Same(form, _, _)
+            | Command::Smallest(_, form, _) => Kind::Rows(*form),
             _ => Kind::Networks,
         }
     }

@@ -7,7 +7,7 @@ use cidr_lists::errors::LineError;
 use std::alloc::AllocError;
 
 /// Why a list can't be read.
-#[derive(Debug, Drop)]
+#[derive(Drop)]
 pub enum ReadError {
     /// The first line in error, counted from 1.
     Line(u64, LineError),
@@ -18,7 +18,7 @@ pub enum ReadError {
 }
 
 /// Why a file can't be read, as far as the system tells it.
-#[derive(Clone, Copy, Debug, Drop, PartialEq)]
+#[derive(Clone, Copy, Drop)]
 pub enum Reason {
     /// There is no file of this name.
     NotFound,
@@ -31,7 +31,7 @@ pub enum Reason {
 }
 
 /// What is wrong with a word of the arguments.
-#[derive(Clone, Copy, Debug, Drop, PartialEq)]
+#[derive(Clone, Copy, Drop)]
 pub enum Misfit {
     /// It stands for the command, which is missing.
     Unnamed,
@@ -65,10 +65,12 @@ pub enum Misfit {
     NotOneByte,
     /// It is an option that does not go with `--form`.
     WithForm,
+    /// It is an option that does not go with the format `json`.
+    WithJson,
 }
 
 /// Why the arguments are no command.
-#[derive(Clone, Copy, Debug, Drop)]
+#[derive(Clone, Copy, Drop)]
 pub struct Misuse<'a> {
     /// The first word that is wrong, or the name of what is missing.
     pub word: &'a str,
@@ -79,7 +81,7 @@ pub struct Misuse<'a> {
 }
 
 /// Why there is no command to answer.
-#[derive(Debug, Drop)]
+#[derive(Drop)]
 pub enum UsageError<'a> {
     /// The arguments are none.
     Misuse(Misuse<'a>),
@@ -99,7 +101,7 @@ impl From<AllocError> for UsageError<'_> {
 }
 
 /// Why an argument is wrong.
-#[derive(Debug, Drop)]
+#[derive(Drop)]
 pub enum ArgumentError {
     /// It is no network or no host: its first fault, if it has one, and the error of parsing it.
     Network(Option<TextFault>, NetworkParseError),
@@ -125,13 +127,15 @@ pub enum ArgumentError {
     Same,
 }
 
-/// Why a file is not written, or one of look-ups not read.
-#[derive(Clone, Copy, Debug, Drop, PartialEq)]
+/// Why a file is not written, or one of look-ups not read, or its table not told.
+#[derive(Clone, Copy, Drop)]
 pub enum FileError {
     /// The table has 2^31 networks of a family or more, or values of 2^32 bytes or more.
     TooLarge,
     /// The file can't be written; if there was one, it is left as it was.
     NotSaved,
+    /// A value of the table is `-`, which is written where addresses have none.
+    Hole,
     /// It has the first byte of a file of look-ups, with which no line begins, and not the others of its first word.
     Unlike,
     /// It is of a version that is not read, such as a newer one.
@@ -146,7 +150,7 @@ pub enum FileError {
 
 /// Why a command gave no answer. But for a failed output nothing was written, or, by those that answer line by line, as
 /// `match`, `look` and `class` do, what belongs to the lines before.
-#[derive(Debug, Drop)]
+#[derive(Drop)]
 pub enum CommandError<'a> {
     /// The first argument that is wrong, and why.
     Argument(&'a str, ArgumentError),
@@ -159,7 +163,7 @@ pub enum CommandError<'a> {
     /// The output has failed; a beginning of the answer was written.
     Output,
     /// No file is written, since the table of this name doesn't fit in one of look-ups, or the file of this name can't be
-    /// written; or the file of this name begins as one of look-ups and is none.
+    /// written; or the file of this name begins as one of look-ups and is none, or has a value that is no value.
     File(&'a str, FileError),
 }
 

@@ -6,6 +6,7 @@ pub mod files;
 pub mod good;
 pub mod keeping;
 pub mod lists;
+pub mod numbers;
 pub mod operands;
 pub mod rows;
 pub mod several;

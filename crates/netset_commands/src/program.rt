@@ -30,7 +30,9 @@ use crate::commands::look::look;
 use crate::commands::matching::{match_each, matching};
 use crate::commands::operations::{Operation, form_of};
 use crate::commands::picking::column_of;
+use crate::commands::same::same;
 use crate::commands::single::{answer_single, network_of};
+use crate::commands::smallest::smallest;
 use crate::commands::split::split;
 use crate::commands::table::Verb;
 use crate::commands::which::{address_of, which};
@@ -124,6 +126,7 @@ fn answer<'a, M: Memory, F: Sources, D: Folder, O: Sink>(
         }
         Command::NotIn(style, net, files) => not_in(memory, sources, style, net, files, out),
         Command::Diff(format, old, new) => diff(memory, sources, format, old, new, out),
+        Command::Same(form, old, new) => same(memory, sources, form, old, new, out),
         Command::Free(style, extent, pool, len, used) => {
             free(memory, sources, style, extent, pool, len, used, out)
         }
@@ -142,6 +145,9 @@ fn answer<'a, M: Memory, F: Sources, D: Folder, O: Sink>(
         }
         Command::Compile(form, table, name) => {
             compile(memory, sources, form, table, name, folder)
+        }
+        Command::Smallest(holes, form, table) => {
+            smallest(memory, sources, holes, form, table, out)
         }
         Command::Describe(what, operand) => describe(memory, sources, what, operand, out),
         Command::Class(operand) => class(memory, sources, operand, out),
@@ -184,9 +190,11 @@ fn wrong_argument<'a>(command: Command<'a>) -> Option<CommandError<'a>>
         Command::Lists(_, _)
         | Command::Styled(_, _, _)
         | Command::Diff(_, _, _)
+        | Command::Same(_, _, _)
         | Command::Acl(_, _)
         | Command::Check(_)
         | Command::Split(_, _, _)
+        | Command::Smallest(_, _, _)
         | Command::Describe(_, _)
         | Command::Class(_)
         | Command::Single(_)

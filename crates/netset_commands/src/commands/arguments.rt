@@ -1,7 +1,7 @@
 //! The words of a command line as options and operands, and the command that they are.
 ghost use Rattle.std.specs.Prelude.{◌≡◌, ◌<◌, [], Ok, Err, Bool, true, false, length, drop, MatchOption, MatchResult, option_map, slice_get, unwrap_or};
 ghost use Rattle.std.specs.List.{after_first, before_first};
-ghost use Rattle.netset_commands.specs.Arguments.{asks_help, choice_by, choice_in, chosen_style, compile_request, extent_by, extra_operand, form_by, form_in, free_request, fresh, full_name, help_request, is_equals, is_option, is_plain, is_topic, letter_parts, line_parts, lists_request, long_parts, look_by, look_request, made_request, match_by, match_request, missing_operand, misuse_text, named_form, named_format, named_verb, no_option, no_parts, operand_or, part_request, parted_form, parts_from, question_by, short_option, short_parts, some_style, split_request, style_in_values, style_of, taken_value, takes, target_by, target_in, topic_parts, value_of, verb_of, verb_request, word_parts, acl_request, chosen_line_format, compared_in, diff_request, line_format_in, named_line_format, not_given, permitted_in, shadowed_in, without_value};
+ghost use Rattle.netset_commands.specs.Arguments.{asks_help, choice_by, choice_in, chosen_style, compile_request, extent_by, extra_operand, form_in, free_request, fresh, full_name, help_request, is_equals, is_option, is_plain, is_topic, letter_parts, line_parts, lists_request, long_parts, layout_by, layout_in, look_by, look_request, made_request, match_by, match_request, missing_operand, misuse_text, may_keep, named_format, named_layout, named_verb, no_option, no_parts, operand_or, part_request, parted_layout, parts_from, question_by, same_request, short_option, short_parts, smallest_request, some_style, split_request, style_in_values, style_of, taken_value, takes, target_by, target_in, topic_parts, value_of, verb_of, verb_request, word_parts, acl_request, chosen_line_format, compared_in, diff_request, line_format_in, named_line_format, not_given, permitted_in, shadowed_in, without_value};
 ghost use Rattle.netset_commands.specs.Command.{AddsParts, IsUsageError, choice_of, extent_of, given, misuse_line, given_parts, question_of, request_of};
 ghost use Rattle.netset_commands.specs.Matching.{is_word};
 ghost use Rattle.netset_commands.specs.Table.{name_of, takes_value, texts};
@@ -23,11 +23,11 @@ use cidr::Family;
 use cidr_io::memory::Memory;
 use cidr_lists::columns::Separator;
 use cidr_lists::formats::{Format, LineFormat, Style, format_of};
-use cidr_lists::forms::RowForm;
+use cidr_lists::forms::{RowForm, RowLayout};
 use std::alloc::Global;
 
 /// What the next word behind a command is.
-#[derive(Clone, Copy, Debug, Drop, PartialEq)]
+#[derive(Clone, Copy, Drop)]
 pub enum Next {
     /// An option or an operand.
     Any,
@@ -297,13 +297,10 @@ fn verb_of(word: &str) -> Option<Verb>
     ensures { result ≡ verb_of word.now }
 {
     let name = full_name(word);
-    let commands = commands();
-    for command in commands {
-        if name_of(*command) == name {
-            return Some(*command);
-        }
-    }
-    None
+    commands()
+        .iter()
+        .find(|command| name_of(**command) == name)
+        .copied()
 }
 
 /// The same, or that there is none.
@@ -857,19 +854,19 @@ fn match_command<'a>(parts: &'a Parts<'a>) -> Result<Command<'a>, Misuse<'a>>
     Ok(match_by(choice, parts))
 }
 
-/// The form of tables of a name.
-fn named_form<'a>(command: Verb, name: &'a str) -> Result<RowForm, Misuse<'a>>
-    ensures { MatchResult result (λ form. named_form command name.now ≡ Ok form)
-        (λ misuse. named_form command name.now ≡ Err (misuse_line misuse)) }
+/// The layout of the rows of tables in a form of this name.
+fn named_layout<'a>(command: Verb, name: &'a str) -> Result<RowLayout, Misuse<'a>>
+    ensures { MatchResult result (λ layout. named_layout command name.now ≡ Ok layout)
+        (λ misuse. named_layout command name.now ≡ Err (misuse_line misuse)) }
 {
     if name == "pfx2as" {
-        return Ok(RowForm::Pfx2as);
+        return Ok(RowLayout::Pfx2as);
     }
     if name == "routes" {
-        return Ok(RowForm::Routes(Family::Ipv4));
+        return Ok(RowLayout::Routes(Family::Ipv4));
     }
     if name == "routes6" {
-        return Ok(RowForm::Routes(Family::Ipv6));
+        return Ok(RowLayout::Routes(Family::Ipv6));
     }
     Err(Misuse {
         word: name,
@@ -878,13 +875,13 @@ fn named_form<'a>(command: Verb, name: &'a str) -> Result<RowForm, Misuse<'a>>
     })
 }
 
-/// The form of tables of fields with a byte between them.
-fn parted_form<'a>(command: Verb, separator: &'a str) -> Result<RowForm, Misuse<'a>>
-    ensures { MatchResult result (λ form. parted_form command separator.now ≡ Ok form)
-        (λ misuse. parted_form command separator.now ≡ Err (misuse_line misuse)) }
+/// The layout of rows of fields with a byte between them.
+fn parted_layout<'a>(command: Verb, separator: &'a str) -> Result<RowLayout, Misuse<'a>>
+    ensures { MatchResult result (λ layout. parted_layout command separator.now ≡ Ok layout)
+        (λ misuse. parted_layout command separator.now ≡ Err (misuse_line misuse)) }
 {
     match separator.as_bytes() {
-        [byte] => Ok(RowForm::Fields(Separator::Byte(*byte))),
+        [byte] => Ok(RowLayout::Fields(Separator::Byte(*byte))),
         _ => Err(Misuse {
             word: separator,
             why: Misfit::NotOneByte,
@@ -893,19 +890,19 @@ fn parted_form<'a>(command: Verb, separator: &'a str) -> Result<RowForm, Misuse<
     }
 }
 
-/// How the rows of a table are read, by the values of `--form` and `--table-separator`.
-fn form_by<'a>(
+/// How the rows of a table are laid out, by the values of `--form` and `--table-separator`.
+fn layout_by<'a>(
     command: Verb,
     name: Option<&'a str>,
     separator: Option<&'a str>,
-) -> Result<RowForm, Misuse<'a>>
-    ensures { MatchResult result (λ form. form_by command (given name.entry) (given separator.entry) ≡ Ok form)
-        (λ misuse. form_by command (given name.entry) (given separator.entry) ≡ Err (misuse_line misuse)) }
+) -> Result<RowLayout, Misuse<'a>>
+    ensures { MatchResult result (λ layout. layout_by command (given name.entry) (given separator.entry) ≡ Ok layout)
+        (λ misuse. layout_by command (given name.entry) (given separator.entry) ≡ Err (misuse_line misuse)) }
 {
     match (name, separator) {
-        (None, None) => Ok(RowForm::Fields(Separator::WhiteSpace)),
-        (None, Some(separator)) => parted_form(command, separator),
-        (Some(name), None) => named_form(command, name),
+        (None, None) => Ok(RowLayout::Fields(Separator::WhiteSpace)),
+        (None, Some(separator)) => parted_layout(command, separator),
+        (Some(name), None) => named_layout(command, name),
         (Some(_), Some(_)) => Err(Misuse {
             word: "--table-separator",
             why: Misfit::WithForm,
@@ -915,27 +912,61 @@ fn form_by<'a>(
 }
 
 /// The same by the options with a value.
+fn layout_in<'a>(command: Verb, values: &[&'a str]) -> Result<RowLayout, Misuse<'a>>
+    ensures { MatchResult result (λ layout. layout_in command (texts values.now) ≡ Ok layout)
+        (λ misuse. layout_in command (texts values.now) ≡ Err (misuse_line misuse)) }
+{
+    let name = value_of(command, "--form", values)?;
+    let separator = value_of(command, "--table-separator", values)?;
+    layout_by(command, name, separator)
+}
+
+/// How the rows of a table are read, whose values are told in the format that is asked for.
 fn form_in<'a>(command: Verb, values: &[&'a str]) -> Result<RowForm, Misuse<'a>>
     ensures { MatchResult result (λ form. form_in command (texts values.now) ≡ Ok form)
         (λ misuse. form_in command (texts values.now) ≡ Err (misuse_line misuse)) }
 {
-    let name = value_of(command, "--form", values)?;
-    let separator = value_of(command, "--table-separator", values)?;
-    form_by(command, name, separator)
+    let layout = layout_in(command, values)?;
+    let format = line_format_in(command, values)?;
+    Ok(RowForm {
+        layout,
+        values: format,
+    })
+}
+
+/// Whether lines may be kept, if they are: in text alone.
+fn may_keep<'a>(format: LineFormat, keeps: bool) -> Result<(), Misuse<'a>>
+    ensures { MatchResult result (λ _. may_keep format keeps ≡ Ok tt) (λ misuse. may_keep format keeps ≡ Err (misuse_line misuse)) }
+{
+    match (format, keeps) {
+        (LineFormat::Plain, _) | (LineFormat::Json, false) => Ok(()),
+        (LineFormat::Json, true) => Err(Misuse {
+            word: "--keep",
+            why: Misfit::WithJson,
+            command: "look",
+        }),
+    }
 }
 
 /// The command `look`, of a table and a file or the standard input.
-fn look_by<'a>(choice: Choice<'a>, form: RowForm, parts: &'a Parts<'a>) -> Command<'a>
-    ensures { request_of result ≡ look_by (choice_of choice.entry) form (given_parts parts.now) }
+fn look_by<'a>(
+    choice: Choice<'a>,
+    form: RowForm,
+    parts: &'a Parts<'a>,
+) -> Result<Command<'a>, Misuse<'a>>
+    ensures { MatchResult result (λ command. look_by (choice_of choice.entry) form (given_parts parts.now) ≡ Ok (request_of command))
+        (λ misuse. look_by (choice_of choice.entry) form (given_parts parts.now) ≡ Err (misuse_line misuse)) }
 {
+    let options = parts.options.as_slice();
     let operands = parts.operands.as_slice();
-    Command::Look(
+    may_keep(form.values, has(options, "--keep"))?;
+    Ok(Command::Look(
         choice,
         form,
-        parts.options.as_slice(),
+        options,
         operand_or(operands, 0, ""),
         operand_or(operands, 1, "-"),
-    )
+    ))
 }
 
 /// The command `look` with the field that it looks up and how the rows of its table are read.
@@ -945,7 +976,7 @@ fn look_command<'a>(parts: &'a Parts<'a>) -> Result<Command<'a>, Misuse<'a>>
 {
     let choice = choice_in(Verb::Look, parts)?;
     let form = form_in(Verb::Look, parts.values.as_slice())?;
-    Ok(look_by(choice, form, parts))
+    look_by(choice, form, parts)
 }
 
 /// The command `compile` with how the rows of its table are read.
@@ -962,6 +993,31 @@ fn compile_command<'a>(parts: &'a Parts<'a>) -> Result<Command<'a>, Misuse<'a>>
     ))
 }
 
+/// The command `same` with how the rows of its tables are read.
+fn same_command<'a>(parts: &'a Parts<'a>) -> Result<Command<'a>, Misuse<'a>>
+    ensures { MatchResult result (λ command. same_request (given_parts parts.now) ≡ Ok (request_of command))
+        (λ misuse. same_request (given_parts parts.now) ≡ Err (misuse_line misuse)) }
+{
+    let operands = parts.operands.as_slice();
+    let form = form_in(Verb::Same, parts.values.as_slice())?;
+    Ok(Command::Same(
+        form,
+        operand_or(operands, 0, ""),
+        operand_or(operands, 1, ""),
+    ))
+}
+
+/// The command `smallest` with whether rows may be holes, and how the rows of its table are read.
+fn smallest_command<'a>(parts: &'a Parts<'a>) -> Result<Command<'a>, Misuse<'a>>
+    ensures { MatchResult result (λ command. smallest_request (given_parts parts.now) ≡ Ok (request_of command))
+        (λ misuse. smallest_request (given_parts parts.now) ≡ Err (misuse_line misuse)) }
+{
+    let operands = parts.operands.as_slice();
+    let holes = has(parts.options.as_slice(), "--holes");
+    let form = form_in(Verb::Smallest, parts.values.as_slice())?;
+    Ok(Command::Smallest(holes, form, operand_or(operands, 0, "")))
+}
+
 /// The command with as many operands as it takes.
 fn verb_command<'a>(verb: Verb, parts: &'a Parts<'a>) -> Result<Command<'a>, Misuse<'a>>
     ensures { MatchResult result (λ command. verb_request verb (given_parts parts.now) ≡ Ok (request_of command))
@@ -971,6 +1027,7 @@ fn verb_command<'a>(verb: Verb, parts: &'a Parts<'a>) -> Result<Command<'a>, Mis
     match verb {
         Verb::Lists(operation) => lists_command(operation, parts.values.as_slice(), operands),
         Verb::Diff => diff_command(parts),
+        Verb::Same => same_command(parts),
         Verb::Free => free_command(parts),
         Verb::Acl => acl_command(parts),
         Verb::Check => Ok(Command::Check(operands)),
@@ -980,6 +1037,7 @@ fn verb_command<'a>(verb: Verb, parts: &'a Parts<'a>) -> Result<Command<'a>, Mis
         Verb::Match => match_command(parts),
         Verb::Look => look_command(parts),
         Verb::Compile => compile_command(parts),
+        Verb::Smallest => smallest_command(parts),
         Verb::Describe(what) => Ok(Command::Describe(what, operand_or(operands, 0, ""))),
         Verb::Class => Ok(Command::Class(operand_or(operands, 0, ""))),
         Verb::Show => Ok(Command::Single(Single::Show(operand_or(operands, 0, "")))),

@@ -2,8 +2,7 @@
 ghost use Rattle.std.specs.Prelude.{◌≡◌, [], IfErr};
 ghost use Rattle.std.specs.List.{flat_map};
 ghost use Rattle.cidr_io.specs.Writing.{Answered, Writes};
-ghost use Rattle.netset_commands.specs.Answering.{changed};
-ghost use Rattle.netset_commands.specs.Changes.{AreSame};
+ghost use Rattle.netset_commands.specs.Answering.{AreSame, changed};
 ghost use Rattle.cidr_lists.specs.Changes.{change_layout_in, change_line, merged, printed_changes};
 ghost use Rattle.cidr_io.specs.Collecting.{Collects};
 ghost use Rattle.netset_commands.specs.Causes.{Cause, FileMayFail};

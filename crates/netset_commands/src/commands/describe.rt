@@ -8,7 +8,8 @@ ghost use Rattle.netset_commands.specs.Answering.{DescribesNetworks};
 ghost use Rattle.netset_commands.specs.Causes.{Cause, FileMayFail};
 ghost use Rattle.netset_commands.specs.Commands.{Describe};
 ghost use Rattle.cidr_lists.specs.Descriptions.{mask_line};
-ghost use Rattle.netset_commands.specs.Describing.{all_told, told_of, zone_lines};
+ghost use Rattle.netset_commands.specs.Describing.{told_of, zone_lines};
+ghost use Rattle.netset_commands.specs.Free.{all_told};
 ghost use Rattle.netset_commands.specs.Program.{AnswersRequest};
 
 use crate::commands::free::length_of;
@@ -27,7 +28,7 @@ use cidr_lists::descriptions::{length_lines, mask_line};
 use cidr_lists::sets::Sets;
 
 /// What is told of a network.
-#[derive(Clone, Copy, Debug, Drop, PartialEq)]
+#[derive(Clone, Copy, Drop)]
 pub enum Description {
     /// The names of its zones in reverse DNS.
     Zones,

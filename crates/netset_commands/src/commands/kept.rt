@@ -1,10 +1,14 @@
-//! Lines that are kept, with the longest networks of their addresses.
-ghost use Rattle.std.specs.Prelude.{◌≡◌, option_map, IfErr, Some};
+//! Addresses that are told one line after the other: with the lines that have them, or as objects of JSON.
+ghost use Rattle.std.specs.Prelude.{◌≡◌, ◌≢◌, option_map, IfErr, IfOk, Some};
+ghost use Rattle.std.specs.List.{flat_map};
 ghost use Rattle.cidr_io.specs.Collecting.{Collects};
-ghost use Rattle.cidr_lists.specs.LookUps.{kept_line};
+ghost use Rattle.cidr_io.specs.Writing.{Writes};
+ghost use Rattle.cidr_lists.specs.LookUps.{kept_line, look_object, told_line};
+ghost use Rattle.cidr_lists.specs.Printing.{line};
+ghost use Rattle.cidr_lists.specs.declared.objects.Telling.TheVariants.{Alone};
 ghost use Rattle.netset_commands.specs.Causes.{Cause, TextFails};
-ghost use Rattle.netset_commands.specs.Gathering.{Stops};
-ghost use Rattle.netset_commands.specs.KeptLines.{HasNetwork, KeepsLine, KeepsPart, KeepsText};
+ghost use Rattle.netset_commands.specs.Gathering.{Stops, lines_of_part};
+ghost use Rattle.netset_commands.specs.KeptLines.{HasNetwork, IsNetworkOf, IsObjectOf, KeepsLine, TellsBy, TellsPart, TellsText, header_text};
 
 use crate::commands::look::{address_asked, verdict_of};
 use crate::commands::matching::{is_line, next_part};
@@ -20,6 +24,9 @@ use cidr_io::memory::Memory;
 use cidr_io::sink::{OutputFailed, Sink};
 use cidr_io::source::Source;
 use cidr_lists::fields::{Asked, joint_of, without_returns};
+use cidr_lists::objects::{Telling, push_object};
+use cidr_lists::printing::block_text;
+use std::alloc::{AllocError, Global};
 
 /// Appends a line to a block, and behind its fields a network and its value.
 fn push_kept<S: Sink>(
@@ -54,6 +61,19 @@ fn push_kept<S: Sink>(
     )
 }
 
+/// The longest network that an address is in, as it is printed, and its value.
+fn network_of<'t, T: Networks>(
+    table: &'t T,
+    address: &IpAddr,
+) -> Option<(ArrayString<43>, &'t [u8])>
+    ensures { IsNetworkOf (T.LookUps.rows table.now) address.now (option_map (λ found. (found.0.bytes, found.1.now)) result) }
+{
+    match table.row(address) {
+        Some((len, value)) => Some((block_text(address, len), value)),
+        None => None,
+    }
+}
+
 /// The longest network of the address that a line has, if it has one, as it is printed, and its value.
 fn network_asked<'t, T: Networks>(
     table: &'t T,
@@ -62,7 +82,7 @@ fn network_asked<'t, T: Networks>(
     ensures { HasNetwork (T.LookUps.rows table.now) asked.now (option_map (λ found. (found.0.bytes, found.1.now)) result) }
 {
     match asked {
-        Some(address) => table.network(address),
+        Some(address) => network_of(table, address),
         None => None,
     }
 }
@@ -91,10 +111,90 @@ fn keep_line<T: Networks, S: Sink>(
     }
 }
 
-/// Appends the line of a part up to a line feed or to the end, if it is one, with the network of its address; tells whether
-/// it has one.
-fn keep_part<'a, T: Networks, S: Sink>(
+/// The object of an address, with the longest network that it is in, and whether there is one. The error is that an
+/// allocation fails.
+fn object_of<T: Networks>(
+    alloc: Global,
     table: &T,
+    address: &IpAddr,
+) -> Result<(Vec<u8>, bool), AllocError>
+    ensures { IfOk result (λ made. IsObjectOf (T.LookUps.rows table.now) address.now made.0.items made.1) }
+{
+    let row = table.row(address);
+    let mut text = Vec::new(alloc);
+    push_object(&mut text, address, row)?;
+    Ok((text, row.is_some()))
+}
+
+/// Appends the object of an address to a block; tells whether a network has the address.
+fn tell_address<'a, T: Networks, M: Memory, S: Sink>(
+    memory: &mut M,
+    table: &T,
+    address: &IpAddr,
+    block: &mut Block,
+    out: &mut S,
+) -> Result<bool, CommandError<'a>>
+    ensures tells { TellsBy look_object (T.LookUps.rows table.now) (Some address.now) (S.state out.old) (S.state out.new)
+        block.old block.new result }
+    ensures cause { IfErr result (Cause (λ _. ⊥) (M.refused memory.new)) }
+{
+    let made = object_of(memory.alloc(), table, address);
+    let object = memory.watch(made)?;
+    match block.push(out, object.0.as_slice()) {
+        Ok(()) => Ok(object.1),
+        Err(_) => Err(CommandError::Output),
+    }
+}
+
+/// The same of the address that a line has, if it has one.
+fn tell_object<'a, T: Networks, M: Memory, S: Sink>(
+    memory: &mut M,
+    table: &T,
+    asked: &Option<IpAddr>,
+    block: &mut Block,
+    out: &mut S,
+) -> Result<bool, CommandError<'a>>
+    ensures tells { TellsBy look_object (T.LookUps.rows table.now) asked.now (S.state out.old) (S.state out.new)
+        block.old block.new result }
+    ensures cause { IfErr result (Cause (λ _. ⊥) (M.refused memory.new)) }
+{
+    match asked {
+        Some(address) => tell_address(memory, table, address, block, out),
+        None => Ok(false),
+    }
+}
+
+/// Appends what is told of a line that has this address, or none, to a block; tells whether a network has the address.
+fn tell_line<'a, T: Networks, M: Memory, S: Sink>(
+    memory: &mut M,
+    table: &T,
+    telling: Telling,
+    place: Asked,
+    line: &[u8],
+    asked: &Option<IpAddr>,
+    block: &mut Block,
+    out: &mut S,
+) -> Result<bool, CommandError<'a>>
+    requires { telling ≢ Alone }
+    ensures tells { TellsBy (told_line telling place line.now) (T.LookUps.rows table.now) asked.now (S.state out.old) (S.state out.new)
+        block.old block.new result }
+    ensures cause { IfErr result (Cause (λ _. ⊥) (M.refused memory.new)) }
+{
+    match telling {
+        Telling::Objects => tell_object(memory, table, asked, block, out),
+        Telling::Alone | Telling::Kept => match keep_line(table, place, line, asked, block, out) {
+            Ok(found) => Ok(found),
+            Err(_) => Err(CommandError::Output),
+        },
+    }
+}
+
+/// Appends what is told of the line of a part up to a line feed or to the end, if it is one, to a block; tells whether a
+/// network has its address.
+fn tell_part<'a, T: Networks, M: Memory, S: Sink>(
+    memory: &mut M,
+    table: &T,
+    telling: Telling,
     place: Asked,
     file: &'a str,
     number: u64,
@@ -103,18 +203,44 @@ fn keep_part<'a, T: Networks, S: Sink>(
     block: &mut Block,
     out: &mut S,
 ) -> Result<bool, CommandError<'a>>
-    ensures { KeepsPart place (T.LookUps.rows table.now) file.now number part.now has_more (S.state out.old) (S.state out.new)
+    requires { telling ≢ Alone }
+    ensures tells { TellsPart telling place (T.LookUps.rows table.now) file.now number part.now has_more (S.state out.old) (S.state out.new)
         block.old block.new result }
+    ensures cause { IfErr result (Cause (λ _. ⊥) (M.refused memory.new)) }
 {
     if !is_line(part, has_more) {
         return Ok(false);
     }
     match address_asked(place, part) {
-        Ok(asked) => match keep_line(table, place, part, &asked, block, out) {
-            Ok(found) => Ok(found),
-            Err(_) => Err(CommandError::Output),
-        },
+        Ok(asked) => tell_line(memory, table, telling, place, part, &asked, block, out),
         Err(e) => Err(CommandError::Line(file, number, e)),
+    }
+}
+
+/// Writes the part up to a line feed or to the end that is a header, if it is a line.
+fn write_part<S: Sink>(header: &[u8], has_more: bool, out: &mut S) -> Result<(), OutputFailed>
+    ensures { Writes (S.state out.old) (S.state out.new) (flat_map line (lines_of_part header.now has_more)) result }
+{
+    if !is_line(header, has_more) {
+        return Ok(());
+    }
+    let mut block = Block::new();
+    block.push_line(out, &[header, b"\n"])?;
+    block.flush(out)
+}
+
+/// Writes what is told of the part up to a line feed or to the end that is a header: itself, where lines are kept.
+pub fn write_header<S: Sink>(
+    telling: Telling,
+    header: &[u8],
+    has_more: bool,
+    out: &mut S,
+) -> Result<(), OutputFailed>
+    ensures { Writes (S.state out.old) (S.state out.new) (header_text telling header.now has_more) result }
+{
+    match telling {
+        Telling::Kept => write_part(header, has_more, out),
+        Telling::Alone | Telling::Objects => Ok(()),
     }
 }
 
@@ -135,17 +261,19 @@ fn stop<'a, S: Sink>(
     }
 }
 
-/// Reads a file line by line, and writes each line with the longest network of its address, also those before a line in
-/// error. An output that has failed before gets nothing.
-pub fn keep_lines<'a, T: Networks, M: Memory, R: Source + Drop, S: Sink>(
+/// Reads a file line by line, and writes what is told of each: the line with the longest network of its address, or the
+/// object of its address; also of those before a line in error. An output that has failed before gets nothing.
+pub fn tell_lines<'a, T: Networks, M: Memory, R: Source + Drop, S: Sink>(
     memory: &mut M,
     table: &T,
+    telling: Telling,
     place: Asked,
     file: &'a str,
     reader: &mut LineReader<R>,
     out: &mut S,
 ) -> Result<Verdict, CommandError<'a>>
-    ensures keeps { KeepsText place (T.LookUps.rows table.now) reader.old.left file.now (S.state out.old) (S.state out.new) result }
+    requires { telling ≢ Alone }
+    ensures tells { TellsText telling place (T.LookUps.rows table.now) reader.old.left file.now (S.state out.old) (S.state out.new) result }
     ensures cause { IfErr result (Cause (λ name. (name ≡ file.now) × TextFails reader.old.left) (M.refused memory.new)) }
 {
     if out.failed() {
@@ -161,8 +289,10 @@ pub fn keep_lines<'a, T: Networks, M: Memory, R: Source + Drop, S: Sink>(
             Ok(has_more) => has_more,
             Err(e) => return stop(&mut block, e, out),
         };
-        match keep_part(
+        match tell_part(
+            memory,
             table,
+            telling,
             place,
             file,
             number,

@@ -1,19 +1,19 @@
 //! The longest networks of addresses.
-ghost use Rattle.std.specs.Prelude.{◌≡◌, ◌<◌, ◌≤◌, ◌⊎◌, [], length, map, IfErr, IfOk, IfSome, option_map};
+ghost use Rattle.std.specs.Prelude.{◌≡◌, ◌<◌, ◌≤◌, ◌⊎◌, [], false, length, map, IfErr, IfOk, IfSome, option_map, true};
 ghost use Rattle.std.specs.List.{AllZip};
 ghost use Rattle.cidr_io.specs.Lines.{MayFail as NoLineFails};
 ghost use Rattle.netset_commands.specs.Causes.{Cause, LookCause, FileMayFail, ReadCause, TextFails};
 ghost use Rattle.netset_commands.specs.Command.{choice_of};
 ghost use Rattle.netset_commands.specs.Commands.{Look};
-ghost use Rattle.netset_commands.specs.KeptLines.{TellsFile};
+ghost use Rattle.netset_commands.specs.KeptLines.{IsBehindHeader, TellsFile, TellsLeft};
 ghost use Rattle.netset_commands.specs.Look.{verdict_of};
 ghost use Rattle.netset_commands.specs.LookUps.{AllFound, AsksAddress, AsksLine, AsksLines, IsFoundOf, LooksAll, LooksEach, LooksLines, LooksOne};
 ghost use Rattle.netset_commands.specs.Program.{AnswersRequest};
 
-use crate::commands::kept::keep_lines;
-use crate::commands::matching::has;
+use crate::commands::kept::{tell_lines, write_header};
+use crate::commands::matching::{has, next_part};
 use crate::commands::picking::{Choice, asked_of};
-use crate::errors::{CommandError, ReadError};
+use crate::errors::{CommandError, ReadError, Reason};
 use crate::input::begun::Given;
 use crate::input::files::Sources;
 use crate::input::stored::Stored;
@@ -30,9 +30,10 @@ use cidr_io::source::Source;
 use cidr_lists::errors::LineError;
 use cidr_lists::fields::{Asked, asked_in};
 use cidr_lists::forms::RowForm;
+use cidr_lists::objects::{Telling, telling_by};
 
 /// Why look-ups end early.
-#[derive(Debug, Drop)]
+#[derive(Drop)]
 pub enum LookError {
     /// A line is in error or can't be read.
     Reading(ReadError),
@@ -255,17 +256,93 @@ pub fn verdict_of(found: bool) -> Verdict
     if found { Verdict::Yes } else { Verdict::No }
 }
 
-/// Looks up the addresses of a file in a table, and tells them, by themselves or with their lines.
+/// Looks up the addresses of what is left of a file in a table, and tells them: by themselves, with their lines or as
+/// objects.
+fn look_left<'a, T: Networks, M: Memory, R: Source + Drop, O: Sink>(
+    memory: &mut M,
+    table: &T,
+    telling: Telling,
+    place: Asked,
+    file: &'a str,
+    reader: &mut LineReader<R>,
+    out: &mut O,
+) -> Result<Verdict, CommandError<'a>>
+    ensures tells { TellsLeft false telling place (T.LookUps.rows table.now) reader.old.left file.now (O.state out.old) (O.state out.new) result }
+    ensures cause { IfErr result (Cause (λ name. (name ≡ file.now) × TextFails reader.old.left) (M.refused memory.new)) }
+{
+    match telling {
+        Telling::Alone => match look_all(memory, table, place, reader, out) {
+            Ok(found) => Ok(verdict_of(found)),
+            Err(LookError::Reading(e)) => Err(unread(file, e)),
+            Err(LookError::Output) => Err(CommandError::Output),
+        },
+        telling => tell_lines(memory, table, telling, place, file, reader, out),
+    }
+}
+
+/// An error behind a header, by an error of what is left: the number of a line counts the header too.
+fn behind_header<'a>(error: CommandError<'a>) -> CommandError<'a>
+    ensures { IsBehindHeader error.entry result }
+{
+    match error {
+        CommandError::Line(file, number, e) => {
+            if number == u64::MAX {
+                return CommandError::Input(file, Reason::Unknown);
+            }
+            CommandError::Line(file, number + 1, e)
+        }
+        error => error,
+    }
+}
+
+/// The same as `look_left` of a file whose first line is a header: its addresses are not looked up, and where lines are
+/// told it is written as it is. One that is too long is in error.
+fn look_behind<'a, T: Networks, M: Memory, R: Source + Drop, O: Sink>(
+    memory: &mut M,
+    table: &T,
+    telling: Telling,
+    place: Asked,
+    file: &'a str,
+    reader: &mut LineReader<R>,
+    out: &mut O,
+) -> Result<Verdict, CommandError<'a>>
+    ensures tells { TellsLeft true telling place (T.LookUps.rows table.now) reader.old.left file.now (O.state out.old) (O.state out.new) result }
+    ensures cause { IfErr result (Cause (λ name. (name ≡ file.now) × TextFails reader.old.left) (M.refused memory.new)) }
+{
+    if out.failed() {
+        return Err(CommandError::Output);
+    }
+    let has_more = match next_part(memory, file, reader) {
+        Ok(has_more) => has_more,
+        Err(e) => return Err(e),
+    };
+    if is_too_long(reader.line()) {
+        return Err(CommandError::Line(file, 1, LineError::TooLong));
+    }
+    let Ok(()) = write_header(telling, reader.line(), has_more, out) else {
+        return Err(CommandError::Output);
+    };
+    if !has_more {
+        return Ok(Verdict::No);
+    }
+    match look_left(memory, table, telling, place, file, reader, out) {
+        Ok(verdict) => Ok(verdict),
+        Err(e) => Err(behind_header(e)),
+    }
+}
+
+/// Looks up the addresses of a file in a table, and tells them. Its first line is a header or not.
 fn look_in<'a, T: Networks, M: Memory, F: Sources, O: Sink>(
     memory: &mut M,
     sources: &F,
     table: &T,
-    keeps: bool,
+    telling: Telling,
     place: Asked,
+    headed: bool,
     file: &'a str,
     out: &mut O,
 ) -> Result<Verdict, CommandError<'a>>
-    ensures tells { TellsFile keeps place (T.LookUps.rows table.now) (F.contents sources.now file.now) file.now (O.state out.old) (O.state out.new) result }
+    ensures tells { TellsFile headed telling place (T.LookUps.rows table.now) (F.contents sources.now file.now) file.now (O.state out.old) (O.state out.new) result }
     ensures cause { IfErr result (Cause (FileMayFail (F.contents sources.now)) (M.refused memory.new)) }
 {
     let reader = match sources.open(file) {
@@ -275,13 +352,10 @@ fn look_in<'a, T: Networks, M: Memory, F: Sources, O: Sink>(
     let Ok(mut reader) = LineReader::new(memory, reader) else {
         return Err(CommandError::NoMemory);
     };
-    if keeps {
-        return keep_lines(memory, table, place, file, &mut reader, out);
-    }
-    match look_all(memory, table, place, &mut reader, out) {
-        Ok(found) => Ok(verdict_of(found)),
-        Err(LookError::Reading(e)) => Err(unread(file, e)),
-        Err(LookError::Output) => Err(CommandError::Output),
+    if headed {
+        look_behind(memory, table, telling, place, file, &mut reader, out)
+    } else {
+        look_left(memory, table, telling, place, file, &mut reader, out)
     }
 }
 
@@ -302,11 +376,14 @@ pub fn look<'a, M: Memory, F: Sources, O: Sink>(
 {
     let place = asked_of(choice, has(options, "--any"))?;
     let keeps = has(options, "--keep");
+    let telling = telling_by(form.values, keeps);
+    let headed = has(options, "--header");
     match give_table(memory, sources, form, table)? {
-        Given::Lines(rows) => look_in(memory, sources, &rows, keeps, place, file, out),
+        Given::Lines(rows) => look_in(memory, sources, &rows, telling, place, headed, file, out),
         Given::Stored(bytes) => {
             let stored = Stored::check(memory, table, bytes.as_slice())?;
-            look_in(memory, sources, &stored, keeps, place, file, out)
+            stored.check_values(form.values, table)?;
+            look_in(memory, sources, &stored, telling, place, headed, file, out)
         }
     }
 }

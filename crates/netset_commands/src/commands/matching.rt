@@ -1,5 +1,5 @@
 //! The command `match`: the lines of files of which a field lies in a list, or that have an address of it.
-ghost use Rattle.std.specs.Prelude.{◌≡◌, ◌<◌, ◌++◌, [], ◌∷◌, codes, true, false, not, if◌then◌else◌, map, IfOk, IfErr, IfSome, None};
+ghost use Rattle.std.specs.Prelude.{◌≡◌, ◌<◌, ◌++◌, ◌&&◌, ◌==◌, [], ◌∷◌, codes, true, false, not, if◌then◌else◌, map, IfOk, IfErr, IfSome, None};
 ghost use Rattle.std.specs.Bool.{Decides};
 ghost use Rattle.cidr_io.specs.Lines.{MayFail as NoLineFails};
 ghost use Rattle.cidr_io.specs.Writing.{Writes};
@@ -7,7 +7,7 @@ ghost use Rattle.cidr_io.specs.Collecting.{Collects};
 ghost use Rattle.netset_commands.specs.Causes.{Cause, FileMayFail, TextFails};
 ghost use Rattle.netset_commands.specs.Command.{choice_of};
 ghost use Rattle.netset_commands.specs.Commands.{Match, MatchEach};
-ghost use Rattle.netset_commands.specs.Gathering.{Finishes, IsCounted, IsDone, IsNotReadFurther, NotesLong, Stops, Streams, StreamsEach, StreamsFile, GathersPart, label_of, lines_of_part, rest_written, told_behind};
+ghost use Rattle.netset_commands.specs.Gathering.{Finishes, IsCounted, IsDone, IsNotReadFurther, NotesLong, Stops, Streams, StreamsEach, StreamsFile, GathersPart, TakesHeader, label_of, lines_of_part, rest_written, told_behind};
 ghost use Rattle.netset_commands.specs.Matching.{Picks, PicksByField, either, has, line_written, passed_over, written_of};
 ghost use Rattle.netset_commands.specs.Program.{AnswersRequest};
 ghost use Rattle.netset_commands.specs.Reading.{IsNextLine};
@@ -34,7 +34,7 @@ use cidr_lists::sets::Sets;
 use itoa::Buffer;
 
 /// What is written of the lines that are picked.
-#[derive(Clone, Copy, Debug, Drop, PartialEq)]
+#[derive(Clone, Copy, Drop, PartialEq)]
 pub enum Written {
     /// The lines.
     Lines,
@@ -71,6 +71,8 @@ struct Matcher<'a> {
     anywhere: bool,
     column: Column,
     inverted: bool,
+    /// Whether the first line is a header, which is written and not counted.
+    headed: bool,
     written: Written,
     /// The name in front of what is written of a file that is not the only one.
     name: Option<&'a str>,
@@ -82,6 +84,7 @@ fn matcher_of<'a>(sets: &'a Sets, column: Column, options: &[&str]) -> Matcher<'
     ensures column { result.column ≡ column }
     ensures anywhere { result.anywhere ≡ has (codes "--any") (map (λ w. w.now) options.now) }
     ensures inverted { result.inverted ≡ has (codes "-v") (map (λ w. w.now) options.now) }
+    ensures headed { result.headed ≡ has (codes "--header") (map (λ w. w.now) options.now) }
     ensures written { result.written ≡ written_of (map (λ w. w.now) options.now) }
     ensures name { result.name ≡ None }
 {
@@ -90,12 +93,20 @@ fn matcher_of<'a>(sets: &'a Sets, column: Column, options: &[&str]) -> Matcher<'
         anywhere: has(options, "--any"),
         column,
         inverted: has(options, "-v"),
+        headed: has(options, "--header"),
         written: written_of(options),
         name: None,
     }
 }
 
 impl Matcher<'_> {
+    /// Whether the line of this number is a header.
+    fn is_header(&self, number: u64) -> bool
+        ensures { result ≡ (self.now.headed && (number == 1)) }
+    {
+        self.headed && number == 1
+    }
+
     /// Whether a line is picked by its field.
     fn picks_by_field(&self, line: &[u8]) -> Result<bool, LineError>
         ensures { PicksByField self.now.column (IsInSets self.now.sets.now) self.now.inverted line.now result }
@@ -237,7 +248,28 @@ impl Gathered {
         }
     }
 
-    /// Takes the line of a part up to a line feed or to the end, if it is one and is picked.
+    /// Takes the header of a file, its first line: it is written whatever it says, and not counted. One that is too long is
+    /// in error.
+    fn take_header<'a, S: Sink>(
+        &mut self,
+        matcher: &Matcher<'_>,
+        file: &'a str,
+        line: &[u8],
+        out: &mut S,
+    ) -> Result<(), CommandError<'a>>
+        ensures { TakesHeader (label_of matcher.now.name) matcher.now.written file.now line.now (S.state out.old) (S.state out.new)
+            self.old self.new result }
+    {
+        if is_too_long(line) {
+            return Err(CommandError::Line(file, 1, LineError::TooLong));
+        }
+        match self.push(matcher, out, line) {
+            Ok(()) => Ok(()),
+            Err(_) => Err(CommandError::Output),
+        }
+    }
+
+    /// Takes the line of a part up to a line feed or to the end, if it is one and is picked, or a header.
     fn take<'a, S: Sink>(
         &mut self,
         matcher: &Matcher<'_>,
@@ -248,12 +280,15 @@ impl Gathered {
         out: &mut S,
     ) -> Result<(), CommandError<'a>>
         requires { self.old.count < number }
-        ensures { GathersPart (Picks matcher.now.anywhere matcher.now.column (IsInSets matcher.now.sets.now) matcher.now.inverted)
+        ensures { GathersPart (matcher.now.headed && (number == 1)) (Picks matcher.now.anywhere matcher.now.column (IsInSets matcher.now.sets.now) matcher.now.inverted)
             (label_of matcher.now.name) matcher.now.written file.now number part.now has_more (S.state out.old) (S.state out.new)
             self.old self.new result }
     {
         if !is_line(part, has_more) {
             return Ok(());
+        }
+        if matcher.is_header(number) {
+            return self.take_header(matcher, file, part, out);
         }
         match matcher.picks(part) {
             Ok(true) => {
@@ -378,7 +413,7 @@ fn stream<'a, M: Memory, R: Source + Drop, S: Sink>(
     reader: &mut LineReader<R>,
     out: &mut S,
 ) -> Result<Verdict, CommandError<'a>>
-    ensures streams { Streams (Picks matcher.now.anywhere matcher.now.column (IsInSets matcher.now.sets.now) matcher.now.inverted)
+    ensures streams { Streams matcher.now.headed (Picks matcher.now.anywhere matcher.now.column (IsInSets matcher.now.sets.now) matcher.now.inverted)
         (label_of matcher.now.name) matcher.now.written file.now reader.old.left (S.state out.old) (S.state out.new) result }
     ensures cause { IfErr result (Cause (λ name. (name ≡ file.now) × TextFails reader.old.left) (M.refused memory.new)) }
 {
@@ -415,7 +450,7 @@ fn match_file<'a, M: Memory, F: Sources, O: Sink>(
     file: &'a str,
     out: &mut O,
 ) -> Result<Verdict, CommandError<'a>>
-    ensures streams { StreamsFile (Picks matcher.now.anywhere matcher.now.column (IsInSets matcher.now.sets.now) matcher.now.inverted)
+    ensures streams { StreamsFile matcher.now.headed (Picks matcher.now.anywhere matcher.now.column (IsInSets matcher.now.sets.now) matcher.now.inverted)
         (label_of matcher.now.name) matcher.now.written file.now (F.contents sources.now file.now) (O.state out.old) (O.state out.new) result }
     ensures cause { IfErr result (Cause (FileMayFail (F.contents sources.now)) (M.refused memory.new)) }
 {
@@ -475,7 +510,7 @@ fn match_files<'a, M: Memory, F: Sources, O: Sink>(
     files: &[&'a str],
     out: &mut O,
 ) -> Result<Verdict, CommandError<'a>>
-    ensures streams { StreamsEach (F.contents sources.now) (Picks matcher.now.anywhere matcher.now.column (IsInSets matcher.now.sets.now) matcher.now.inverted)
+    ensures streams { StreamsEach (F.contents sources.now) matcher.now.headed (Picks matcher.now.anywhere matcher.now.column (IsInSets matcher.now.sets.now) matcher.now.inverted)
         matcher.now.written (map (λ file. file.now) files.now) (O.state out.old) (O.state out.new) result }
     ensures cause { IfErr result (Cause (FileMayFail (F.contents sources.now)) (M.refused memory.new)) }
 {
@@ -489,6 +524,7 @@ fn match_files<'a, M: Memory, F: Sources, O: Sink>(
             anywhere: matcher.anywhere,
             column: matcher.column,
             inverted: matcher.inverted,
+            headed: matcher.headed,
             written: matcher.written,
             name: Some(*file),
         };

@@ -5,7 +5,7 @@ ghost use Rattle.netset_commands.specs.Combining.{form_of, step_of, turns};
 use cidr_lists::sets::{Form, Step};
 
 /// What is made of the addresses of lists.
-#[derive(Clone, Copy, Debug, Drop, PartialEq)]
+#[derive(Clone, Copy, Drop, PartialEq)]
 pub enum Operation {
     /// The addresses of all lists.
     Merge,

@@ -1,16 +1,17 @@
 //! The table of the commands: names, options, operands and help.
 ghost use Rattle.std.specs.Prelude.{◌≡◌};
-ghost use Rattle.netset_commands.specs.Table.{about_of, commands, name_of, needed_of, most_of, options_of, takes_value, texts, values_of};
+ghost use Rattle.netset_commands.specs.Table.{about_of, commands, name_of, row_of, takes_value, texts};
 
 use crate::commands::describe::Description;
 use crate::commands::matching::has;
 use crate::commands::operations::Operation;
 
 /// What a command does.
-#[derive(Clone, Copy, Debug, Drop, PartialEq)]
+#[derive(Clone, Copy, Drop)]
 pub enum Verb {
     Lists(Operation),
     Diff,
+    Same,
     Free,
     Acl,
     Check,
@@ -18,6 +19,7 @@ pub enum Verb {
     Match,
     Look,
     Compile,
+    Smallest,
     Describe(Description),
     Class,
     Show,
@@ -28,7 +30,7 @@ pub enum Verb {
 }
 
 /// The commands, in their order on the page.
-pub static COMMANDS: [Verb; 23] = [
+pub static COMMANDS: [Verb; 25] = [
     Verb::Lists(Operation::Merge),
     Verb::Lists(Operation::Nets),
     Verb::Lists(Operation::Minus),
@@ -37,6 +39,7 @@ pub static COMMANDS: [Verb; 23] = [
     Verb::Lists(Operation::Ranges),
     Verb::Lists(Operation::Count),
     Verb::Diff,
+    Verb::Same,
     Verb::Free,
     Verb::Acl,
     Verb::Check,
@@ -44,6 +47,7 @@ pub static COMMANDS: [Verb; 23] = [
     Verb::Match,
     Verb::Look,
     Verb::Compile,
+    Verb::Smallest,
     Verb::Describe(Description::Zones),
     Verb::Describe(Description::Masks),
     Verb::Class,
@@ -75,6 +79,9 @@ const COUNT: &str =
 const DIFF: &str =
     "netset diff [--format plain|json] A B\n                        the networks that B adds to A, as +NET, and that it lacks, as -NET,\n                        or with json an object of JSON for each\n";
 
+const SAME: &str =
+    "netset same A B         the networks whose addresses have another value, or none, in the table B\n                        than in A, as -NET VALUE by A and +NET VALUE by B\n";
+
 const FREE: &str =
     "netset free [--all] [--count N] POOL LEN [USED..]\n                        the first network of this prefix length in the addresses of a\n                        network or of a list that no list of USED has, --all all of\n                        them, --count the first N\n";
 
@@ -88,13 +95,16 @@ const WHICH: &str =
     "netset which ADDR [FILE..]\n                        the lines of the lists that have an address, which may be hosts too,\n                        and their networks\n";
 
 const MATCH: &str =
-    "netset match [--any] [--field N] [--separator C] [-v] [-c] [-q] LIST [FILE..]\n                        the lines of FILE whose first field lies in LIST, --field N whose\n                        field N does, --separator C of fields with byte C between them and\n                        not white space; --any the lines that have an address of LIST\n                        anywhere; -v all the other lines, -c only their number, -q only the\n                        status; of more than one file each line behind its name and a colon\n";
+    "netset match [--any] [--field N] [--separator C] [--header] [-v] [-c] [-q] LIST [FILE..]\n                        the lines of FILE whose first field lies in LIST, --field N whose\n                        field N does, --separator C of fields with byte C between them and\n                        not white space; --any the lines that have an address of LIST\n                        anywhere; --header the first line too, which is a header; -v all\n                        the other lines, -c only their number, -q only the status; of more\n                        than one file each line behind its name and a colon\n";
 
 const LOOK: &str =
-    "netset look [--any] [--field N] [--separator C] [--keep] TABLE [FILE]\n                        the longest network of the first field of each line of FILE in the\n                        rows NET VALUE of TABLE, and its value; --field N of field N,\n                        --separator C of fields with byte C between them, --any of the first\n                        address anywhere; --keep writes the lines of FILE, each with the\n                        network and value behind it\n";
+    "netset look [--any] [--field N] [--separator C] [--header] [--keep] [--format plain|json] TABLE [FILE]\n                        the longest network of the first field of each line of FILE in the\n                        rows NET VALUE of TABLE, and its value; --field N of field N,\n                        --separator C of fields with byte C between them, --any of the first\n                        address anywhere; --keep writes the lines of FILE, each with the\n                        network and value behind it; --format json an object of JSON for\n                        each address, whose value has to be UTF-8; --header passes over the\n                        first line, a header, which --keep writes as it is\n";
 
 const COMPILE: &str =
     "netset compile TABLE OUT\n                        writes the table into the file OUT, which look and match take in the\n                        place of TABLE and LIST, and read none of its lines\n";
+
+const SMALLEST: &str =
+    "netset smallest [--holes] TABLE\n                        the fewest rows NET VALUE that give each address the value that it has\n                        by the rows of TABLE, or none; with --holes a row may be NET -, whose\n                        addresses have no value, which - then is no value of\n";
 
 const REVERSE: &str =
     "netset reverse NET|FILE the names in reverse DNS of an address, or of the zones that networks\n                        are delegated in\n";
@@ -141,7 +151,7 @@ pub const OPTIONS: &str =
     "\nOptions stand anywhere behind the command; those of one letter may be joined, as -vc:\n";
 
 pub const LISTS: &str =
-    "-h, --help              what this page says of the command\n--                      what is behind it are no options\n--host-bits and --masks are for commands that read lists, but check and which, -k for all that read\nlists but acl, --skip-bad for these but compile; --format, --prefix and --suffix are for merge,\nnets, minus, and, not, acl, free and split, -o for these, ranges, count, diff, reverse and mask,\n--form and --table-separator for look and compile.\n\nA line of a list is a network, an address or a range FIRST-LAST, and may end in a comment\nfrom # or ; on. The file - is the standard input, which is also read where no file is named.\nStatus: 0 done, 1 none, a difference or findings, 2 usage, a wrong argument, a file that\ncannot be read or a line in error, 3 output or memory.\n";
+    "-h, --help              what this page says of the command\n--                      what is behind it are no options\n--host-bits and --masks are for commands that read lists, but check and which, -k for all that read\nlists but acl, --skip-bad for these but compile; --format, --prefix and --suffix are for merge,\nnets, minus, and, not, acl, free and split, -o for these, ranges, count, diff, same, smallest,\nreverse and mask, --form and --table-separator for look, compile, same and smallest.\n\nA line of a list is a network, an address or a range FIRST-LAST, and may end in a comment\nfrom # or ; on. The file - is the standard input, which is also read where no file is named.\nStatus: 0 done, 1 none, a difference or findings, 2 usage, a wrong argument, a file that\ncannot be read or a line in error, 3 output or memory.\n";
 
 /// The commands, in their order on the page.
 pub fn commands() -> &'static [Verb]
@@ -163,6 +173,7 @@ pub fn name_of(command: Verb) -> &'static str
         Verb::Lists(Operation::Ranges) => "ranges",
         Verb::Lists(Operation::Count) => "count",
         Verb::Diff => "diff",
+        Verb::Same => "same",
         Verb::Free => "free",
         Verb::Acl => "acl",
         Verb::Check => "check",
@@ -170,6 +181,7 @@ pub fn name_of(command: Verb) -> &'static str
         Verb::Match => "match",
         Verb::Look => "look",
         Verb::Compile => "compile",
+        Verb::Smallest => "smallest",
         Verb::Describe(Description::Zones) => "reverse",
         Verb::Describe(Description::Masks) => "mask",
         Verb::Class => "class",
@@ -183,13 +195,22 @@ pub fn name_of(command: Verb) -> &'static str
 
 /// The options of a command that have no value.
 pub fn options_of(command: Verb) -> &'static [&'static str]
-    ensures { texts result.now ≡ options_of command }
+    ensures { texts result.now ≡ (row_of command).options }
 {
     match command {
-        Verb::Lists(_) | Verb::Diff | Verb::Describe(_) | Verb::Split => {
+        Verb::Lists(_) | Verb::Diff | Verb::Same | Verb::Describe(_) | Verb::Split => {
             &["--host-bits", "--masks", "-k", "--skip-bad", "-h", "--help"]
         }
         Verb::Compile => &["--host-bits", "--masks", "-k", "-h", "--help"],
+        Verb::Smallest => &[
+            "--holes",
+            "--host-bits",
+            "--masks",
+            "-k",
+            "--skip-bad",
+            "-h",
+            "--help",
+        ],
         Verb::Free => &[
             "--all",
             "--host-bits",
@@ -203,6 +224,7 @@ pub fn options_of(command: Verb) -> &'static [&'static str]
         Verb::Check | Verb::Which => &["-k", "--skip-bad", "-h", "--help"],
         Verb::Look => &[
             "--any",
+            "--header",
             "--keep",
             "--host-bits",
             "--masks",
@@ -213,6 +235,7 @@ pub fn options_of(command: Verb) -> &'static [&'static str]
         ],
         Verb::Match => &[
             "--any",
+            "--header",
             "-v",
             "-c",
             "-q",
@@ -227,11 +250,11 @@ pub fn options_of(command: Verb) -> &'static [&'static str]
     }
 }
 
-/// The options of a command that have a value: the network of `not --in`, how networks are written, how many networks
-/// `free --count` tells, the access list of `acl --diff`, the field that `match` and `look` read, how `look` and `compile`
-/// read the rows of a table, and where the answer is written.
+/// The options of a command that have a value: the network of `not --in`, how networks and look-ups are written, how many networks
+/// `free --count` tells, the access list of `acl --diff`, the field that `match` and `look` read, how `look`, `compile`,
+/// `same` and `smallest` read the rows of a table, and where the answer is written.
 fn values_of(command: Verb) -> &'static [&'static str]
-    ensures { texts result.now ≡ values_of command }
+    ensures { texts result.now ≡ (row_of command).values }
 {
     match command {
         Verb::Lists(Operation::Not) => &["--in", "--format", "--prefix", "--suffix", "-o"],
@@ -243,8 +266,15 @@ fn values_of(command: Verb) -> &'static [&'static str]
         Verb::Free => &["--count", "--format", "--prefix", "--suffix", "-o"],
         Verb::Acl => &["--diff", "--format", "--prefix", "--suffix", "-o"],
         Verb::Match => &["--field", "--separator"],
-        Verb::Look => &["--field", "--separator", "--form", "--table-separator"],
+        Verb::Look => &[
+            "--field",
+            "--separator",
+            "--form",
+            "--table-separator",
+            "--format",
+        ],
         Verb::Compile => &["--form", "--table-separator"],
+        Verb::Same | Verb::Smallest => &["--form", "--table-separator", "-o"],
         _ => &[],
     }
 }
@@ -258,15 +288,17 @@ pub fn takes_value(command: Verb, option: &str) -> bool
 
 /// The names of the operands that a command needs.
 pub fn needed_of(command: Verb) -> &'static [&'static str]
-    ensures { texts result.now ≡ needed_of command }
+    ensures { texts result.now ≡ (row_of command).needed }
 {
     match command {
-        Verb::Lists(Operation::Minus) | Verb::Lists(Operation::And) | Verb::Diff => &["A", "B"],
+        Verb::Lists(Operation::Minus) | Verb::Lists(Operation::And) | Verb::Diff | Verb::Same => &[
+            "A", "B",
+        ],
         Verb::Free => &["POOL", "LEN"],
         Verb::Acl => &["RULES"],
         Verb::Which => &["ADDR"],
         Verb::Match => &["LIST"],
-        Verb::Look => &["TABLE"],
+        Verb::Look | Verb::Smallest => &["TABLE"],
         Verb::Compile => &["TABLE", "OUT"],
         Verb::Describe(Description::Zones) => &["NET|FILE"],
         Verb::Describe(Description::Masks) => &["NET|LEN|FILE"],
@@ -280,12 +312,13 @@ pub fn needed_of(command: Verb) -> &'static [&'static str]
 
 /// How many operands a command takes at most; `None` where any more may follow.
 pub fn most_of(command: Verb) -> Option<usize>
-    ensures { result ≡ most_of command }
+    ensures { result ≡ (row_of command).most }
 {
     match command {
         Verb::Lists(_) | Verb::Free | Verb::Check | Verb::Which | Verb::Match => None,
-        Verb::Diff | Verb::Look | Verb::Compile | Verb::Split | Verb::Nth => Some(2),
-        Verb::Acl | Verb::Describe(_) | Verb::Class | Verb::Show | Verb::Help => Some(1),
+        Verb::Diff | Verb::Same | Verb::Look | Verb::Compile | Verb::Split | Verb::Nth => Some(2),
+        Verb::Acl | Verb::Smallest | Verb::Describe(_) | Verb::Class | Verb::Show | Verb::Help =>
+            Some(1),
         Verb::Version => Some(0),
     }
 }
@@ -303,6 +336,7 @@ pub fn about_of(command: Verb) -> &'static str
         Verb::Lists(Operation::Ranges) => RANGES,
         Verb::Lists(Operation::Count) => COUNT,
         Verb::Diff => DIFF,
+        Verb::Same => SAME,
         Verb::Free => FREE,
         Verb::Acl => ACL,
         Verb::Check => CHECK,
@@ -310,6 +344,7 @@ pub fn about_of(command: Verb) -> &'static str
         Verb::Match => MATCH,
         Verb::Look => LOOK,
         Verb::Compile => COMPILE,
+        Verb::Smallest => SMALLEST,
         Verb::Describe(Description::Zones) => REVERSE,
         Verb::Describe(Description::Masks) => MASK,
         Verb::Class => CLASS,

@@ -263,12 +263,7 @@ fn keep_list<'a, M: Memory, F: Sources, E: Sink>(
 pub fn list_named<'l>(lists: &'l [Kept<'l>], name: &str) -> Option<&'l Kept<'l>>
     ensures { option_copied result ≡ list_named name.now lists.now }
 {
-    for list in lists {
-        if list.name == name {
-            return Some(list);
-        }
-    }
-    None
+    lists.iter().find(|list| list.name == name)
 }
 
 /// Lists that were read whole, of which no line is in error, and where files are read from.

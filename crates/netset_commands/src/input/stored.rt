@@ -1,28 +1,31 @@
 //! Files of look-ups in the place of a table.
-ghost use Rattle.std.specs.Prelude.{◌≡◌, ◌++◌, None, Bool, List, ℕ, IfErr, IfOk, MatchResult, OnOk, map, option_map};
+ghost use Rattle.std.specs.Prelude.{◌≡◌, ◌<◌, ◌+◌, ◌^◌, ◌++◌, None, Bool, List, ℕ, IfErr, IfOk, MatchResult, OnOk, length, map, option_map};
 ghost use Rattle.cidr.specs.declared.family.Family.{Family as AddressFamily};
 ghost use Rattle.cidr.specs.model.Bits.{bits};
 ghost use Rattle.cidr_files.specs.Faults.{IsFaultOfBytes};
-ghost use Rattle.cidr_files.specs.Tables.{IsStoredTable, parts_in, stored_networks};
+ghost use Rattle.cidr_files.specs.Tables.{AreOffsets, IsStoredTable, offsets_in, part_at, parts_in, stored_networks, value_in};
 ghost use Rattle.cidr_table.specs.model.Prefixes.{IsLookedUp};
 ghost use Rattle.cidr_arrays.specs.Arrays.{prefix_bits};
+ghost use Rattle.cidr_lists.specs.Forms.{AreFit, IsUnfitAt};
 ghost use Rattle.cidr_lists.specs.Sets.{networks_of};
 ghost use Rattle.cidr_sets.specs.model.Sets.{IsSetOf};
 ghost use Rattle.netset_commands.specs.Causes.{Cause};
 ghost use Rattle.netset_commands.specs.Commands.{IsInRow};
 ghost use Rattle.netset_commands.specs.Compiled.{HasTable};
 ghost use Rattle.netset_commands.specs.LookUps.{LooksUp};
-ghost use Rattle.netset_commands.specs.Stored.{ChecksFile, IsFaultTold, by_family, stored_rows, table_error_of, file_error_of};
+ghost use Rattle.netset_commands.specs.Stored.{ChecksFile, IsFaultTold, TellsUnfit, by_family, stored_rows, table_error_of, file_error_of};
 
 use crate::errors::{CommandError, FileError};
 use crate::input::table::{Answer, LookUps, Networks, push_match, push_none};
-use arrayvec::ArrayString;
 use cidr::{BitString, IpAddr, Ipv4Addr, Ipv4Cidr, Ipv6Addr, Ipv6Cidr};
 use cidr_arrays::Word;
 use cidr_files::{Family, Fault, Ipv4Bytes, Ipv6Bytes, Part, Table, TableFault, checked, lookup};
 use cidr_io::block::Block;
 use cidr_io::memory::Memory;
 use cidr_io::sink::{OutputFailed, Sink};
+use cidr_lists::errors::LineError;
+use cidr_lists::formats::LineFormat;
+use cidr_lists::forms::check_value;
 use cidr_lists::lists::Lists;
 use cidr_lists::sets::Sets;
 use std::alloc::{AllocError, Global};
@@ -77,6 +80,25 @@ impl<'a> Stored<'a> {
         }
     }
 
+    /// Sees that the values can be told in a format. The error is that of the first row whose value can't, with its number
+    /// among the rows of its family, from 1 on, those of IPv4 before those of IPv6.
+    pub fn check_values<'n>(
+        &self,
+        format: LineFormat,
+        name: &'n str,
+    ) -> Result<(), CommandError<'n>>
+        ensures { MatchResult result (λ _. (family : AddressFamily) → AreFit format (by_family self.now family))
+            (TellsUnfit format (by_family self.now) name.now) }
+    {
+        if let Err((number, e)) = check_part::<Ipv4Bytes>(format, &self.tables.ipv4) {
+            return Err(CommandError::Line(name, number, e));
+        }
+        if let Err((number, e)) = check_part::<Ipv6Bytes>(format, &self.tables.ipv6) {
+            return Err(CommandError::Line(name, number, e));
+        }
+        Ok(())
+    }
+
     /// The addresses of the networks of its rows. The error is that there is no memory.
     pub fn addresses(&self, alloc: Global) -> Result<Sets, AllocError>
         ensures { IfOk result (λ sets. (family : AddressFamily)
@@ -87,6 +109,40 @@ impl<'a> Stored<'a> {
         push_networks::<Ipv6Bytes, Ipv6Cidr>(&self.tables.ipv6, &mut lists.v6)?;
         Ok(Sets::of_lists(lists))
     }
+}
+
+/// The value of a row; no bytes where the offsets are wrong.
+fn value_of<'a>(part: &Part<'a>, row: usize) -> &'a [u8]
+    requires { row + 1 < 2 ^ 64 }
+    ensures { (rows : ℕ) → row < rows → AreOffsets (offsets_in (parts_in part.now)) rows (length (part_at (parts_in part.now) 6))
+        → result.now ≡ value_in (parts_in part.now) row }
+{
+    let (offsets, _) = part.offsets.as_chunks::<4>();
+    if row + 1 >= offsets.len() {
+        return &[];
+    }
+    let from = u32::from_le_bytes(offsets[row]);
+    let to = u32::from_le_bytes(offsets[row + 1]);
+    if from > to || to as usize > part.values.len() {
+        return &[];
+    }
+    &part.values[from as usize..to as usize]
+}
+
+/// Sees that the values of the rows of a table can be told in a format. The error is that of the first which can't, with
+/// the number of its row, from 1 on.
+fn check_part<W: Family>(format: LineFormat, part: &Part<'_>) -> Result<(), (u64, LineError)>
+    requires { IsStoredTable W.width W.numbers (parts_in part.now) part.now.shift }
+    ensures { MatchResult result (λ _. AreFit format (stored_rows W.width W.numbers (parts_in part.now)))
+        (λ bad. IsUnfitAt format (stored_rows W.width W.numbers (parts_in part.now)) bad.0 bad.1) }
+{
+    let addresses = W::addresses(part.addresses);
+    for row in 0..addresses.len().min(part.lengths.len()) {
+        if let Err(e) = check_value(format, value_of(part, row)) {
+            return Err((row as u64 + 1, e));
+        }
+    }
+    Ok(())
 }
 
 /// Adds the networks of the rows of a table to others of their family.
@@ -197,19 +253,19 @@ impl LookUps for Stored<'_> {
 }
 
 impl Networks for Stored<'_> {
-    fn network(&self, address: &IpAddr) -> Option<(ArrayString<43>, &[u8])> {
+    fn row(&self, address: &IpAddr) -> Option<(u8, &[u8])> {
         match address {
             IpAddr::V4(address) => {
                 let bytes = Ipv4Bytes::of(u128::from(address.to_bits()));
                 match found_in::<Ipv4Bytes, Ipv4Cidr>(&self.tables.ipv4, bytes) {
-                    Some(found) => Some((found.0.to_text(), found.1)),
+                    Some(found) => Some((found.0.len() as u8, found.1)),
                     None => None,
                 }
             }
             IpAddr::V6(address) => {
                 let bytes = Ipv6Bytes::of(address.to_bits());
                 match found_in::<Ipv6Bytes, Ipv6Cidr>(&self.tables.ipv6, bytes) {
-                    Some(found) => Some((found.0.to_text(), found.1)),
+                    Some(found) => Some((found.0.len() as u8, found.1)),
                     None => None,
                 }
             }

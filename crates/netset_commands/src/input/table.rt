@@ -5,7 +5,7 @@ ghost use Rattle.cidr.specs.declared.family.Family.{Family as AddressFamily};
 ghost use Rattle.cidr_io.specs.Collecting.{Collects};
 ghost use Rattle.netset_commands.specs.Causes.{Cause, FileMayFail};
 ghost use Rattle.cidr_lists.specs.LookUps.{found_line};
-ghost use Rattle.netset_commands.specs.KeptLines.{IsNetworkOf};
+ghost use Rattle.netset_commands.specs.KeptLines.{IsRowOf};
 ghost use Rattle.netset_commands.specs.LookUps.{GivesRows, GivesTable, HasAnswer, LooksUp, PushesFound, ReadsFileRows, answer_of, ReadsTable, unread};
 ghost use Rattle.cidr_lists.specs.Tables.{kept};
 ghost use Rattle.netset_commands.specs.declared.input.table.Answer.{Answer};
@@ -21,13 +21,14 @@ use cidr_io::block::Block;
 use cidr_io::memory::Memory;
 use cidr_io::sink::{OutputFailed, Sink};
 use cidr_lists::columns::Separator;
-use cidr_lists::forms::RowForm;
+use cidr_lists::formats::LineFormat;
+use cidr_lists::forms::{RowForm, RowLayout};
 use cidr_lists::printing::block_text;
 use cidr_lists::rows::{Rows, Span, value_of};
 use cidr_lists::table::Table;
 
 /// The longest network of a table that an address is in, by its length, and where its value stands.
-#[derive(Clone, Copy, Debug, Drop)]
+#[derive(Clone, Copy, Drop)]
 pub struct Answer {
     len: u8,
     value: Span,
@@ -58,11 +59,11 @@ pub trait LookUps {
         ensures { LooksUp (rows self.now) address.now (S.state out.old) (S.state out.new) block.old block.new result };
 }
 
-/// A table whose networks are printed.
+/// A table whose rows are told one by one.
 pub trait Networks: LookUps {
-    /// The longest network that an address is in, as it is printed, and its value.
-    fn network(&self, address: &IpAddr) -> Option<(ArrayString<43>, &[u8])>
-        ensures { IsNetworkOf (Self.LookUps.rows self.now) address.now (option_map (λ found. (found.0.bytes, found.1.now)) result) };
+    /// The length of the longest network that an address is in, and its value.
+    fn row(&self, address: &IpAddr) -> Option<(u8, &[u8])>
+        ensures { IsRowOf (Self.LookUps.rows self.now) address.now (option_map (λ row. (row.0, row.1.now)) result) };
 }
 
 /// The answer that is a row.
@@ -112,12 +113,9 @@ impl LookUps for Table {
 }
 
 impl Networks for Table {
-    fn network(&self, address: &IpAddr) -> Option<(ArrayString<43>, &[u8])> {
+    fn row(&self, address: &IpAddr) -> Option<(u8, &[u8])> {
         match self.find(address) {
-            Some(answer) => Some((
-                block_text(address, answer.len),
-                value_of(self.values.as_slice(), answer.value),
-            )),
+            Some(answer) => Some((answer.len, value_of(self.values.as_slice(), answer.value))),
             None => None,
         }
     }
@@ -192,15 +190,26 @@ fn is_same_separator(one: Separator, other: Separator) -> bool
     }
 }
 
+/// Whether rows are laid out the same way.
+fn is_same_layout(one: RowLayout, other: RowLayout) -> bool
+    ensures { result ≡ true → one ≡ other }
+{
+    match (one, other) {
+        (RowLayout::Fields(one), RowLayout::Fields(other)) => is_same_separator(one, other),
+        (RowLayout::Pfx2as, RowLayout::Pfx2as) => true,
+        (RowLayout::Routes(Family::Ipv4), RowLayout::Routes(Family::Ipv4)) => true,
+        (RowLayout::Routes(Family::Ipv6), RowLayout::Routes(Family::Ipv6)) => true,
+        _ => false,
+    }
+}
+
 /// Whether rows are read the same way.
 fn is_same_form(one: RowForm, other: RowForm) -> bool
     ensures { result ≡ true → one ≡ other }
 {
-    match (one, other) {
-        (RowForm::Fields(one), RowForm::Fields(other)) => is_same_separator(one, other),
-        (RowForm::Pfx2as, RowForm::Pfx2as) => true,
-        (RowForm::Routes(Family::Ipv4), RowForm::Routes(Family::Ipv4)) => true,
-        (RowForm::Routes(Family::Ipv6), RowForm::Routes(Family::Ipv6)) => true,
+    match (one.values, other.values) {
+        (LineFormat::Plain, LineFormat::Plain) => is_same_layout(one.layout, other.layout),
+        (LineFormat::Json, LineFormat::Json) => is_same_layout(one.layout, other.layout),
         _ => false,
     }
 }

@@ -6,7 +6,7 @@ use crate::errors::CommandError;
 use cidr_io::sink::OutputFailed;
 
 /// What an answer tells by the exit status.
-#[derive(Clone, Copy, Debug, Drop, PartialEq)]
+#[derive(Clone, Copy, Drop, PartialEq)]
 pub enum Verdict {
     /// Done, or yes: 0.
     Yes,

@@ -10,7 +10,7 @@ use std::io::Write;
 use std::{fs, io, rt};
 
 /// A file was not written. If there was one of its name, it is left as it was.
-#[derive(Clone, Copy, Debug, Drop, PartialEq)]
+#[derive(Clone, Copy, Drop)]
 pub struct NotSaved;
 
 /// Where a run writes files, each whole or not at all.

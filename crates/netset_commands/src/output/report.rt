@@ -117,6 +117,7 @@ fn file_message(error: FileError) -> &'static str
     match error {
         FileError::TooLarge => ": too large for a file of look-ups\n",
         FileError::NotSaved => ": cannot be written\n",
+        FileError::Hole => ": a value is -, which with --holes stands for none\n",
         FileError::Unlike => ": no lines, and no file of look-ups\n",
         FileError::Version => ": a file of look-ups of another version\n",
         FileError::Short => ": a file of look-ups that is cut short\n",
@@ -265,6 +266,7 @@ fn misfit_text(why: Misfit) -> ArrayString<128>
         ),
         Misfit::NotOneByte => text.push_str(": more or less than one byte, see: netset help "),
         Misfit::WithForm => text.push_str(": not with --form, see: netset help "),
+        Misfit::WithJson => text.push_str(": not with the format json, see: netset help "),
     }
     text
 }

@@ -19,6 +19,9 @@ returns-in-NotIn-clause-answers g c = rw c.in-NotIn.is c.not_in.ensures.answers
 pub returns-in-Diff-clause-answers : goal.returns-in-Diff-clause-answers
 returns-in-Diff-clause-answers g c = rw c.in-Diff.is c.diff.ensures.answers
 
+pub returns-in-Same-clause-answers : goal.returns-in-Same-clause-answers
+returns-in-Same-clause-answers g c = rw c.in-Same.is c.same.ensures.answers
+
 pub returns-in-Free-clause-answers : goal.returns-in-Free-clause-answers
 returns-in-Free-clause-answers g c = rw c.in-Free.is c.free.ensures.answers
 
@@ -45,6 +48,9 @@ returns-in-Look-clause-answers g c = rw c.in-Look.is c.look.ensures.answers
 
 pub returns-in-Compile-clause-answers : goal.returns-in-Compile-clause-answers
 returns-in-Compile-clause-answers g c = rw c.in-Compile.is (refl, c.compile.ensures.compiled)
+
+pub returns-in-Smallest-clause-answers : goal.returns-in-Smallest-clause-answers
+returns-in-Smallest-clause-answers g c = rw c.in-Smallest.is c.smallest.ensures.answers
 
 pub returns-in-Describe-clause-answers : goal.returns-in-Describe-clause-answers
 returns-in-Describe-clause-answers g c = rw c.in-Describe.is c.describe.ensures.answers
@@ -75,6 +81,9 @@ returns-in-NotIn-clause-cause g c = rw c.in-NotIn.is c.not_in.ensures.cause
 pub returns-in-Diff-clause-cause : goal.returns-in-Diff-clause-cause
 returns-in-Diff-clause-cause g c = rw c.in-Diff.is c.diff.ensures.cause
 
+pub returns-in-Same-clause-cause : goal.returns-in-Same-clause-cause
+returns-in-Same-clause-cause g c = rw c.in-Same.is c.same.ensures.cause
+
 pub returns-in-Free-clause-cause : goal.returns-in-Free-clause-cause
 returns-in-Free-clause-cause g c = rw c.in-Free.is c.free.ensures.cause
 
@@ -101,6 +110,9 @@ returns-in-Compile-clause-cause g c = rw c.in-Compile.is c.compile.ensures.cause
 
 pub returns-in-Check-clause-cause : goal.returns-in-Check-clause-cause
 returns-in-Check-clause-cause g c = rw c.in-Check.is c.check.ensures.cause
+
+pub returns-in-Smallest-clause-cause : goal.returns-in-Smallest-clause-cause
+returns-in-Smallest-clause-cause g c = rw c.in-Smallest.is c.smallest.ensures.cause
 
 pub returns-in-Describe-clause-cause : goal.returns-in-Describe-clause-cause
 returns-in-Describe-clause-cause g c = rw c.in-Describe.is c.describe.ensures.cause
@@ -134,6 +146,9 @@ returns-in-NotIn-clause-leaves g c = rw c.in-NotIn.is refl
 pub returns-in-Diff-clause-leaves : goal.returns-in-Diff-clause-leaves
 returns-in-Diff-clause-leaves g c = rw c.in-Diff.is refl
 
+pub returns-in-Same-clause-leaves : goal.returns-in-Same-clause-leaves
+returns-in-Same-clause-leaves g c = rw c.in-Same.is refl
+
 pub returns-in-Free-clause-leaves : goal.returns-in-Free-clause-leaves
 returns-in-Free-clause-leaves g c = rw c.in-Free.is refl
 
@@ -157,6 +172,9 @@ returns-in-MatchEach-clause-leaves g c = rw c.in-MatchEach.is refl
 
 pub returns-in-Look-clause-leaves : goal.returns-in-Look-clause-leaves
 returns-in-Look-clause-leaves g c = rw c.in-Look.is refl
+
+pub returns-in-Smallest-clause-leaves : goal.returns-in-Smallest-clause-leaves
+returns-in-Smallest-clause-leaves g c = rw c.in-Smallest.is refl
 
 pub returns-in-Describe-clause-leaves : goal.returns-in-Describe-clause-leaves
 returns-in-Describe-clause-leaves g c = rw c.in-Describe.is refl

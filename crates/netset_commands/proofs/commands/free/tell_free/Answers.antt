@@ -2,14 +2,14 @@ use Rattle.std.proofs.Common.{refl, subst, [], option_map}
 use Rattle.cidr_io.specs.Writing.{Answered}
 use Rattle.cidr_lists.specs.Formats.{printed_walk, style_in}
 use Rattle.cidr_lists.specs.Sets.{networks_of}
-use Rattle.netset_commands.specs.Free.{all_inside, taken}
+use Rattle.netset_commands.specs.Free.{all_told, inside_of, taken}
 use Rattle.netset_commands.specs.declared.output.answers.Verdict.TheVariants.{Yes, No}
 use Rattle.netset_commands.proofs.Taken.{Walk, taken_none}
 use Rattle.netset_commands.proofs.commands.free.tell_free.Goals as goal
 
 pub returns-in-Some : goal.returns-in-Some
 returns-in-Some g c = (
-  printed_walk (option_map (λ s. style_in s) c.args.style) (taken c.args.most (all_inside c.args.len (networks_of c.args.sets.now))),
+  printed_walk (option_map (λ s. style_in s) c.args.style) (taken c.args.most (all_told (inside_of c.args.len) (networks_of c.args.sets.now))),
   Yes,
   c.write_inside.result,
   (c.in-Some.field-0, c.in-Some.ensures, refl),

@@ -33,6 +33,7 @@ returns-clause-answers g c =
       c.matcher_of-matcher.ensures.column,
       c.matcher_of-matcher.ensures.anywhere,
       c.matcher_of-matcher.ensures.inverted,
+      c.matcher_of-matcher.ensures.headed,
       c.matcher_of-matcher.ensures.written,
     ) at c.match_files.ensures.streams)
 

@@ -6,5 +6,5 @@ use Rattle.netset_commands.proofs.commands.matching.match_files.Given as goal
 
 abbrev pub invariant-loop-file : goal.invariant-loop-file
 invariant-loop-file g l =
-    AreStreamed (g.F.Sources.contents l.sources) (Picks l.matcher.anywhere l.matcher.column (IsInSets l.matcher.sets.now) l.matcher.inverted) l.matcher.written
+    AreStreamed (g.F.Sources.contents l.sources) l.matcher.headed (Picks l.matcher.anywhere l.matcher.column (IsInSets l.matcher.sets.now) l.matcher.inverted) l.matcher.written
     (take l.file-index (map (λ file. file.now) l.files)) (g.O.Sink.state l.fn.out) (g.O.Sink.state l.out) l.verdict

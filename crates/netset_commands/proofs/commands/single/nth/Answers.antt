@@ -10,7 +10,7 @@ returns-in-Some-nth g c contents =
       line (ip_text c.in-Some-nth.address),
       Yes,
       c.write_line.result,
-      (c.in_ok-network.network, c.in-Some.index, c.in_ok-network.ensures, c.in-Some.ensures, (c.in-Some-nth.address, c.in-Some-nth.ensures, refl)),
+      (c.in_ok-network.network, c.in-Some.index, c.in_ok-network.ensures, c.in-Some.ensures, (c.in-Some-nth.address, c.in-Some-nth.ensures.0, c.in-Some-nth.ensures.1, refl)),
       rw (c.as_str.ensures.value, c.to_text.ensures.text) at c.write_line.ensures,
       c.by_output.ensures,
     )

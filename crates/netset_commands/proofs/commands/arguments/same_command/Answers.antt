@@ -1,0 +1,14 @@
+use Rattle.std.proofs.Common.{ap, ℕ, List, [], Result, Ok}
+use Rattle.std.proofs.lemmas.Result.{err_from_is_err_and}
+use Rattle.cidr_lists.specs.declared.forms.RowForm.{RowForm}
+use Rattle.netset_commands.specs.Arguments.{and_then, operand_or}
+use Rattle.netset_commands.specs.Command.{given_parts}
+use Rattle.netset_commands.specs.Commands.{Same}
+use Rattle.netset_commands.proofs.commands.arguments.same_command.Goals as goal
+
+pub returns-in_err-form : goal.returns-in_err-form
+returns-in_err-form c =
+    let (y, is, same) = err_from_is_err_and c.from_residual.result c.from_residual.ensures.1 in
+    let given = given_parts c.args.parts.now in
+    rw (is, same) (ap (λ (r : Result RowForm (List ℕ)). and_then r (λ form. Ok (Same form (operand_or given.operands 0 []) (operand_or given.operands 1 []))))
+    (rw c.as_slice.ensures.value at c.in_err-form.ensures))
