@@ -3,6 +3,7 @@
 #![tactic(auto)]
 
 pub mod access_list;
+pub mod address_line;
 pub mod address_plan;
 pub mod address_pool;
 pub mod address_sets;

@@ -10,6 +10,7 @@ use Rattle.cidr.specs.declared.family.Family.{Family}
 use Rattle.cidr_io.specs.Writing.{State, Whole, Tells}
 use Rattle.cidr_lists.specs.Faults.{AreTellings}
 use Rattle.cidr_lists.specs.Lists.{ListSays, Text, text_by}
+use Rattle.cidr_lists.specs.LookUps.{telling_by}
 use Rattle.cidr_lists.specs.Formats.{bare}
 use Rattle.cidr_lists.specs.Lines.{lines_in}
 use Rattle.cidr_lists.specs.Messages.{fault_line}
@@ -19,12 +20,13 @@ use Rattle.cidr_lists.specs.ReadBack.{AreUnions}
 use Rattle.cidr_lists.specs.Sets.{printed_sets}
 use Rattle.cidr_lists.specs.declared.columns.Column.{Column}
 use Rattle.cidr_lists.specs.declared.columns.Separator.{Separator}
-use Rattle.cidr_lists.specs.declared.columns.Separator.TheVariants.{WhiteSpace, Byte}
+use Rattle.cidr_lists.specs.declared.columns.Separator.TheVariants.{Byte}
 use Rattle.cidr_lists.specs.declared.errors.LineError.{LineError}
 use Rattle.cidr_lists.specs.declared.fields.Asked.{Asked}
 use Rattle.cidr_lists.specs.declared.fields.Asked.TheVariants.{First}
-use Rattle.cidr_lists.specs.declared.forms.RowForm.TheVariants.{Fields}
+use Rattle.cidr_lists.specs.declared.objects.Telling.{Telling}
 use Rattle.cidr_lists.specs.declared.formats.Format.TheVariants.{Nft}
+use Rattle.cidr_lists.specs.declared.formats.LineFormat.{LineFormat}
 use Rattle.cidr_lists.specs.declared.formats.LineFormat.TheVariants.{Json, Plain}
 use Rattle.cidr_lists.specs.declared.lines.HostBits.{HostBits}
 use Rattle.cidr_lists.specs.declared.forms.Kind.TheVariants.{Networks}
@@ -35,7 +37,7 @@ use Rattle.netset_commands.specs.Look.{IsLook}
 use Rattle.netset_commands.specs.Matching.{ArePicked, IsMatch, Picks}
 use Rattle.netset_commands.specs.Picking.{FieldOf, FirstField, IsChosen}
 use Rattle.netset_commands.specs.Program.{Runs, contents_by, error_line}
-use Rattle.netset_commands.specs.Typed.{AnswersTyped}
+use Rattle.netset_commands.specs.Typed.{AnswersTyped, IsTyped}
 use Rattle.netset_commands.specs.declared.commands.operations.Operation.TheVariants.{Merge}
 use Rattle.netset_commands.specs.declared.errors.CommandError.TheVariants as error
 use Rattle.netset_commands.specs.declared.commands.matching.Written.TheVariants as written
@@ -45,7 +47,7 @@ use Rattle.netset_commands.proofs.Failures.{Failed, lists_fail}
 use Rattle.netset_commands.proofs.Matched.{of_list}
 use Rattle.netset_commands.proofs.Skipped.{lists_skip}
 use Rattle.netset_commands.proofs.Typed.{typed_asks}
-use Rattle.netset_uses.specs.Runs.{AreLinesBySecond, ArePermittedTheSame, HasPrinted, HasRun, HasSkipped, HasToldLine, holding, second_field}
+use Rattle.netset_uses.specs.Runs.{AreLinesBySecond, ArePermittedTheSame, HasPrinted, HasRun, HasSkipped, HasToldLine, by_words, holding, second_field}
 use Rattle.netset_uses.specs.declared.runs.Finished.{Finished}
 
 -- ---- outputs
@@ -53,7 +55,7 @@ all_told : (err text : List ℕ) → Tells (holding []) (holding err) text → e
 all_told err text (Ok done, (whole, fine)) = whole.taken
 all_told err text (Err e, (part, before)) = absurd (false≢true part.failed)
 
-printed_by : (Is : List ℕ → Type 0) (run : Finished) (answer : List ℕ) → Is answer → Whole (holding []) (holding run.out.items) answer
+pub printed_by : (Is : List ℕ → Type 0) (run : Finished) (answer : List ℕ) → Is answer → Whole (holding []) (holding run.out.items) answer
     → Tells (holding []) (holding run.err.items) [] → HasPrinted Is run
 printed_by Is run answer is whole quiet = (subst Is (sym whole.taken) is, all_told run.err.items [] quiet)
 
@@ -76,7 +78,7 @@ module _ (words : List (List ℕ)) (contents : List ℕ → Option (List ℕ)) (
 abbrev pub merge_words : List (List ℕ)
 merge_words = codes "merge" ∷ codes "list" ∷ []
 
-told_text : (contents : List ℕ → Option (List ℕ)) (name bytes : List ℕ) → contents name ≡ Some bytes → contents_by Refused contents name ≡ Some (text_by Refused bytes)
+pub told_text : (contents : List ℕ → Option (List ℕ)) (name bytes : List ℕ) → contents name ≡ Some bytes → contents_by Refused contents name ≡ Some (text_by Refused bytes)
 told_text contents name bytes told = ap (option_map (text_by Refused)) told
 
 pub merge_printed : (contents : List ℕ → Option (List ℕ)) (list : List ℕ) (run : Finished) → contents (codes "list") ≡ Some list
@@ -204,24 +206,37 @@ goods_printed words contents list (Some run) same told h =
     good_printed contents list run told (subst (λ (k : List (List ℕ)). HasRun k contents run) same h)
 
 -- ---- look
-abbrev pub look_words : List (List ℕ)
-look_words = codes "look" ∷ codes "table" ∷ codes "file" ∷ []
+-- rows by words, looked up without options
+module _ (telling : Telling) (format : LineFormat) (named : List (List ℕ)) (contents : List ℕ → Option (List ℕ)) (table file : List ℕ) (told : telling_by format false ≡ telling)
+    (first : contents (codes "table") ≡ Some table) (second : contents (codes "file") ≡ Some file) where
+  abbrev look_words : List (List ℕ)
+  look_words = codes "look" ∷ (named ++ (codes "table" ∷ codes "file" ∷ []))
 
-pub look_printed : (contents : List ℕ → Option (List ℕ)) (table file : List ℕ) (run : Finished) → contents (codes "table") ≡ Some table
-    → contents (codes "file") ≡ Some file → HasRun look_words contents run → run.status ≡ 0
-    → HasPrinted (λ answer. IsLook false First (Fields WhiteSpace) (text_by Refused table) file answer Yes) run
-look_printed contents table file run first second (answered, runs) ended =
-    let (answer, (asked, of, is), whole, quiet) = answered look_words [] (Look FirstField (Fields WhiteSpace) [] (codes "table") (codes "file")) Yes refl (refl, tt, inl (refl, refl, refl, refl, refl)) ended in
-    printed_by (λ answer. IsLook false First (Fields WhiteSpace) (text_by Refused table) file answer Yes) run answer
-    (subst (λ (k : Asked). IsLook false k (Fields WhiteSpace) (text_by Refused table) file answer Yes) of
-    (is (text_by Refused table) (text_by Refused file) (told_text contents (codes "table") table first) (told_text contents (codes "file") file second))) whole quiet
+  abbrev Printed : List ℕ → Type 0
+  Printed answer = IsLook false telling First (by_words format) (text_by Refused table) file answer Yes
 
-pub looks_printed : (words : List (List ℕ)) (contents : List ℕ → Option (List ℕ)) (table file : List ℕ) (r : Option Finished) → words ≡ look_words
-    → contents (codes "table") ≡ Some table → contents (codes "file") ≡ Some file → IfSome r (HasRun words contents)
-    → IfSome r (λ run. run.status ≡ 0 → HasPrinted (λ answer. IsLook false First (Fields WhiteSpace) (text_by Refused table) file answer Yes) run)
-looks_printed words contents table file None same first second h = tt
-looks_printed words contents table file (Some run) same first second h =
-    look_printed contents table file run first second (subst (λ (k : List (List ℕ)). HasRun k contents run) same h)
+  look_printed : (run : Finished) → HasRun look_words contents run → IsTyped look_words [] (Look FirstField (by_words format) [] (codes "table") (codes "file"))
+      → run.status ≡ 0 → HasPrinted Printed run
+  look_printed run (answered, runs) typed ended =
+      let (answer, (asked, of, is), whole, quiet) = answered look_words [] (Look FirstField (by_words format) [] (codes "table") (codes "file")) Yes refl typed ended in
+      printed_by Printed run answer
+      (subst (λ (t : Telling). IsLook false t First (by_words format) (text_by Refused table) file answer Yes) told
+      (subst (λ (k : Asked). IsLook false (telling_by format false) k (by_words format) (text_by Refused table) file answer Yes) of
+      (is (text_by Refused table) (text_by Refused file) (told_text contents (codes "table") table first) (told_text contents (codes "file") file second)))) whole quiet
+
+  pub looks_printed : (words : List (List ℕ)) (r : Option Finished) → words ≡ look_words
+      → IsTyped look_words [] (Look FirstField (by_words format) [] (codes "table") (codes "file")) → IfSome r (HasRun words contents)
+      → IfSome r (λ run. run.status ≡ 0 → HasPrinted Printed run)
+  looks_printed words None same typed h = tt
+  looks_printed words (Some run) same typed h = look_printed run (subst (λ (k : List (List ℕ)). HasRun k contents run) same h) typed
+
+-- neither needs more of its options
+pub look_typed : IsTyped (codes "look" ∷ codes "table" ∷ codes "file" ∷ []) [] (Look FirstField (by_words Plain) [] (codes "table") (codes "file"))
+look_typed = (refl, tt, λ _. refl, inl (refl, refl, refl, refl, refl))
+
+pub json_look_typed : IsTyped (codes "look" ∷ codes "--format" ∷ codes "json" ∷ codes "table" ∷ codes "file" ∷ []) []
+    (Look FirstField (by_words Json) [] (codes "table") (codes "file"))
+json_look_typed = (refl, tt, λ _. refl, inl (refl, refl, refl, refl, refl))
 
 -- ---- diff
 abbrev pub diff_words : List (List ℕ)
@@ -308,11 +323,11 @@ is_second column ((number, small), (byte, is, by)) =
     ap (λ (k : ℕ). column_at k column.separator) place ∙ ap (λ (k : Separator). column_at 1 k) (by ∙ ap (λ (k : ℕ). Byte k) (sym comma))
 
 -- all lines were read
-all_picked : (P : List ℕ → Result Bool LineError → Type 0) (text answer : List ℕ) (verdict : Verdict) → IsMatch P [] written.Lines text None answer verdict
-    → (picked : List (List ℕ)) × ArePicked P (lines_in text) picked × (answer ≡ flat_map line picked)
+all_picked : (P : List ℕ → Result Bool LineError → Type 0) (text answer : List ℕ) (verdict : Verdict) → IsMatch false P [] written.Lines text None answer verdict
+    → (picked : List (List ℕ) × List (List ℕ)) × ArePicked false P (lines_in text) picked × (answer ≡ flat_map line picked.0)
 all_picked P text answer verdict (read, left, picked, to, long, inl none, is, by) = (
   picked,
-  subst (λ (k : List (List ℕ)). ArePicked P k picked) (sym (to.lines ∙ (ap (λ (k : List (List ℕ)). read ++ k) none ∙ append-nil read))) to.are,
+  subst (λ (k : List (List ℕ)). ArePicked false P k picked) (sym (to.lines ∙ (ap (λ (k : List (List ℕ)). read ++ k) none ∙ append-nil read))) to.are,
   is,
 )
 all_picked P text answer verdict (read, left, picked, to, long, inr (nothing, some), is, by) = cc
@@ -326,7 +341,7 @@ match_printed contents list file run first second (answered, runs) ended =
     let match = is (text_by Refused list) (text_by Refused file) (told_text contents (codes "list") list first) (told_text contents (codes "file") file second) in
     printed_by (AreLinesBySecond (text_by Refused list) file) run answer
     (of_list (text_by Refused list) _ _ (λ IsIn same. all_picked (Picks false second_field IsIn false) file answer Yes same)
-    (subst (λ (k : Column). HoldsOf (text_by Refused list) (λ IsIn. IsMatch (Picks false k IsIn false) [] written.Lines file None answer Yes))
+    (subst (λ (k : Column). HoldsOf (text_by Refused list) (λ IsIn. IsMatch false (Picks false k IsIn false) [] written.Lines file None answer Yes))
     (is_second column chosen) match)) whole quiet
 
 pub matches_printed : (words : List (List ℕ)) (contents : List ℕ → Option (List ℕ)) (list file : List ℕ) (r : Option Finished) → words ≡ match_words

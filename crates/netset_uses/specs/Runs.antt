@@ -1,6 +1,9 @@
 -- What a run of `netset` over texts in memory has done.
 use Rattle.std.specs.Prelude.{◌≡◌, ℕ, Bool, false, List, [], ◌∷◌, Option, Some}
 use Rattle.std.specs.List.{flat_map}
+use Rattle.cidr.specs.model.Network.{HasWidth, width_of}
+use Rattle.cidr.specs.declared.family.Family.{Family}
+use Rattle.cidr_forwarding.specs.Differences.{AreAnswers}
 use Rattle.cidr_io.specs.Writing.{State}
 use Rattle.cidr_lists.specs.Faults.{AreTellings}
 use Rattle.cidr_lists.specs.Lists.{IsFirstError, Text}
@@ -8,10 +11,14 @@ use Rattle.cidr_lists.specs.Lines.{lines_in}
 use Rattle.cidr_lists.specs.Messages.{fault_line}
 use Rattle.cidr_lists.specs.Printing.{line}
 use Rattle.cidr_lists.specs.Rules.{AreRuleChanges}
+use Rattle.cidr_lists.specs.Tables.{IsTable}
 use Rattle.cidr_lists.specs.declared.columns.Column.{Column}
-use Rattle.cidr_lists.specs.declared.columns.Separator.TheVariants.{Byte}
+use Rattle.cidr_lists.specs.declared.columns.Separator.TheVariants.{WhiteSpace, Byte}
 use Rattle.cidr_lists.specs.declared.errors.LineError.{LineError}
 use Rattle.cidr_lists.specs.declared.forms.Kind.TheVariants.{Networks}
+use Rattle.cidr_lists.specs.declared.forms.RowForm.{RowForm}
+use Rattle.cidr_lists.specs.declared.forms.RowLayout.TheVariants.{Fields}
+use Rattle.cidr_lists.specs.declared.formats.LineFormat.{LineFormat}
 use Rattle.cidr_lists.specs.declared.formats.LineFormat.TheVariants.{Plain}
 use Rattle.netset_commands.specs.Causes.{Refusals}
 use Rattle.netset_commands.specs.Commands.{HoldsOf}
@@ -45,14 +52,24 @@ abbrev pub HasSkipped : List ℕ → Text → (List Text → List ℕ → Type 0
 HasSkipped file text Made run = AreTellings Networks (file ∷ []) (text ∷ []) run.err.items
     × ((good : Text) × IsGoodText false Networks text good × Made (good ∷ []) run.out.items)
 
+-- rows of a network and its value, with white space between them, whose values are told in this format
+abbrev pub by_words : LineFormat → RowForm
+by_words format = record { layout = Fields WhiteSpace; values = format }
+
 -- the second field of a line between commas
 abbrev pub second_field : Column
 second_field = record { place = 1; separator = Byte 44 }
 
 -- the lines of a text whose second field lies in a list
 abbrev pub AreLinesBySecond : Text → List ℕ → List ℕ → Type 0
-AreLinesBySecond networks text answer = HoldsOf networks (λ IsIn. (picked : List (List ℕ))
-    × ArePicked (Picks false second_field IsIn false) (lines_in text) picked × (answer ≡ flat_map line picked))
+AreLinesBySecond networks text answer = HoldsOf networks (λ IsIn. (picked : List (List ℕ) × List (List ℕ))
+    × ArePicked false (Picks false second_field IsIn false) (lines_in text) picked × (answer ≡ flat_map line picked.0))
+
+-- two texts say tables, and each address has the same value in both, or none; nothing is told
+abbrev pub GiveSameValues : Text → Text → List ℕ → Type 0
+GiveSameValues old new answer = (before after : Family → List (List Bool × List ℕ)) × IsTable (by_words Plain) old before × IsTable (by_words Plain) new after
+    × ((family : Family) (a : List Bool) → HasWidth (width_of family) a → (values : Option (List ℕ) × Option (List ℕ))
+    → AreAnswers (before family) (after family) a values → values.0 ≡ values.1) × (answer ≡ [])
 
 -- nothing is told of what the rules of one list permit and those of the other do not
 abbrev pub ArePermittedTheSame : Text → Text → List ℕ → Type 0

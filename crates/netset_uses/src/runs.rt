@@ -1,19 +1,18 @@
 //! Runs of `netset`: what they print, and what they tell of an error.
 ghost use Rattle.std.specs.Prelude.{◌≡◌, ◌≢◌, [], ◌∷◌, codes, false, map, IfSome, None, Some};
-ghost use Rattle.cidr_lists.specs.declared.columns.Separator.TheVariants.{WhiteSpace};
 ghost use Rattle.cidr_lists.specs.declared.fields.Asked.TheVariants.{First};
-ghost use Rattle.cidr_lists.specs.declared.forms.RowForm.TheVariants.{Fields};
 ghost use Rattle.cidr_lists.specs.Lists.{text_by};
 ghost use Rattle.cidr_lists.specs.declared.lines.HostBits.TheVariants.{Refused};
 ghost use Rattle.cidr_lists.specs.Formats.{bare};
 ghost use Rattle.cidr_lists.specs.Rules.{AreAllShadowLines, ArePermittedLines};
 ghost use Rattle.cidr_lists.specs.declared.formats.Format.TheVariants.{Nft};
-ghost use Rattle.cidr_lists.specs.declared.formats.LineFormat.TheVariants.{Json};
+ghost use Rattle.cidr_lists.specs.declared.formats.LineFormat.TheVariants.{Plain, Json};
+ghost use Rattle.cidr_lists.specs.declared.objects.Telling.TheVariants.{Alone, Objects};
 ghost use Rattle.netset_commands.specs.Commands.{IsDiff, IsMadeOf};
 ghost use Rattle.netset_commands.specs.Look.{IsLook};
 ghost use Rattle.netset_commands.specs.declared.commands.operations.Operation.TheVariants.{Merge};
 ghost use Rattle.netset_commands.specs.declared.output.answers.Verdict.TheVariants.{Yes, No};
-ghost use Rattle.netset_uses.specs.Runs.{AreLinesBySecond, ArePermittedTheSame, HasPrinted, HasRun, HasSkipped, HasToldLine};
+ghost use Rattle.netset_uses.specs.Runs.{AreLinesBySecond, ArePermittedTheSame, GiveSameValues, HasPrinted, HasRun, HasSkipped, HasToldLine, by_words};
 ghost use Rattle.netset_uses.specs.Texts.{contents_of};
 
 use crate::texts::{TextFile, TextFiles, Words};
@@ -91,7 +90,7 @@ pub fn merge_good(alloc: Global, list: &[u8]) -> Option<Finished>
 /// network of the table that has it, and the value of that.
 pub fn look(alloc: Global, table: &[u8], file: &[u8]) -> Option<Finished>
     ensures { IfSome result (λ run. run.status ≡ 0
-        → HasPrinted (λ answer. IsLook false First (Fields WhiteSpace) (text_by Refused table.now) file.now answer Yes) run) }
+        → HasPrinted (λ answer. IsLook false Alone First (by_words Plain) (text_by Refused table.now) file.now answer Yes) run) }
 {
     let files = [
         TextFile {
@@ -104,6 +103,29 @@ pub fn look(alloc: Global, table: &[u8], file: &[u8]) -> Option<Finished>
         },
     ];
     run(alloc, &["look", "table", "file"], &files)
+}
+
+/// A run of `netset look --format json table file`. With status 0 it has printed an object of JSON for each address of the
+/// file, with the longest network of the table that has it, and the value of that.
+pub fn look_as_json(alloc: Global, table: &[u8], file: &[u8]) -> Option<Finished>
+    ensures { IfSome result (λ run. run.status ≡ 0
+        → HasPrinted (λ answer. IsLook false Objects First (by_words Json) (text_by Refused table.now) file.now answer Yes) run) }
+{
+    let files = [
+        TextFile {
+            name: "table",
+            bytes: table,
+        },
+        TextFile {
+            name: "file",
+            bytes: file,
+        },
+    ];
+    run(
+        alloc,
+        &["look", "--format", "json", "table", "file"],
+        &files,
+    )
 }
 
 /// A run of `netset acl rules`. With status 0 it has printed the networks that the access list permits.
@@ -146,6 +168,25 @@ pub fn differences(alloc: Global, old: &[u8], new: &[u8]) -> Option<Finished>
         },
     ];
     run(alloc, &["diff", "--format", "json", "old", "new"], &files)
+}
+
+/// A run of `netset same old new`. With status 0 both tables give each address the same value, or none, and it has printed
+/// nothing.
+pub fn same_values(alloc: Global, old: &[u8], new: &[u8]) -> Option<Finished>
+    ensures { IfSome result (λ run. run.status ≡ 0
+        → HasPrinted (GiveSameValues (text_by Refused old.now) (text_by Refused new.now)) run) }
+{
+    let files = [
+        TextFile {
+            name: "old",
+            bytes: old,
+        },
+        TextFile {
+            name: "new",
+            bytes: new,
+        },
+    ];
+    run(alloc, &["same", "old", "new"], &files)
 }
 
 /// A run of `netset acl --shadowed rules`. With status 1 it has told the rules that no address reaches, each with the earlier

@@ -1,6 +1,8 @@
-use Rattle.std.proofs.Common.{refl}
-use Rattle.netset_uses.proofs.Telling.{looks_printed}
+use Rattle.std.proofs.Common.{[], refl}
+use Rattle.cidr_lists.specs.declared.formats.LineFormat.TheVariants.{Plain}
+use Rattle.cidr_lists.specs.declared.objects.Telling.TheVariants.{Alone}
+use Rattle.netset_uses.proofs.Telling.{look_typed, looks_printed}
 use Rattle.netset_uses.proofs.runs.look.Goals as goal
 
 pub returns : goal.returns
-returns c = looks_printed _ _ c.args.table.now c.args.file.now c.run.result refl refl refl c.run.ensures
+returns c = looks_printed Alone Plain [] _ c.args.table.now c.args.file.now refl refl refl _ c.run.result refl look_typed c.run.ensures
