@@ -1,6 +1,5 @@
 //! Answering the commands.
 ghost use Rattle.std.specs.Prelude.{◌≡◌, ◌≤◌, ◌<◌, ◌+◌, ◌++◌, length, map, decimal, codes, if◌then◌else◌};
-ghost use Rattle.std.specs.Char.{digit_char};
 ghost use Rattle.cidr.specs.model.Bits.{bit_cmp};
 ghost use Rattle.cidr.specs.either.IpNetwork.{any_bits};
 ghost use Rattle.cidr.specs.texts.PrintedAddress.{ip_text};
@@ -12,6 +11,7 @@ use crate::walks::{Ends, write_walk};
 use arrayvec::ArrayString;
 use cidr::parsers::parse_loose_ip;
 use cidr::{AnyIpCidr, Family, IpAddr, IpCidr};
+use cidr_io::shown::hex_digit;
 use cidr_io::sink::Sink;
 use cidr_io::writing::write_text;
 use itoa::Buffer;
@@ -147,15 +147,6 @@ fn walk<S: Sink>(net: &str, ends: &Ends, out: &mut S) -> Result<(), ToolError>
 
 /// Two digits for each of 17 compact bytes, and a line feed.
 const MOST_HEX: usize = 35;
-
-/// The hexadecimal digit, in lower case.
-fn hex_digit(digit: u8) -> char
-    requires { digit < 16 }
-    ensures value { result ≡ digit_char digit }
-    ensures ascii { result < 128 }
-{
-    char::from_digit(u32::from(digit), 16).unwrap()
-}
 
 /// Appends the two digits of a byte.
 fn push_byte(line: &mut ArrayString<MOST_HEX>, byte: u8)

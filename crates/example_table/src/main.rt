@@ -1,26 +1,35 @@
 //! A routing table: networks with a next hop each, of which the longest that an address is in decides.
 #![tactic(auto)]
 
-use cidr::errors::NetworkParseError;
+use anyhow::Result;
 use cidr::{Ipv4Addr, Ipv4Cidr};
-use cidr_table::{LoadError, LpmTable, longest_match};
-use std::io;
+use cidr_table::{LpmTable, longest_match};
 
 type Routes = LpmTable<Ipv4Cidr, Ipv4Addr>;
 
-fn main(rt: HostRuntime) -> Result<(), Failure> {
+fn main(rt: HostRuntime) -> Result<()> {
     let mut routes = Routes::new(rt.alloc());
-    routes.insert("0.0.0.0/0".parse()?, Ipv4Addr::new(192, 0, 2, 1))?;
-    routes.insert("10.0.0.0/8".parse()?, Ipv4Addr::new(192, 0, 2, 2))?;
+    routes.set("0.0.0.0/0".parse()?, Ipv4Addr::new(192, 0, 2, 1))?;
+    routes.set("10.0.0.0/8".parse()?, Ipv4Addr::new(192, 0, 2, 2))?;
     println!(rt; "{:?}", next_hop(&routes, Ipv4Addr::new(10, 1, 2, 3)))?; // Some(192.0.2.2)
     println!(rt; "{:?}", next_hop(&routes, Ipv4Addr::new(198, 51, 100, 1)))?; // Some(192.0.2.1)
 
-    let before = routes.insert("10.0.0.0/8".parse()?, Ipv4Addr::new(192, 0, 2, 3))?;
-    println!(rt; "{before:?}")?; // Some(192.0.2.2)
+    changes(&rt, routes)?;
+    lists(&rt)?;
+    refused(&rt)
+}
+
+/// Routes that are replaced and removed.
+fn changes(rt: &HostRuntime, table: Routes) -> Result<()> {
+    let mut routes = table;
+    println!(rt;
+        "{:?}",
+        routes.insert("10.0.0.0/8".parse()?, Ipv4Addr::new(192, 0, 2, 3))
+    )?; // Ok(Some(192.0.2.2))
     println!(rt; "{:?}", routes.get(&"10.0.0.0/8".parse()?))?; // Some(192.0.2.3)
     println!(rt; "{:?}", routes.remove(&"0.0.0.0/0".parse()?))?; // Some(192.0.2.1)
     println!(rt; "{:?}", next_hop(&routes, Ipv4Addr::new(198, 51, 100, 1)))?; // None
-    lists(&rt)
+    Ok(())
 }
 
 /// The value of the longest network that the address is in, or `None` where it is in none.
@@ -30,7 +39,8 @@ fn next_hop(routes: &Routes, address: Ipv4Addr) -> Option<Ipv4Addr> {
     Some(*next_hop)
 }
 
-fn lists(rt: &HostRuntime) -> Result<(), Failure> {
+/// Networks that are loaded as a table, with their indices.
+fn lists(rt: &HostRuntime) -> Result<()> {
     // the prefix bytes of 10.0.0.0/9, 10.128.0.0/9 and 192.0.2.0/24
     let bytes = [9, 10, 0, 9, 10, 128, 24, 192, 0, 2];
     let table = LpmTable::<Ipv4Cidr, usize>::load(rt.alloc(), &bytes)?;
@@ -44,46 +54,15 @@ fn lists(rt: &HostRuntime) -> Result<(), Failure> {
         let count = table.least_cover(&mut networks);
         println!(rt; "{:?}", &networks[..count])?; // [10.0.0.0/8, 192.0.2.0/24]
     }
-
-    // a prefix length of 40
-    match LpmTable::<Ipv4Cidr, usize>::load(rt.alloc(), &[8, 10, 40]) {
-        Ok(table) => println!(rt; "{} rows", table.len())?,
-        Err(LoadError::Prefix(index, error)) => println!(rt; "prefix {index}: {error}")?,
-        Err(LoadError::NoMemory) => return Err(Failure::NoMemory),
-    }
     Ok(())
 }
 
-/// What this program fails by.
-#[derive(Debug, Drop)]
-enum Failure {
-    Network(NetworkParseError),
-    Load(LoadError),
-    NoMemory,
-    Output(io::Error),
-}
-
-impl From<NetworkParseError> for Failure {
-    fn from(error: NetworkParseError) -> Failure {
-        Failure::Network(error)
+/// A list that is refused.
+fn refused(rt: &HostRuntime) -> Result<()> {
+    // a prefix length of 40
+    match LpmTable::<Ipv4Cidr, usize>::load(rt.alloc(), &[8, 10, 40]) {
+        Ok(table) => println!(rt; "{} rows", table.len())?,
+        Err(error) => println!(rt; "{error}")?,
     }
-}
-
-/// `insert` that found no memory returns the key and the value.
-impl From<(Ipv4Cidr, Ipv4Addr)> for Failure {
-    fn from(_row: (Ipv4Cidr, Ipv4Addr)) -> Failure {
-        Failure::NoMemory
-    }
-}
-
-impl From<LoadError> for Failure {
-    fn from(error: LoadError) -> Failure {
-        Failure::Load(error)
-    }
-}
-
-impl From<io::Error> for Failure {
-    fn from(error: io::Error) -> Failure {
-        Failure::Output(error)
-    }
+    Ok(())
 }

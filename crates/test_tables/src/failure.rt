@@ -1,0 +1,46 @@
+//! What this program fails by.
+use cidr::errors::NetworkParseError;
+use cidr_fib::ForwardingError;
+use std::alloc::AllocError;
+use std::io;
+use std::num::ParseIntError;
+
+/// What this program fails by.
+#[derive(Debug, Drop)]
+pub enum Failure {
+    Forwarding(ForwardingError),
+    Network(NetworkParseError),
+    Value(ParseIntError),
+    NoMemory,
+    System(io::Error),
+}
+
+impl From<ForwardingError> for Failure {
+    fn from(error: ForwardingError) -> Failure {
+        Failure::Forwarding(error)
+    }
+}
+
+impl From<NetworkParseError> for Failure {
+    fn from(error: NetworkParseError) -> Failure {
+        Failure::Network(error)
+    }
+}
+
+impl From<ParseIntError> for Failure {
+    fn from(error: ParseIntError) -> Failure {
+        Failure::Value(error)
+    }
+}
+
+impl From<AllocError> for Failure {
+    fn from(_error: AllocError) -> Failure {
+        Failure::NoMemory
+    }
+}
+
+impl From<io::Error> for Failure {
+    fn from(error: io::Error) -> Failure {
+        Failure::System(error)
+    }
+}
