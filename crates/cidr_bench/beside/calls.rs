@@ -60,6 +60,7 @@ mod alone {
         by_std("read IpAddr", || read::<IpAddr>(rounds, &texts(address, false)));
         let v4: Vec<Ipv4Addr> = (0..MANY).map(|index| ipv4_sample(index).0).collect();
         by_std("print IPv4 address", || print(rounds, &v4));
+        by_std("print IPv4 line", || each(rounds, &v4, |value| written(|text| writeln!(text, "{value}"))));
         let v6: Vec<Ipv6Addr> = (0..MANY).map(|index| ipv6_sample(index).0).collect();
         by_std("print IPv6 address", || print(rounds, &v6));
     }

@@ -5,7 +5,7 @@
 //!   each with a bit for each inner node and for each leaf that differs from the one before it, which are counted;
 //! - arrays by 16 bits and then by eight each.
 //!
-//! `forwarding input ROWS` writes what `test_forwarding` reads: the rows, a million look-up keys of each kind, and `speed`
+//! `forwarding input ROWS` writes what `test_tables` reads: the rows, a million look-up keys of each kind, and `speed`
 //! behind each. `forwarding time ROWS` prints lines with tabs between for each way and kind: the name, the nanoseconds of
 //! a look-up and a number that hangs on all values, and then for each way the bytes that a row takes and the nanoseconds
 //! that it takes to build. Each time is the least of five turns. It fails where a value differs from that of a walk down

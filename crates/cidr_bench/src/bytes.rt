@@ -2,7 +2,8 @@
 
 use crate::bench::{Bench, Call};
 use crate::numbers::Number;
-use crate::samples::{Sample, made, samples};
+use crate::samples::{Sample, samples};
+use crate::values::MANY;
 use arrayvec::ArrayVec;
 use cidr::{IpCidr, Ipv4Cidr, Ipv6Cidr, PrefixBytes};
 use std::io;
@@ -79,18 +80,20 @@ fn time_writing<C: Sample + Drop, W: Call<C>>(
 
 /// Times reading of prefix bytes of one family.
 fn time_prefixes<C: PrefixBytes + Sample + Number + Drop>(bench: &Bench<'_>) -> io::Result<()> {
-    let bytes = made(bench.rt.alloc(), |index| {
-        padded(&C::sample(index).to_prefix_bytes())
-    })?;
+    let mut bytes = Vec::with_capacity(bench.rt.alloc(), MANY)?;
+    for index in 0..MANY {
+        bytes.push(padded(&C::sample(index).to_prefix_bytes()))?;
+    }
     let call = ReadPrefix::<C>(PhantomData);
     bench.each("read prefix bytes", call, bytes.as_slice())
 }
 
 /// Times reading of compact bytes.
 fn time_compact(bench: &Bench<'_>) -> io::Result<()> {
-    let bytes = made(bench.rt.alloc(), |index| {
-        padded(&IpCidr::sample(index).to_compact())
-    })?;
+    let mut bytes = Vec::with_capacity(bench.rt.alloc(), MANY)?;
+    for index in 0..MANY {
+        bytes.push(padded(&IpCidr::sample(index).to_compact()))?;
+    }
     bench.each("read compact bytes", ReadCompact, bytes.as_slice())
 }
 

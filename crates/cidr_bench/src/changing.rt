@@ -1,12 +1,11 @@
 //! Changes of many rows or networks: single ones are put into a table or a set, and taken out again.
 
 use crate::bench::{Bench, named};
-use crate::routes::Route;
+use crate::routes::{Route, outside_routes};
 use crate::values::mixed;
 use cidr::NetworkBits;
 use cidr_sets::NetworkSet;
 use cidr_table::LpmTable;
-use std::alloc::{AllocError, Global};
 use std::io;
 use std::time::Instant;
 
@@ -111,15 +110,6 @@ fn turn<C, T: Changed<C>>(
     ])
 }
 
-/// So many addresses that are in no route, as networks, from an index on.
-pub fn networks<C: Route>(alloc: Global, from: usize, size: usize) -> Result<Vec<C>, AllocError> {
-    let mut networks = Vec::with_capacity(alloc, size)?;
-    for index in 0..size {
-        networks.push(C::outside(from.wrapping_add(index)))?;
-    }
-    Ok(networks)
-}
-
 /// Times single networks that are put in and taken out: addresses that are in no route, from an index on. The first name
 /// is that of the row of those that are put in.
 pub fn time_changes<C: Route, T: Changed<C>>(
@@ -132,7 +122,7 @@ pub fn time_changes<C: Route, T: Changed<C>>(
     if !bench.wants(put.as_str()) && !bench.wants(take.as_str()) {
         return Ok(());
     }
-    let networks = networks::<C>(bench.rt.alloc(), from, CHANGED)?;
+    let networks = outside_routes::<C>(bench.rt.alloc(), from, CHANGED)?;
     let mut times = [Time::new(); 2];
     for _ in 0..TURNS {
         times = turn(bench.rt, changed, networks.as_slice(), times)?;

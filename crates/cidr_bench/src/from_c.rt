@@ -1,7 +1,9 @@
 //! The calls that the library for C makes, on the values that crates/cidr_c/beside/calls.c has.
 
 use crate::bench::{Bench, Call, Work, called};
-use crate::numbers::{Number, folded};
+use crate::loading::rows;
+use crate::numbers::Number;
+use crate::printing::Print;
 use crate::reading::{Read, Text};
 use crate::{arrays, files};
 use cidr::{AnyIpCidr, IpAddr, IpInet};
@@ -20,15 +22,6 @@ const NETWORKS: usize = 100_000;
 
 /// Two networks of which something is asked.
 type Two = (AnyIpCidr, AnyIpCidr);
-
-#[derive(Drop)]
-struct Print;
-
-impl Call<AnyIpCidr> for Print {
-    fn number(&self, network: &AnyIpCidr) -> u32 {
-        text_number(network.to_text().as_str())
-    }
-}
 
 #[derive(Drop)]
 struct First;
@@ -70,22 +63,6 @@ impl Call<Two> for Compare {
     }
 }
 
-/// The number of a string, eight bytes at a time, and then one by one.
-fn text_number(text: &str) -> u32 {
-    let mut sum = text.len() as u64;
-    for part in text.as_bytes().chunks(8) {
-        match part.first_chunk::<8>() {
-            Some(eight) => sum = sum.rotate_left(9) ^ u64::from_le_bytes(*eight),
-            None => {
-                for byte in part {
-                    sum = sum.rotate_left(9) ^ u64::from(*byte);
-                }
-            }
-        }
-    }
-    folded(u128::from(sum))
-}
-
 /// Whether a set has an address.
 #[derive(Drop)]
 struct IsIn<'a>(&'a NetworkSet<AnyIpCidr>);
@@ -115,12 +92,12 @@ impl Work for ContainsEach<'_> {
 
 /// The longest match of an address, as an index.
 #[derive(Drop)]
-struct MatchIn<'a>(&'a Lookups<'a, AnyIpCidr, usize>);
+struct MatchIn<'a>(&'a Lookups<'a, AnyIpCidr, u32>);
 
 impl Call<AnyIpCidr> for MatchIn<'_> {
     fn number(&self, asked: &AnyIpCidr) -> u32 {
         match self.0.lookup(asked) {
-            Some(row) => (row.1 % 4_294_967_296) as u32,
+            Some(row) => row.1,
             None => u32::MAX,
         }
     }
@@ -135,17 +112,9 @@ struct MatchEach<'a> {
 }
 
 impl MatchEach<'_> {
-    /// The rows of the table: the networks with their indices.
-    fn rows(&self) -> Result<Vec<(AnyIpCidr, usize)>, AllocError> {
-        let mut rows = Vec::with_capacity(self.alloc, self.networks.len())?;
-        for (index, network) in self.networks.iter().enumerate() {
-            rows.push((*network, index))?;
-        }
-        Ok(rows)
-    }
-
+    /// Makes the table of the networks with their places, and looks up in it.
     fn look_up(&self, sum: u32) -> Result<u32, AllocError> {
-        let table = LpmTable::from_rows(self.rows()?);
+        let table = LpmTable::from_rows(rows(self.alloc, self.networks)?);
         let ready = table.lookups(self.alloc)?;
         Ok(called(sum, &MatchIn(&ready), self.asked))
     }
@@ -224,14 +193,9 @@ fn time_many(bench: &Bench<'_>, many: &[IpInet], hosts: &[IpInet]) -> io::Result
 
 /// Networks in their order, each once.
 fn ascending(alloc: Global, networks: &[AnyIpCidr]) -> Result<Vec<AnyIpCidr>, AllocError> {
-    let mut rows = Vec::with_capacity(alloc, networks.len())?;
-    for network in networks {
-        rows.push((*network, ()))?;
-    }
-    let mut found = Vec::new(alloc);
-    for row in LpmTable::from_rows(rows).iter() {
-        found.push(row.0)?;
-    }
+    let mut found = networks.to_vec(alloc)?;
+    found.sort_unstable();
+    found.dedup();
     Ok(found)
 }
 

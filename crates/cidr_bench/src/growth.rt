@@ -1,9 +1,9 @@
 //! How calls grow: tables and sets of as many rows or networks as are asked for, in no order. Each network is one address.
 
 use crate::bench::Bench;
-use crate::changing::{networks, time_changes};
-use crate::loading::{FromRows, Load, prefixes, rows};
-use crate::routes::Route;
+use crate::changing::time_changes;
+use crate::loading::{rows, time_load, time_rows};
+use crate::routes::{Route, outside_routes};
 use crate::sets::{OfNetworks, OfSets, Operation, sort_lists};
 use cidr::{Ipv4Cidr, Ipv6Cidr};
 use cidr_sets::{AddressSpace, NetworkSet};
@@ -13,34 +13,20 @@ use std::io;
 
 /// The set of these.
 fn set<C: Route>(alloc: Global, from: usize, size: usize) -> Result<NetworkSet<C>, AllocError> {
-    Ok(NetworkSet::from_vec(networks(alloc, from, size)?))
-}
-
-/// The table of these, each with a value.
-fn table<C: Route>(alloc: Global, size: usize) -> Result<LpmTable<C, u32>, AllocError> {
-    Ok(LpmTable::from_rows(rows(alloc, size, |index| C::outside(index))?))
-}
-
-/// Times making a table of rows.
-fn time_from_rows<C: Route>(bench: &Bench<'_>, size: usize) -> io::Result<()> {
-    let rows = rows(bench.rt.alloc(), size, |index| C::outside(index))?;
-    bench.time(
-        "from_rows",
-        size,
-        FromRows(bench.rt.alloc(), rows.as_slice()),
-    )
+    Ok(NetworkSet::from_vec(outside_routes(alloc, from, size)?))
 }
 
 /// Times loading a table from prefix bytes.
-fn time_load(bench: &Bench<'_>, size: usize) -> io::Result<()> {
-    let bytes = prefixes(bench.rt.alloc(), size, |index| Ipv4Cidr::outside(index))?;
-    bench.time("load", size, Load(bench.rt.alloc(), bytes.as_slice()))
+fn time_loaded(bench: &Bench<'_>, size: usize) -> io::Result<()> {
+    let networks = outside_routes::<Ipv4Cidr>(bench.rt.alloc(), 0, size)?;
+    time_load(bench, "load", networks.as_slice())
 }
 
-/// Times single rows that are put into a table and taken out.
-fn time_table<C: Route>(bench: &Bench<'_>, size: usize) -> io::Result<()> {
-    let mut table = table::<C>(bench.rt.alloc(), size)?;
-    time_changes(bench, ["table insert", "table remove"], &mut table, size)
+/// Times single rows that are put into a table of networks and taken out.
+fn time_table<C: Route>(bench: &Bench<'_>, networks: &[C]) -> io::Result<()> {
+    let mut table = LpmTable::from_rows(rows(bench.rt.alloc(), networks)?);
+    let from = networks.len();
+    time_changes(bench, ["table insert", "table remove"], &mut table, from)
 }
 
 /// Times single networks that are put into a set and taken out.
@@ -61,9 +47,11 @@ fn time_made<C: AddressSpace + Copy>(bench: &Bench<'_>, networks: &mut [C]) -> i
     )
 }
 
-/// Times the set of networks.
-fn time_from_networks<C: Route + AddressSpace>(bench: &Bench<'_>, size: usize) -> io::Result<()> {
-    let mut networks = networks::<C>(bench.rt.alloc(), 0, size)?;
+/// Times tables of networks, and the set of them.
+fn time_networks<C: Route + AddressSpace>(bench: &Bench<'_>, size: usize) -> io::Result<()> {
+    let mut networks = outside_routes::<C>(bench.rt.alloc(), 0, size)?;
+    time_rows(bench, "from_rows", networks.as_slice())?;
+    time_table(bench, networks.as_slice())?;
     time_made(bench, networks.as_mut_slice())
 }
 
@@ -77,16 +65,14 @@ fn time_union<C: Route + AddressSpace>(bench: &Bench<'_>, size: usize) -> io::Re
 
 /// Times calls on so many rows or networks of one family.
 fn time<C: Route + AddressSpace>(bench: &Bench<'_>, size: usize) -> io::Result<()> {
-    time_from_rows::<C>(bench, size)?;
-    time_table::<C>(bench, size)?;
-    time_from_networks::<C>(bench, size)?;
+    time_networks::<C>(bench, size)?;
     time_union::<C>(bench, size)?;
     time_set::<C>(bench, size)
 }
 
 /// Times calls on so many rows or networks, each in one round.
 pub fn time_all(bench: &Bench<'_>, size: usize) -> io::Result<()> {
-    time_load(&bench.of("IPv4"), size)?;
+    time_loaded(&bench.of("IPv4"), size)?;
     time::<Ipv4Cidr>(&bench.of("IPv4"), size)?;
     time::<Ipv6Cidr>(&bench.of("IPv6"), size)
 }

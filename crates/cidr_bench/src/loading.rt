@@ -19,39 +19,36 @@ fn network(index: usize) -> Ipv4Cidr {
         .network()
 }
 
-/// The prefixes of so many networks, in the order of their indices.
-pub fn prefixes<F: Fn(usize) -> Ipv4Cidr>(
-    alloc: Global,
-    size: usize,
-    network: F,
-) -> Result<Vec<u8>, AllocError>
-    requires { F.IsAlwaysCallable network }
-{
-    let mut bytes = Vec::new(alloc);
+/// So many of these networks.
+fn networks(alloc: Global, size: usize) -> Result<Vec<Ipv4Cidr>, AllocError> {
+    let mut networks = Vec::with_capacity(alloc, size)?;
     for index in 0..size {
-        bytes.extend_from_slice(network(index).to_prefix_bytes().as_slice())?;
+        networks.push(network(index))?;
+    }
+    Ok(networks)
+}
+
+/// The prefixes of networks.
+fn prefixes(alloc: Global, networks: &[Ipv4Cidr]) -> Result<Vec<u8>, AllocError> {
+    let mut bytes = Vec::new(alloc);
+    for network in networks {
+        bytes.extend_from_slice(network.to_prefix_bytes().as_slice())?;
     }
     Ok(bytes)
 }
 
-/// So many rows, each with its index as far as that fits.
-pub fn rows<C: Drop, F: Fn(usize) -> C>(
-    alloc: Global,
-    size: usize,
-    network: F,
-) -> Result<Vec<(C, u32)>, AllocError>
-    requires { F.IsAlwaysCallable network }
-{
-    let mut rows = Vec::with_capacity(alloc, size)?;
-    for index in 0..size {
-        rows.push((network(index), (index % 4_294_967_296) as u32))?;
+/// A row of each network, with its place as far as that fits.
+pub fn rows<C: Copy>(alloc: Global, networks: &[C]) -> Result<Vec<(C, u32)>, AllocError> {
+    let mut rows = Vec::with_capacity(alloc, networks.len())?;
+    for (place, network) in networks.iter().enumerate() {
+        rows.push((*network, (place % 4_294_967_296) as u32))?;
     }
     Ok(rows)
 }
 
 /// Loads a table from the bytes.
 #[derive(Drop)]
-pub struct Load<'a>(pub Global, pub &'a [u8]);
+struct Load<'a>(Global, &'a [u8]);
 
 impl Work for Load<'_> {
     #[inline(never)]
@@ -66,7 +63,7 @@ impl Work for Load<'_> {
 
 /// Makes a table of a copy of rows.
 #[derive(Drop)]
-pub struct FromRows<'a, C>(pub Global, pub &'a [(C, u32)]);
+struct FromRows<'a, C>(Global, &'a [(C, u32)]);
 
 impl<C: NetworkBits + Copy> Work for FromRows<'_, C> {
     #[inline(never)]
@@ -79,29 +76,38 @@ impl<C: NetworkBits + Copy> Work for FromRows<'_, C> {
     }
 }
 
-/// Times loading a list in no order.
-fn time_load(bench: &Bench<'_>, name: &str) -> io::Result<()> {
-    let bytes = prefixes(bench.rt.alloc(), PREFIXES, |index| network(index))?;
-    bench.time(name, PREFIXES, Load(bench.rt.alloc(), bytes.as_slice()))
+/// Times loading a list of networks.
+pub fn time_load(bench: &Bench<'_>, name: &str, networks: &[Ipv4Cidr]) -> io::Result<()> {
+    let bytes = prefixes(bench.rt.alloc(), networks)?;
+    bench.time(
+        name,
+        networks.len(),
+        Load(bench.rt.alloc(), bytes.as_slice()),
+    )
 }
 
-/// Times making a table of the same rows.
-fn time_rows(bench: &Bench<'_>, name: &str) -> io::Result<()> {
-    let rows = rows(bench.rt.alloc(), PREFIXES, |index| network(index))?;
-    bench.time(name, PREFIXES, FromRows(bench.rt.alloc(), rows.as_slice()))
+/// Times making a table of rows of networks.
+pub fn time_rows<C: NetworkBits + Copy>(
+    bench: &Bench<'_>,
+    name: &str,
+    networks: &[C],
+) -> io::Result<()> {
+    let rows = rows(bench.rt.alloc(), networks)?;
+    bench.time(
+        name,
+        networks.len(),
+        FromRows(bench.rt.alloc(), rows.as_slice()),
+    )
 }
 
 /// Times tables of lists in no order.
 pub fn time_all(bench: &Bench<'_>) -> io::Result<()> {
-    if bench.quiet {
+    let (load, rows) = ("load a table", "load a table from rows");
+    // where the first one is asked for, the second one is too
+    if bench.quiet || !bench.wants(rows) {
         return Ok(());
     }
-    let (load, rows) = ("load a table", "load a table from rows");
-    if bench.wants(load) {
-        time_load(bench, load)?;
-    }
-    if bench.wants(rows) {
-        return time_rows(bench, rows);
-    }
-    Ok(())
+    let networks = networks(bench.rt.alloc(), PREFIXES)?;
+    time_load(bench, load, networks.as_slice())?;
+    time_rows(bench, rows, networks.as_slice())
 }

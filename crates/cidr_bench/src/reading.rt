@@ -2,12 +2,13 @@
 
 use crate::bench::{Bench, Call};
 use crate::numbers::Number;
-use crate::samples::{Sample, made};
+use crate::samples::Sample;
+use crate::values::MANY;
 use arrayvec::ArrayString;
 use cidr::parsers::parse_cidr_ignore_hostbits;
 use cidr::{
-    Address, AnyIpCidr, Cidr, Inet, IpAddr, IpCidr, Ipv4Addr, Ipv4Cidr, Ipv4Inet, Ipv6Addr,
-    Ipv6Cidr, Ipv6Inet,
+    AddrParseError, Address, AnyIpCidr, Cidr, Inet, IpAddr, IpCidr, Ipv4Addr, Ipv4Cidr, Ipv4Inet,
+    Ipv6Addr, Ipv6Cidr, Ipv6Inet,
 };
 use std::alloc::{AllocError, Global};
 use std::fmt::{Display, Write};
@@ -34,10 +35,14 @@ struct ClearHostBits;
 
 impl Call<Text> for ClearHostBits {
     fn number(&self, text: &Text) -> u32 {
-        let parser = |address: &str| address.parse::<Ipv4Addr>();
-        let network = parse_cidr_ignore_hostbits::<Ipv4Cidr, _>(text.as_str(), parser);
+        let network = parse_cidr_ignore_hostbits::<Ipv4Cidr, _>(text.as_str(), address);
         network.ok().number()
     }
+}
+
+/// The address of a string.
+fn address(text: &str) -> Result<Ipv4Addr, AddrParseError> {
+    text.parse()
 }
 
 /// The printed string. No sample is of full prefix length, so that each prints its length.
@@ -49,7 +54,11 @@ fn text_of<W: Display>(value: &W) -> Text {
 
 /// The texts of random values of type `W`.
 fn texts<W: Sample + Display + Drop>(alloc: Global) -> Result<Vec<Text>, AllocError> {
-    made(alloc, |index| text_of(&W::sample(index)))
+    let mut texts = Vec::with_capacity(alloc, MANY)?;
+    for index in 0..MANY {
+        texts.push(text_of(&W::sample(index)))?;
+    }
+    Ok(texts)
 }
 
 /// Times reading of texts of type `W` as values of type `T`.

@@ -19,11 +19,6 @@ pub trait Route: NetworkBits + Copy {
     /// A random network with so many bits more than one of a routing table. One bit near the front is never set.
     fn longer_route(index: usize, more: u8) -> Self;
 
-    /// A random network of a routing table.
-    fn route(index: usize) -> Self {
-        Self::longer_route(index, 0)
-    }
-
     /// An address of this network, as a network of its own.
     fn inside(&self, random: u64) -> Self;
 
@@ -87,11 +82,24 @@ impl Route for Ipv6Cidr {
 
 /// So many random routes with a value each, in no order. Some come twice.
 pub fn rows_like_routes<C: Route>(alloc: Global, size: usize) -> Result<Vec<(C, u32)>, AllocError> {
-    let mut rows = Vec::new(alloc);
+    let mut rows = Vec::with_capacity(alloc, size)?;
     for index in 0..size {
-        rows.push((C::route(index), random_ipv4(index)))?;
+        rows.push((C::longer_route(index, 0), random_ipv4(index)))?;
     }
     Ok(rows)
+}
+
+/// So many addresses that are in no route, as networks, from an index on.
+pub fn outside_routes<C: Route>(
+    alloc: Global,
+    from: usize,
+    size: usize,
+) -> Result<Vec<C>, AllocError> {
+    let mut networks = Vec::with_capacity(alloc, size)?;
+    for index in 0..size {
+        networks.push(C::outside(from.wrapping_add(index)))?;
+    }
+    Ok(networks)
 }
 
 /// A random row of a table.
@@ -114,15 +122,6 @@ pub fn asked_inside<C: Route>(
         if let Some(row) = random_row(table, index ^ 0x0800_0000) {
             asked.push(row.0.inside(random(index ^ 0x0400_0000)))?;
         }
-    }
-    Ok(asked)
-}
-
-/// Addresses that are in no row.
-pub fn asked_outside<C: Route>(alloc: Global) -> Result<Vec<C>, AllocError> {
-    let mut asked = Vec::new(alloc);
-    for index in 0..ASKED {
-        asked.push(C::outside(index ^ 0x0200_0000))?;
     }
     Ok(asked)
 }

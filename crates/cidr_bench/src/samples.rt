@@ -17,16 +17,9 @@ pub trait Sample {
 
 /// As many random values as a row has.
 pub fn samples<T: Sample + Drop>(alloc: Global) -> Result<Vec<T>, AllocError> {
-    made(alloc, |index| T::sample(index))
-}
-
-/// As many values as a row has, each made of its index.
-pub fn made<T: Drop, F: Fn(usize) -> T>(alloc: Global, value: F) -> Result<Vec<T>, AllocError>
-    requires { F.IsAlwaysCallable value }
-{
     let mut values = Vec::with_capacity(alloc, MANY)?;
     for index in 0..MANY {
-        values.push(value(index))?;
+        values.push(T::sample(index))?;
     }
     Ok(values)
 }

@@ -1,7 +1,7 @@
 //! Tables like those of routers: longest matches, single rows, and rows in a network.
 
 use crate::bench::{Bench, Call, Work, named};
-use crate::routes::{Route, asked_inside, asked_outside, rows_like_routes, some_keys};
+use crate::routes::{ASKED, Route, asked_inside, outside_routes, rows_like_routes, some_keys};
 use crate::values::mixed;
 use cidr::{Ipv4Cidr, Ipv6Cidr, NetworkBits};
 use cidr_table::{Lookups, LpmTable, longest_match};
@@ -123,7 +123,7 @@ impl<C: Route> Tables<C> {
     fn new(alloc: Global, size: usize) -> Result<Tables<C>, AllocError> {
         let table = LpmTable::from_rows(rows_like_routes::<C>(alloc, size)?);
         let inside = asked_inside(alloc, &table)?;
-        let outside = asked_outside(alloc)?;
+        let outside = outside_routes(alloc, 0x0200_0000, ASKED)?;
         let keys = some_keys(alloc, &table)?;
         Ok(Tables {
             table,
