@@ -57,7 +57,10 @@ OTHERS = {
         'let set = ["10.0.0.1".parse()?, "10.0.0.2/31".parse()?, "10.0.0.4/31".parse()?, "10.0.0.6".parse()?];\n'
         "let set: NetworkSet<Ipv4Cidr> = set.into_iter().collect();",
     "let network = ": "",
-    "let before = routes.insert(": "",
+    "let mut text = ArrayString::": "use cidr_support::arrayvec::ArrayString;",
+    'routes.insert("10.0.0.0/8".parse()?, Ipv4Addr::':
+        'let rows = [("0.0.0.0/0", Ipv4Addr::new(192, 0, 2, 1)), ("10.0.0.0/8", Ipv4Addr::new(192, 0, 2, 2))];\n'
+        "let mut routes: Routes = rows.map(|(network, hop)| (network.parse().unwrap(), hop)).into_iter().collect();",
 }
 # For each trait whose calls are those of types, where each has an example: the file of a type, and its name.
 CALLS_OF = {

@@ -119,6 +119,11 @@ def with_calls(texts):
             uses = "".join(f"use crate::{path[:-3].replace('/', '::')}::{name}Calls as _;\n" for name, path in TYPES.items())
             text = re.sub(r"^(?=use )", uses, text, count=1, flags=re.M)
         texts[place] = text
+    # The trait `Inet` has calls of the same names, so that here the trait is told.
+    place = "traits/one_family.rs"
+    text = texts[place].replace("Host::<A>::", "<Host<A> as crate::inet::host::HostCalls<A>>::")
+    text = re.sub(r"\bself\.(\w+)\((\w*)\)", lambda found: f"crate::inet::host::HostCalls::{found[1]}({', '.join(filter(None, ('self', found[2])))})", text)
+    texts[place] = text
 
 
 CALL = r"\w+::\w+\((?:[^()]|\([^()]*\))*\)"
@@ -136,7 +141,7 @@ def either_family(texts):
                        "match \\2 {\n                Ok(made) => Ok(\\1(made)),\n                Err(e) => Err(e),\n            }", block)
         block = re.sub(r"Some\((\w+::\w+)\((\w+\.\w+\(\))\?\)\)",
                        "match \\2 {\n                Some(made) => Some(\\1(made)),\n                None => None,\n            }", block)
-        texts[place] = texts[place].replace(whole, with_const(block, but=("to_text",)))
+        texts[place] = texts[place].replace(whole, with_const(block, but=("to_text", "write_to")))
 
 
 def walks(texts):

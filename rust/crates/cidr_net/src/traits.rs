@@ -15,6 +15,7 @@ use core::hash::Hash;
 use core::str::FromStr;
 
 pub(crate) mod combined;
+mod one_family;
 pub(crate) mod sealed_types;
 pub(crate) mod v4;
 pub(crate) mod v6;

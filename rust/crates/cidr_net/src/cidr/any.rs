@@ -13,6 +13,7 @@ use crate::cidr::network::{Ipv4Cidr, Ipv6Cidr};
 use crate::errors::NetworkParseError;
 use crate::family::Family;
 use crate::inet::combined::IpInet;
+use crate::text::print::append;
 use crate::text::with_length::WithLength;
 use cidr_support::arrayvec::ArrayString;
 use core::fmt;
@@ -311,6 +312,23 @@ impl AnyIpCidr {
             None => any_text(),
             Some(network) => network.to_text(),
         }
+    }
+
+    /// Appends the printed string, as `to_text` gives it, to one that the caller has. Where there is no room for the whole
+    /// of it, it fails, and the string is as it was.
+    ///
+    /// ```
+    /// # use cidr::{errors::*, more::{canon::*, *}, parsers::*, *};
+    /// # use std::net::*;
+    /// use cidr_support::arrayvec::ArrayString;
+    /// let mut text = ArrayString::<43>::new();
+    /// AnyIpCidr::Any.write_to(&mut text)?;
+    /// assert_eq!(format!("{}", text), "any");
+    /// # Ok::<(), Box<dyn std::error::Error>>(())
+    /// ```
+    #[inline]
+    pub fn write_to<const CAP: usize>(&self, text: &mut ArrayString<CAP>) -> fmt::Result {
+        append(text, self.to_text().as_str())
     }
 
     /// The network, to be printed with its prefix length also where that is full. `Any` stays `any`.

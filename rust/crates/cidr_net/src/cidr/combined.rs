@@ -14,6 +14,7 @@ use crate::family::Family;
 use crate::inet::combined::IpInet;
 use crate::inet_iterator::InetIterator;
 use crate::inet_pair::combined::IpInetPair;
+use crate::text::print::append;
 use crate::text::read::{cut_at_last_slash, read_length};
 use crate::text::with_length::WithLength;
 use cidr_support::arrayvec::ArrayString;
@@ -311,6 +312,23 @@ impl IpCidr {
             IpCidr::V4(network) => network.to_text(),
             IpCidr::V6(network) => network.to_text(),
         }
+    }
+
+    /// Appends the printed string, as `to_text` gives it, to one that the caller has. Where there is no room for the whole
+    /// of it, it fails, and the string is as it was.
+    ///
+    /// ```
+    /// # use cidr::{errors::*, more::{canon::*, *}, parsers::*, *};
+    /// # use std::net::*;
+    /// use cidr_support::arrayvec::ArrayString;
+    /// let mut text = ArrayString::<43>::new();
+    /// "192.0.2.1/32".parse::<IpCidr>()?.write_to(&mut text)?;
+    /// assert_eq!(format!("{}", text), "192.0.2.1");
+    /// # Ok::<(), Box<dyn std::error::Error>>(())
+    /// ```
+    #[inline]
+    pub fn write_to<const CAP: usize>(&self, text: &mut ArrayString<CAP>) -> fmt::Result {
+        append(text, self.to_text().as_str())
     }
 
     /// The network, to be printed with its prefix length also where that is full.

@@ -12,6 +12,7 @@ use crate::cidr::combined::IpCidr;
 use crate::errors::{NetworkLengthTooLongError, NetworkParseError};
 use crate::family::Family;
 use crate::inet::host::{Ipv4Inet, Ipv6Inet};
+use crate::text::print::append;
 use crate::text::read::{cut_at_last_slash, read_length};
 use crate::text::with_length::WithLength;
 use cidr_support::arrayvec::ArrayString;
@@ -432,6 +433,23 @@ impl IpInet {
             IpInet::V4(host) => host.to_text(),
             IpInet::V6(host) => host.to_text(),
         }
+    }
+
+    /// Appends the printed string, as `to_text` gives it, to one that the caller has. Where there is no room for the whole
+    /// of it, it fails, and the string is as it was.
+    ///
+    /// ```
+    /// # use cidr::{errors::*, more::{canon::*, *}, parsers::*, *};
+    /// # use std::net::*;
+    /// use cidr_support::arrayvec::ArrayString;
+    /// let mut text = ArrayString::<43>::new();
+    /// "10.4.3.2/8".parse::<IpInet>()?.write_to(&mut text)?;
+    /// assert_eq!(format!("{}", text), "10.4.3.2/8");
+    /// # Ok::<(), Box<dyn std::error::Error>>(())
+    /// ```
+    #[inline]
+    pub fn write_to<const CAP: usize>(&self, text: &mut ArrayString<CAP>) -> fmt::Result {
+        append(text, self.to_text().as_str())
     }
 
     /// The host, to be printed with its prefix length also where that is full.

@@ -12,7 +12,7 @@ use crate::cidr::network::Network;
 use crate::errors::{NetworkLengthTooLongError, NetworkParseError};
 use crate::family::Family;
 use crate::internal_traits::address_bits::{AddressBits, AddressText};
-use crate::text::print::{forced, plain};
+use crate::text::print::{append, forced, plain};
 use crate::text::read::{cut_at_last_slash, read_length};
 use crate::text::with_length::WithLength;
 use cidr_support::arrayvec::ArrayString;
@@ -863,6 +863,23 @@ impl<A: AddressText> Host<A> {
     #[inline]
     pub fn to_text(&self) -> ArrayString<43> {
         plain(self.address, self.len)
+    }
+
+    /// Appends the printed string, as `to_text` gives it, to one that the caller has. Where there is no room for the whole
+    /// of it, it fails, and the string is as it was.
+    ///
+    /// ```
+    /// # use cidr::{errors::*, more::{canon::*, *}, parsers::*, *};
+    /// # use std::net::*;
+    /// use cidr_support::arrayvec::ArrayString;
+    /// let mut text = ArrayString::<43>::new();
+    /// "10.4.3.2/8".parse::<Ipv4Inet>()?.write_to(&mut text)?;
+    /// assert_eq!(format!("{}", text), "10.4.3.2/8");
+    /// # Ok::<(), Box<dyn std::error::Error>>(())
+    /// ```
+    #[inline]
+    pub fn write_to<const CAP: usize>(&self, text: &mut ArrayString<CAP>) -> fmt::Result {
+        append(text, self.to_text().as_str())
     }
 }
 

@@ -3,6 +3,7 @@
 use crate::addr::decimal::push_decimal;
 use crate::internal_traits::address_bits::AddressText;
 use cidr_support::arrayvec::ArrayString;
+use core::fmt;
 
 /// Appends a slash and the prefix length.
 #[inline(always)]
@@ -41,4 +42,14 @@ pub(crate) fn parenthesized(first: &str, second: &str) -> ArrayString<90> {
     text.push_str(second);
     text.push(')');
     text
+}
+
+/// Appends a string where there is room for it.
+#[inline(always)]
+pub(crate) fn append<const CAP: usize>(text: &mut ArrayString<CAP>, printed: &str) -> fmt::Result {
+    if CAP - text.len() < printed.len() {
+        return Err(fmt::Error);
+    }
+    text.push_str(printed);
+    Ok(())
 }

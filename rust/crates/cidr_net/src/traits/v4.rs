@@ -5,12 +5,12 @@ use crate::inet::host::HostCalls as _;
 use crate::inet_pair::host_pair::HostPairCalls as _;
 use crate::addr::v4::Ipv4Addr;
 use crate::cidr::network::Ipv4Cidr;
-use crate::errors::{InetTupleError, NetworkLengthTooLongError, NetworkParseError};
+use crate::errors::{InetTupleError, NetworkParseError};
 use crate::family::Family;
 use crate::inet::host::Ipv4Inet;
 use crate::inet_iterator::InetIterator;
 use crate::inet_pair::host_pair::Ipv4InetPair;
-use crate::traits::{Address, Cidr, Inet, InetPair};
+use crate::traits::{Address, Cidr, InetPair};
 
 impl Address for Ipv4Addr {
     type Inet = Ipv4Inet;
@@ -37,106 +37,6 @@ impl Cidr for Ipv4Cidr {
     #[inline]
     fn iter(&self) -> InetIterator<Ipv4Addr> {
         self.iter()
-    }
-
-    #[inline]
-    fn first_address(&self) -> Ipv4Addr {
-        self.first_address()
-    }
-
-    #[inline]
-    fn first(&self) -> Ipv4Inet {
-        self.first()
-    }
-
-    #[inline]
-    fn last_address(&self) -> Ipv4Addr {
-        self.last_address()
-    }
-
-    #[inline]
-    fn last(&self) -> Ipv4Inet {
-        self.last()
-    }
-
-    #[inline]
-    fn network_length(&self) -> u8 {
-        self.network_length()
-    }
-
-    #[inline]
-    fn family(&self) -> Family {
-        self.family()
-    }
-
-    #[inline]
-    fn is_host_address(&self) -> bool {
-        self.is_host_address()
-    }
-
-    #[inline]
-    fn mask(&self) -> Ipv4Addr {
-        self.mask()
-    }
-
-    #[inline]
-    fn contains(&self, addr: &Ipv4Addr) -> bool {
-        self.contains(addr)
-    }
-
-}
-
-impl Inet for Ipv4Inet {
-    type Address = Ipv4Addr;
-
-    #[inline]
-    fn new(addr: Ipv4Addr, len: u8) -> Result<Ipv4Inet, NetworkLengthTooLongError> {
-        Ipv4Inet::new(addr, len)
-    }
-
-    #[inline]
-    fn new_host(addr: Ipv4Addr) -> Ipv4Inet {
-        Ipv4Inet::new_host(addr)
-    }
-
-    #[inline]
-    fn increment(&mut self) -> bool {
-        self.increment()
-    }
-
-    #[inline]
-    fn decrement(&mut self) -> bool {
-        self.decrement()
-    }
-
-    #[inline]
-    fn next(self) -> Option<Ipv4Inet> {
-        self.next()
-    }
-
-    #[inline]
-    fn previous(self) -> Option<Ipv4Inet> {
-        self.previous()
-    }
-
-    #[inline]
-    fn overflowing_add(self, step: u128) -> (Ipv4Inet, bool) {
-        self.overflowing_add(step)
-    }
-
-    #[inline]
-    fn overflowing_sub(self, step: u128) -> (Ipv4Inet, bool) {
-        self.overflowing_sub(step)
-    }
-
-    #[inline]
-    fn network(&self) -> Ipv4Cidr {
-        self.network()
-    }
-
-    #[inline]
-    fn address(&self) -> Ipv4Addr {
-        self.address()
     }
 
     #[inline]

@@ -5,12 +5,12 @@ use crate::inet::host::HostCalls as _;
 use crate::inet_pair::host_pair::HostPairCalls as _;
 use crate::addr::v6::Ipv6Addr;
 use crate::cidr::network::Ipv6Cidr;
-use crate::errors::{InetTupleError, NetworkLengthTooLongError, NetworkParseError};
+use crate::errors::{InetTupleError, NetworkParseError};
 use crate::family::Family;
 use crate::inet::host::Ipv6Inet;
 use crate::inet_iterator::InetIterator;
 use crate::inet_pair::host_pair::Ipv6InetPair;
-use crate::traits::{Address, Cidr, Inet, InetPair};
+use crate::traits::{Address, Cidr, InetPair};
 
 impl Address for Ipv6Addr {
     type Inet = Ipv6Inet;
@@ -37,106 +37,6 @@ impl Cidr for Ipv6Cidr {
     #[inline]
     fn iter(&self) -> InetIterator<Ipv6Addr> {
         self.iter()
-    }
-
-    #[inline]
-    fn first_address(&self) -> Ipv6Addr {
-        self.first_address()
-    }
-
-    #[inline]
-    fn first(&self) -> Ipv6Inet {
-        self.first()
-    }
-
-    #[inline]
-    fn last_address(&self) -> Ipv6Addr {
-        self.last_address()
-    }
-
-    #[inline]
-    fn last(&self) -> Ipv6Inet {
-        self.last()
-    }
-
-    #[inline]
-    fn network_length(&self) -> u8 {
-        self.network_length()
-    }
-
-    #[inline]
-    fn family(&self) -> Family {
-        self.family()
-    }
-
-    #[inline]
-    fn is_host_address(&self) -> bool {
-        self.is_host_address()
-    }
-
-    #[inline]
-    fn mask(&self) -> Ipv6Addr {
-        self.mask()
-    }
-
-    #[inline]
-    fn contains(&self, addr: &Ipv6Addr) -> bool {
-        self.contains(addr)
-    }
-
-}
-
-impl Inet for Ipv6Inet {
-    type Address = Ipv6Addr;
-
-    #[inline]
-    fn new(addr: Ipv6Addr, len: u8) -> Result<Ipv6Inet, NetworkLengthTooLongError> {
-        Ipv6Inet::new(addr, len)
-    }
-
-    #[inline]
-    fn new_host(addr: Ipv6Addr) -> Ipv6Inet {
-        Ipv6Inet::new_host(addr)
-    }
-
-    #[inline]
-    fn increment(&mut self) -> bool {
-        self.increment()
-    }
-
-    #[inline]
-    fn decrement(&mut self) -> bool {
-        self.decrement()
-    }
-
-    #[inline]
-    fn next(self) -> Option<Ipv6Inet> {
-        self.next()
-    }
-
-    #[inline]
-    fn previous(self) -> Option<Ipv6Inet> {
-        self.previous()
-    }
-
-    #[inline]
-    fn overflowing_add(self, step: u128) -> (Ipv6Inet, bool) {
-        self.overflowing_add(step)
-    }
-
-    #[inline]
-    fn overflowing_sub(self, step: u128) -> (Ipv6Inet, bool) {
-        self.overflowing_sub(step)
-    }
-
-    #[inline]
-    fn network(&self) -> Ipv6Cidr {
-        self.network()
-    }
-
-    #[inline]
-    fn address(&self) -> Ipv6Addr {
-        self.address()
     }
 
     #[inline]
