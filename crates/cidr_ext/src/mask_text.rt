@@ -194,13 +194,7 @@ fn with_mask<A: PrintedAddress>(address: A, mask: A) -> ArrayString<79>
 fn cut_at_last_slash(text: &str) -> Option<(&str, &str)>
     ensures { MatchOption result (Lacks slash text.now) (λ parts. CutsAtLastSlash text.now parts.0.now parts.1.now) }
 {
-    let bytes = text.as_bytes();
-    for i in (0..bytes.len()).rev() {
-        if bytes[i] == b'/' {
-            return Some((&text[..i], &text[i + 1..]));
-        }
-    }
-    None
+    text.rsplit_once('/')
 }
 
 /// The prefix length of a network mask, or of a host mask that is none.

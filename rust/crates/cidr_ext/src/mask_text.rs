@@ -179,13 +179,7 @@ fn with_mask<A: PrintedAddress>(address: A, mask: A) -> ArrayString<79> {
 /// What precedes the last slash and what follows it, if there is one.
 #[inline]
 fn cut_at_last_slash(text: &str) -> Option<(&str, &str)> {
-    let bytes = text.as_bytes();
-    for i in (0..bytes.len()).rev() {
-        if bytes[i] == b'/' {
-            return Some((&text[..i], &text[i + 1..]));
-        }
-    }
-    None
+    text.rsplit_once('/')
 }
 
 /// The prefix length of a network mask, or of a host mask that is none.
