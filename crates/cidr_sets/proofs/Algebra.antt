@@ -1,35 +1,21 @@
 -- Sets put together from the networks of two.
-use Rattle.std.proofs.Common.{◌≡◌, ◌⊎◌, ℕ, ◌+◌, ◌-◌, ◌<◌, ◌≤◌, Bool, false, List, [], ◌∷◌, ◌++◌, length, get_or, take, map, replicate, length-append, refl, sym, ap, ◌∙◌, subst, arith, inl, inr, Option, Some, None}
+use Rattle.std.proofs.Common.{◌≡◌, ◌↔◌, ◌⊎◌, ℕ, ◌-◌, ◌<◌, ◌≤◌, Bool, true, false, not, List, [], ◌∷◌, ◌++◌, length, get_or, map, replicate, length-append, refl, arith, inl, inr, Option, Some, None}
 use Rattle.std.proofs.lemmas.Bool.{cases_lt, false≢true}
-use Rattle.std.proofs.lemmas.List.{take_at, take_more, length-replicate}
-use Rattle.std.proofs.lemmas.List.Elements.{Contains-push_cases}
-use Rattle.std.specs.Bool.{Decides}
-use Rattle.std.specs.List.{Contains}
+use Rattle.std.proofs.lemmas.List.{get_or_default, take_at, length-replicate}
+use Rattle.std.proofs.lemmas.List.Elements.{All-contains, All-from_all_within}
+use Rattle.std.specs.Bool.{Decides, MatchBool}
+use Rattle.std.specs.List.{AllWithin, Contains, HoldsAt}
 use Rattle.std.specs.Option.{is_some, option_map}
 use Rattle.cidr.specs.model.Network.{BeginsWith}
-use Rattle.cidr_table.specs.model.Cover.{Covers}
-use Rattle.cidr_table.specs.model.Cover.{IsReduced}
+use Rattle.cidr_table.specs.model.Cover.{Covers, IsFull, IsReduced}
 use Rattle.cidr_table.proofs.Halves.{begins_begins, begins_both}
 use Rattle.cidr_sets.specs.model.Searches.{IsFirstInside}
-use Rattle.cidr_sets.specs.model.Sets.{IsUnion, IsDifference, IsSymmetricDifference, Meets, AreDisjoint}
+use Rattle.cidr_sets.specs.model.Sets.{IsUnion, IsDifference, IsSymmetricDifference, IsSubset, Meets, AreDisjoint}
 use Rattle.cidr_sets.proofs.Addresses.{covers_by, covers_to, set_alike}
 
 -- what covers a network covers its addresses
 pub covers_within : (s : List (List Bool)) (a p : List Bool) → BeginsWith a p → Covers s p → Covers s a
 covers_within s a p b c = (c.0, c.1, begins_begins a p c.0 b c.2)
-
--- ---- the first i elements and one more
-module _ {C : Type 0} (xs : List C) (i : ℕ) (x : C) (here : i < length xs) (is : x ≡ get_or xs i x) where
-  taken : take (i + 1) xs ≡ take i xs ++ x ∷ []
-  taken = take_more xs i x here ∙ ap (λ y. take i xs ++ y ∷ []) (sym is)
-
-  pub taken_cases : (y : C) → Contains (take (i + 1) xs) y → Contains (take i xs) y ⊎ (x ≡ y)
-  taken_cases y c = Contains-push_cases (take i xs) x y (subst (λ l. Contains l y) taken c)
-
-  -- P holds of each of them
-  pub each_more : (P : C → Type 0) → ((y : C) → Contains (take i xs) y → P y) → P x
-      → (y : C) → Contains (take (i + 1) xs) y → P y
-  each_more P before here' y c = elim (taken_cases y c) [ inl d ↦ before y d | inr e ↦ subst P e here' ]
 
 -- the union of both differences
 pub symmetric_of : (these those ds es s : List (List Bool)) → IsDifference 129 these those ds
@@ -76,14 +62,40 @@ pub meets_first : {C : Type 0} (f : C → List Bool) (s : List (List Bool)) (p :
 meets_first f s p None h free none = (λ t. absurd (false≢true t), λ m. absurd (meets_none s p free none m))
 meets_first f s p (Some q) h free i = (λ t. meets_inside s p (f q) h i.0 i.1, λ m. refl)
 
-pub disjoint_from_none : {C : Type 0} (f : C → List Bool) (xs : List C) (those : List (List Bool))
-    → ((x : C) → Contains xs x → ¬ (Meets 129 those (f x))) → AreDisjoint 129 (map f xs) those
-disjoint_from_none f xs those none a la c d =
-    let (x, e, b) = covers_by f xs a c in
-    none x e (a, la, b, d)
+-- ---- what is said of each network
+element_at : {C : Type 0} (P : C → Type 0) (xs : List C) (k : ℕ) → k < length xs → HoldsAt P xs k → (x : C) × Contains xs x × P x
+element_at P [] k within holds = absurd (omega arith)
+element_at P (x ∷ xs) k within holds =
+    (get_or (x ∷ xs) k x, (k, within, get_or_default (x ∷ xs) k (get_or (x ∷ xs) k x) x within), holds x)
 
-pub not_disjoint : {C : Type 0} (f : C → List Bool) (xs : List C) (those : List (List Bool)) (x : C) → Contains xs x
-    → Meets 129 those (f x) → ¬ (AreDisjoint 129 (map f xs) those)
-not_disjoint f xs those x c m apart =
-    let (a, la, b, d) = m in
-    apart a la (covers_to f xs x a c b) d
+module _ {C : Type 0} (f : C → List Bool) (xs : List C) (those : List (List Bool)) where
+  element : (P : C → Type 0) → AllWithin P xs 0 (length xs) → (x : C) → Contains xs x → P x
+  element P all x there = All-contains P xs x (All-from_all_within P xs all) there
+
+  pub subset_from_each : (all : Bool)
+      → MatchBool all (AllWithin (λ x. IsFull 129 those (f x)) xs 0 (length xs))
+      ((k : ℕ) × (k < length xs) × HoldsAt (λ x. ¬ (IsFull 129 those (f x))) xs k)
+      → (all ≡ true) ↔ IsSubset 129 (map f xs) those
+  subset_from_each true each = (
+    λ t a la h.
+        let (x, there, b) = covers_by f xs a h in
+        element (λ y. IsFull 129 those (f y)) each x there a la b,
+    λ sub. refl,
+  )
+  subset_from_each false (k, within, other) =
+      let (x, there, none) = element_at (λ y. ¬ (IsFull 129 those (f y))) xs k within other in
+      (λ t. absurd (false≢true t), λ sub. absurd (none (λ a la b. sub a la (covers_to f xs x a there b))))
+
+  pub apart_from_each : (some : Bool)
+      → MatchBool some ((k : ℕ) × (k < length xs) × HoldsAt (λ x. Meets 129 those (f x)) xs k)
+      (AllWithin (λ x. ¬ (Meets 129 those (f x))) xs 0 (length xs))
+      → (not some ≡ true) ↔ AreDisjoint 129 (map f xs) those
+  apart_from_each true (k, within, meets) =
+      let (x, there, (a, la, b, d)) = element_at (λ y. Meets 129 those (f y)) xs k within meets in
+      (λ t. absurd (false≢true t), λ apart. absurd (apart a la (covers_to f xs x a there b) d))
+  apart_from_each false each = (
+    λ t a la c d.
+        let (x, there, b) = covers_by f xs a c in
+        element (λ y. ¬ (Meets 129 those (f y))) each x there (a, la, b, d),
+    λ apart. refl,
+  )

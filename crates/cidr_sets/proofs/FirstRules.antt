@@ -5,7 +5,7 @@ use Rattle.std.proofs.lemmas.List.{get_or_default, get_or-take, length-take, tak
 use Rattle.std.proofs.lemmas.List.Elements.{Contains-push, Contains-push_cases, Contains-append_left}
 use Rattle.std.proofs.lemmas.Option.{none-some, same_Some, slice_get_within, get_or_from_slice_get}
 use Rattle.std.specs.Bool.{Decides}
-use Rattle.std.specs.List.{Contains, slice_get}
+use Rattle.std.specs.List.{AllWithin, Contains, HoldsAt, slice_get}
 use Rattle.std.specs.List.Sorted.{IsStrictlyIncreasing}
 use Rattle.cidr.specs.model.Network.{BeginsWith}
 use Rattle.cidr_table.specs.model.Cover.{Covers, IsFull}
@@ -117,6 +117,23 @@ passed_first p ps a acts Permit none = (
   λ h. (permits_more p ps a acts).0 (inl h),
 )
 passed_first p ps a acts Deny none = (λ h. ((denies_more p ps a acts).1 h).0, λ h. (denies_more p ps a acts).0 (h, none))
+
+module _ {R : Type 0} (f : R → List Bool) (act : R → Action) (a : List Bool) where
+  pub none_permits : (xs : List R) → AllWithin (λ r. ¬ (BeginsWith a (f r))) xs 0 (length xs) → ¬ (IsPermitted (map f xs) (map act xs) a)
+  none_permits [] none h = none-some h.1.0.0 h.1.0.1
+  none_permits (x ∷ xs) none h = none_permits xs (λ k d low within. none (suc k) d (omega arith) (omega arith))
+      ((passed_first (f x) (map f xs) a (map act xs) (act x) (none 0 x (omega arith) (omega arith))).0 h)
+
+  pub first_permits : (xs : List R) (r : R) (i : ℕ) → i < length xs → HoldsAt (λ y. y ≡ r) xs i
+      → AllWithin (λ y. ¬ (BeginsWith a (f y))) xs 0 i → BeginsWith a (f r) → IsPermitted (map f xs) (map act xs) a ↔ (act r ≡ Permit)
+  first_permits [] r i within at none begins = absurd (omega arith)
+  first_permits (x ∷ xs) r zero within at none begins =
+      subst (λ y. IsPermitted (map f (y ∷ xs)) (map act (y ∷ xs)) a ↔ (act r ≡ Permit)) (sym (at x))
+      (decided_first (f r) (map f xs) a (map act xs) (act r) begins)
+  first_permits (x ∷ xs) r (suc i) within at none begins =
+      let first = passed_first (f x) (map f xs) a (map act xs) (act x) (none 0 x (omega arith) (omega arith)) in
+      let later = first_permits xs r i (omega arith) at (λ k d low below. none (suc k) d (omega arith) (omega arith)) begins in
+      (λ h. later.0 (first.0 h), λ e. first.1 (later.1 e))
 
 module _ {R : Type 0} (f : R → List Bool) (act : R → Action) (xs : List R) (a : List Bool) where
   -- the rules from i on decide the address

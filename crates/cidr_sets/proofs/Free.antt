@@ -3,7 +3,8 @@ use Rattle.std.proofs.Common.{◌≡◌, ◌≢◌, ℕ, zero, suc, ◌+◌, ◌
 use Rattle.std.proofs.lemmas.Bool.{cases_lt, cases_eq, false≢true, true≢false}
 use Rattle.std.proofs.lemmas.List.{get_or-map, length-map, get_or_default, length-replicate, append_assoc, append-nil, take_at}
 use Rattle.std.proofs.lemmas.Map.Keys.{Less-from_sorted}
-use Rattle.std.specs.Option.{option_map}
+use Rattle.std.specs.List.{AllWithin, HoldsAt}
+use Rattle.std.specs.Option.{MatchOption, option_map}
 use Rattle.std.specs.Ordering.{ordering_reverse}
 use Rattle.std.specs.declared.cmp.Ordering.TheVariants.{Less, Greater}
 use Rattle.cidr.specs.model.Bits.{bit_cmp}
@@ -161,6 +162,21 @@ module _ (IsNetwork : List Bool → Type 0) (n : ℕ) where
                 ]
               ],
         )
+
+    -- nothing is free in a network
+    abbrev pub HasNone : C → Type 0
+    HasNone x = (p : List Bool) → ¬ (IsFreeNetwork IsNetwork (f x ∷ []) n p)
+
+    none_before : (i : ℕ) → AllWithin HasNone xs 0 i → NoneBefore i
+    none_before i none j x less e = subst HasNone e (none j x (omega arith) less)
+
+    pub first_of_each : (r : Option C) → IsReduced 129 (map f xs)
+        → MatchOption r (AllWithin HasNone xs 0 (length xs))
+        (λ y. (i : ℕ) × (i < length xs) × HoldsAt (λ x. IsFirstFree IsNetwork (f x ∷ []) n (Some (f y))) xs i × AllWithin HasNone xs 0 i)
+        → IsFirstFree IsNetwork (map f xs) n (option_map f r)
+    first_of_each None reduced none = none_at_all (length xs) (omega arith) (none_before (length xs) none)
+    first_of_each (Some y) reduced (i, within, first, none) =
+        first_of_all i (get_or xs i y) (f y) within (get_or_default xs i y (get_or xs i y) within) reduced (none_before i none) (first y)
 
     -- ---- the smallest that has one
     -- of the first i networks none that has one inside is smaller than this one

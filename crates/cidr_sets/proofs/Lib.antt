@@ -7,6 +7,7 @@ pub mod Reducing
 pub mod Equality
 pub mod Algebra
 pub mod Members
+pub mod FirstFound
 pub mod FirstRules
 pub mod Widths
 pub mod Free

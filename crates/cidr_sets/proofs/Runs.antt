@@ -1,36 +1,23 @@
 -- The longest ranges of a set: networks that touch one after another.
-use Rattle.std.proofs.Common.{◌≡◌, ◌⊎◌, ℕ, suc, ◌+◌, ◌<◌, ◌≤◌, Bool, true, false, not, ◌&&◌, List, [], ◌∷◌, ◌++◌, length, get_or, drop, refl, sym, ap, ◌∙◌, subst, arith, inl, inr, Some}
+use Rattle.std.proofs.Common.{◌≡◌, ◌⊎◌, ℕ, zero, suc, ◌+◌, ◌-◌, ◌<◌, ◌≤◌, Bool, true, false, not, ◌&&◌, List, [], ◌∷◌, ◌++◌, length, get_or, drop, refl, sym, ap, ◌∙◌, subst, arith, inl, inr, Some}
 use Rattle.std.proofs.lemmas.Bool.{false≢true, true≢false}
-use Rattle.std.proofs.lemmas.List.{drop_more}
-use Rattle.std.proofs.lemmas.Option.{get_or_from_slice_get, slice_get_within}
-use Rattle.std.specs.List.{slice_get}
+use Rattle.std.proofs.lemmas.List.{drop_all, drop_more}
+use Rattle.std.proofs.lemmas.Option.{get_or_from_slice_get}
+use Rattle.std.specs.Bool.{beq}
+use Rattle.std.specs.List.{list_all, range_with_len, slice_get}
 use Rattle.cidr.specs.model.BitString.{IsSharedLength}
 use Rattle.cidr.specs.model.Network.{BeginsWith}
 use Rattle.cidr_table.proofs.Halves.{length_half, next_bit, same_length}
 use Rattle.cidr_sets.specs.model.Ranges.{all_bits, join, joined_ranges, touches}
 
 -- ---- whether no address is between two networks
-kept : (b : Bool) (t : List Bool) → all_bits b (b ∷ t) ≡ all_bits b t
+pub bits_are_all : (b : Bool) (p : List Bool) (n i : ℕ) → length p - i ≡ n
+    → list_all (λ k. beq (get_or p k false) b) (range_with_len i n) ≡ all_bits b (drop i p)
 unfolding all_bits
-kept true t = refl
-kept false t = refl
-
-pub bits_kept : (p : List Bool) (i : ℕ) (x b : Bool) → slice_get p i ≡ Some x → x ≡ b → all_bits b (drop i p) ≡ all_bits b (drop (i + 1) p)
-bits_kept p i x b there same =
-    let here : drop i p ≡ b ∷ drop (i + 1) p = drop_more p i x (slice_get_within p i x there)
-    ∙ ap (λ y. y ∷ drop (i + 1) p) (get_or_from_slice_get p i x x there ∙ same) in
-    ap (all_bits b) here ∙ kept b (drop (i + 1) p)
-
-missed : (b : Bool) (t : List Bool) → all_bits b (not b ∷ t) ≡ false
-unfolding all_bits
-missed true t = refl
-missed false t = refl
-
-pub bits_missed : (p : List Bool) (i : ℕ) (x b : Bool) → slice_get p i ≡ Some x → x ≡ not b → all_bits b (drop i p) ≡ false
-bits_missed p i x b there other =
-    let here : drop i p ≡ not b ∷ drop (i + 1) p = drop_more p i x (slice_get_within p i x there)
-    ∙ ap (λ y. y ∷ drop (i + 1) p) (get_or_from_slice_get p i x x there ∙ other) in
-    ap (all_bits b) here ∙ missed b (drop (i + 1) p)
+bits_are_all b p zero i e = sym (ap (all_bits b) (drop_all i p (omega (arith, e))))
+bits_are_all b p (suc n) i e =
+    ap (λ t. beq (get_or p i false) b && t) (bits_are_all b p n (i + 1) (omega (arith, e)))
+    ∙ sym (ap (all_bits b) (drop_more p i false (omega (arith, e))))
 
 touches_first : (p q : List Bool) → BeginsWith q p → touches p q ≡ false
 unfolding touches

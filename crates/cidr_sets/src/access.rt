@@ -47,12 +47,10 @@ pub fn permits<C: NetworkBits + Copy>(rules: &[Rule<C>], address: &C) -> bool
     ensures { Decides result (IsPermitted (map (λ r. C.bits r.network) rules.now) (map (λ r. r.action) rules.now)
         (C.bits address.now)) }
 {
-    for rule in rules {
-        if is_inside(address, &rule.network) {
-            return is_permit(rule.action);
-        }
+    match rules.iter().find(|rule| is_inside(address, &rule.network)) {
+        Some(rule) => is_permit(rule.action),
+        None => false,
     }
-    false
 }
 
 /// Whether the addresses are permitted.

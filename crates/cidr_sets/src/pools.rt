@@ -54,12 +54,9 @@ impl<C: PoolNetwork + Copy> NetworkSet<C> {
         ensures first { IsFirstFree C.IsNetwork (map C.bits self.now) len (option_map C.bits result) }
         ensures reduced { IsReduced 129 (map C.bits self.now) }
     {
-        for network in self.as_slice() {
-            if let Some(first) = first_subnet(network, len) {
-                return Some(first);
-            }
-        }
-        None
+        self.as_slice()
+            .iter()
+            .find_map(|network| first_subnet(network, len))
     }
 
     /// The first network of `len` bits in the smallest network of the set that has one, of equally small ones in the

@@ -309,12 +309,7 @@ fn touches<C: BitString>(network: &C, next: &C) -> bool
 pub(crate) fn all_from<C: BitString>(network: &C, from: usize, bit: bool) -> bool
     ensures { result ≡ all_bits bit (drop from (C.bits network.now)) }
 {
-    for i in from..network.len() {
-        if network.get(i) != bit {
-            return false;
-        }
-    }
-    true
+    (from..network.len()).all(|i| network.get(i) == bit)
 }
 
 /// Pushes networks of the addresses that begin with the first `len` bits of an edge and, where they first differ from

@@ -88,7 +88,7 @@ impl<C: NetworkBits + Copy> NetworkSet<C> {
     pub fn contains_all(&self, networks: &[C]) -> bool
         ensures { IsTrue result ↔ IsSubset 129 (map C.bits networks.now) (map C.bits self.now) }
     {
-        are_covered(networks, self.as_slice())
+        networks.iter().all(|network| self.contains(network))
     }
 
     /// Whether the set has an address of a network. Two binary searches at most: O(log n).
@@ -112,7 +112,7 @@ impl<C: NetworkBits + Copy> NetworkSet<C> {
     pub fn is_subset(&self, other: &NetworkSet<C>) -> bool
         ensures { IsTrue result ↔ IsSubset 129 (map C.bits self.now) (map C.bits other.now) }
     {
-        are_covered(self.as_slice(), other.as_slice())
+        other.contains_all(self.as_slice())
     }
 
     /// The addresses that exactly one of two sets has. Both stay as they were.
@@ -162,7 +162,10 @@ impl<C: NetworkBits + Copy> NetworkSet<C> {
     pub fn is_disjoint(&self, other: &NetworkSet<C>) -> bool
         ensures { IsTrue result ↔ AreDisjoint 129 (map C.bits self.now) (map C.bits other.now) }
     {
-        are_apart(self.as_slice(), other.as_slice())
+        !self
+            .as_slice()
+            .iter()
+            .any(|network| other.overlaps(network))
     }
 }
 
@@ -290,33 +293,6 @@ fn first_inside<C: NetworkBits + Copy>(networks: &[C], outer: &C) -> Option<C>
     } else {
         None
     }
-}
-
-/// Whether each of the networks lies in one of the others.
-fn are_covered<C: NetworkBits>(networks: &[C], others: &[C]) -> bool
-    requires { IsReduced 129 (map C.bits others.now) }
-    ensures { IsTrue result ↔ IsSubset 129 (map C.bits networks.now) (map C.bits others.now) }
-{
-    for network in networks {
-        known(network);
-        if !covers(others, network) {
-            return false;
-        }
-    }
-    true
-}
-
-/// Whether none of the networks has an address in common with one of the others.
-fn are_apart<C: NetworkBits + Copy>(networks: &[C], others: &[C]) -> bool
-    requires { IsReduced 129 (map C.bits others.now) }
-    ensures { IsTrue result ↔ AreDisjoint 129 (map C.bits networks.now) (map C.bits others.now) }
-{
-    for network in networks {
-        if meets(others, network) {
-            return false;
-        }
-    }
-    true
 }
 
 /// Whether one of the networks has an address in common with this one.

@@ -43,12 +43,10 @@ pub struct Rule<C: NetworkBits + Copy> {
 /// ```
 #[inline]
 pub fn permits<C: NetworkBits + Copy>(rules: &[Rule<C>], address: &C) -> bool {
-    for rule in rules {
-        if is_inside(address, &rule.network) {
-            return is_permit(rule.action);
-        }
+    match rules.iter().find(|rule| is_inside(address, &rule.network)) {
+        Some(rule) => is_permit(rule.action),
+        None => false,
     }
-    false
 }
 
 /// Whether the addresses are permitted.

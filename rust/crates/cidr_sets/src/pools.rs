@@ -32,12 +32,9 @@ impl<C: PoolNetwork + Copy> NetworkSet<C> {
     /// ```
     #[inline]
     pub fn first_free(&self, len: usize) -> Option<C> {
-        for network in self.as_slice() {
-            if let Some(first) = first_subnet(network, len) {
-                return Some(first);
-            }
-        }
-        None
+        self.as_slice()
+            .iter()
+            .find_map(|network| first_subnet(network, len))
     }
 
     /// The first network of `len` bits in the smallest network of the set that has one, of equally small ones in the

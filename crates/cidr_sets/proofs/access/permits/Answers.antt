@@ -1,16 +1,25 @@
-use Rattle.std.proofs.Common.{sym, ◌∙◌}
-use Rattle.std.proofs.lemmas.Bool.{true≢false}
-use Rattle.cidr_sets.proofs.FirstRules.{one_decides, one_passes}
+use Rattle.std.proofs.Common.{rules}
+use borrow.Author.Tests.{tests}
+use Rattle.std.proofs.lemmas.Bool.{false≢true}
+use Rattle.std.proofs.lemmas.Iterator.{first_from_find, YieldsList-from_slice}
+use Rattle.std.proofs.option.Match.{if_some, if_none}
+use Rattle.cidr.specs.model.Network.{BeginsWith}
+use Rattle.cidr_sets.proofs.FirstRules.{first_permits, none_permits}
 use Rattle.cidr_sets.proofs.access.permits.Goals as goal
 
-pub returns-then-is_inside : goal.returns-then-is_inside
-returns-then-is_inside g c =
-    let l = c.loop-rule in
-    one_decides (λ r. g.C.BitString.bits r.network) (λ r. r.action) c.args.rules.now (g.C.BitString.bits c.args.address.now) l.rule-index l.invariant
-    c.rule-item.result c.loop-rule-test.true c.rule-item.is c.is_permit.result (c.is_inside.ensures.0 c.if-is_inside.true) c.is_permit.ensures
+pub returns-in-Some : goal.returns-in-Some
+returns-in-Some g c =
+    let a = g.C.BitString.bits c.args.address.now in
+    let (begins, i, within, at, none) = if_some _ _ _ c.in-Some.is
+    (first_from_find _ _ c.find.result (λ r. BeginsWith a (g.C.BitString.bits r.network)) (λ r. ¬ (BeginsWith a (g.C.BitString.bits r.network)))
+    c.find.ensures.ran (YieldsList-from_slice c.args.rules.now cc) (λ x q k. search (rules, tests)) (λ x q k. search (rules, tests))) in
+    let first = first_permits (λ r. g.C.BitString.bits r.network) (λ r. r.action) a c.args.rules.now c.in-Some.rule.now i within at none begins in
+    (λ t. first.1 (c.is_permit.ensures.0 t), λ h. c.is_permit.ensures.1 (first.0 h))
 
-pub loop-rule-preserved : goal.loop-rule-preserved
-loop-rule-preserved g c =
-    let l = c.loop-rule in
-    one_passes (λ r. g.C.BitString.bits r.network) (λ r. r.action) c.args.rules.now (g.C.BitString.bits c.args.address.now) l.rule-index l.invariant
-    c.rule-item.result c.loop-rule-test.true c.rule-item.is (λ b. true≢false (sym (c.is_inside.ensures.1 b) ∙ c.if-is_inside.false))
+pub returns-in-None : goal.returns-in-None
+returns-in-None g c =
+    let a = g.C.BitString.bits c.args.address.now in
+    let none = if_none _ _ c.in-None.is
+    (first_from_find _ _ c.find.result (λ r. BeginsWith a (g.C.BitString.bits r.network)) (λ r. ¬ (BeginsWith a (g.C.BitString.bits r.network)))
+    c.find.ensures.ran (YieldsList-from_slice c.args.rules.now cc) (λ x q k. search (rules, tests)) (λ x q k. search (rules, tests))) in
+    (λ t. absurd (false≢true t), λ h. absurd (none_permits (λ r. g.C.BitString.bits r.network) (λ r. r.action) a c.args.rules.now none h))

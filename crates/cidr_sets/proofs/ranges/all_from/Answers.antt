@@ -1,25 +1,15 @@
-use Rattle.std.proofs.Common.{◌≡◌, [], drop, refl, sym, ap, ◌∙◌, arith}
-use Rattle.std.proofs.lemmas.List.{drop_all}
-use Rattle.cidr_sets.specs.model.Ranges.{all_bits}
-use Rattle.cidr_sets.proofs.Runs.{bits_kept, bits_missed}
-use Rattle.cidr_sets.proofs.Sides.{other_bit, same_bit}
+use Rattle.std.proofs.Common.{◌-◌, get_or, false, refl, length, rules, ◌∙◌}
+use borrow.Author.Tests.{tests}
+use Rattle.std.specs.Bool.{beq}
+use Rattle.std.proofs.lemmas.Iterator.{YieldsList-from_range}
+use Rattle.std.proofs.lemmas.Iterator.Search.{all_from_yields_List}
+use Rattle.std.proofs.lemmas.Option.{get_or_from_slice_get}
+use Rattle.cidr_sets.proofs.Runs.{bits_are_all}
 use Rattle.cidr_sets.proofs.ranges.all_from.Goals as goal
-
-pub returns-then-get-bit : goal.returns-then-get-bit
-returns-then-get-bit g c =
-    let p = g.C.BitString.bits c.args.network.now in
-    let l = c.loop-i in
-    sym (l.invariant ∙ bits_missed p l.i c.get.result c.args.bit c.get.ensures (other_bit c.get.result c.args.bit c.if-get-bit.true))
-
-pub loop-i-preserved : goal.loop-i-preserved
-loop-i-preserved g c =
-    let p = g.C.BitString.bits c.args.network.now in
-    let l = c.loop-i in
-    l.invariant ∙ bits_kept p l.i c.get.result c.args.bit c.get.ensures (same_bit c.get.result c.args.bit c.if-get-bit.false)
 
 pub returns : goal.returns
 returns g c =
     let p = g.C.BitString.bits c.args.network.now in
-    let l = c.loop-i in
-    let none : drop l.i p ≡ [] = drop_all l.i p (omega (arith, c.loop-i-test.false, c.len-i-end.ensures.value)) in
-    sym (l.invariant ∙ ap (all_bits c.args.bit) none ∙ (unfold all_bits in refl))
+    all_from_yields_List (λ i. beq (get_or p i false) c.args.bit) _ _ c.all.result c.all.ensures.ran
+    (YieldsList-from_range c.args.from (length p) (length p - c.args.from) (cc) refl) (λ x b q k. search (rules, tests, get_or_from_slice_get))
+    ∙ bits_are_all c.args.bit p (length p - c.args.from) c.args.from refl

@@ -91,7 +91,7 @@ impl<C: NetworkBits + Copy> NetworkSet<C> {
     /// ```
     #[inline]
     pub fn contains_all(&self, networks: &[C]) -> bool {
-        are_covered(networks, self.as_slice())
+        networks.iter().all(|network| self.contains(network))
     }
 
     /// Whether the set has an address of a network. Two binary searches at most: O(log n).
@@ -124,7 +124,7 @@ impl<C: NetworkBits + Copy> NetworkSet<C> {
     /// ```
     #[inline]
     pub fn is_subset(&self, other: &NetworkSet<C>) -> bool {
-        are_covered(self.as_slice(), other.as_slice())
+        other.contains_all(self.as_slice())
     }
 
     /// The addresses that exactly one of two sets has. Both stay as they were.
@@ -184,7 +184,10 @@ impl<C: NetworkBits + Copy> NetworkSet<C> {
     /// ```
     #[inline]
     pub fn is_disjoint(&self, other: &NetworkSet<C>) -> bool {
-        are_apart(self.as_slice(), other.as_slice())
+        !self
+            .as_slice()
+            .iter()
+            .any(|network| other.overlaps(network))
     }
 }
 
@@ -278,29 +281,6 @@ fn first_inside<C: NetworkBits + Copy>(networks: &[C], outer: &C) -> Option<C> {
     } else {
         None
     }
-}
-
-/// Whether each of the networks lies in one of the others.
-#[inline]
-fn are_covered<C: NetworkBits>(networks: &[C], others: &[C]) -> bool {
-    for network in networks {
-        known(network);
-        if !covers(others, network) {
-            return false;
-        }
-    }
-    true
-}
-
-/// Whether none of the networks has an address in common with one of the others.
-#[inline]
-fn are_apart<C: NetworkBits + Copy>(networks: &[C], others: &[C]) -> bool {
-    for network in networks {
-        if meets(others, network) {
-            return false;
-        }
-    }
-    true
 }
 
 /// Whether one of the networks has an address in common with this one.

@@ -1,25 +1,17 @@
-use Rattle.std.proofs.Common.{List, map, sym, subst, arith, Some, None}
-use Rattle.cidr_table.specs.model.Cover.{IsReduced}
+use Rattle.std.proofs.Common.{◌∙◌, [], ◌∷◌, rules, Some}
+use borrow.Author.Tests.{tests}
+use Rattle.cidr_sets.proofs.FirstFound.{first_from_find_map}
+use Rattle.cidr_sets.proofs.Free.{HasNone, first_of_each}
 use Rattle.cidr_sets.specs.model.Pools.{IsFirstFree}
-use Rattle.cidr_sets.proofs.Free.{first_of_all, none_at_all}
+use Rattle.std.specs.Slice.Iter.{iter_rest}
 use Rattle.cidr_sets.proofs.set.NetworkSet.first_free.Goals as goal
-
-pub returns-in-Some-clause-first : goal.returns-in-Some-clause-first
-returns-in-Some-clause-first g c =
-    let f = g.C.BitString.bits in
-    let N = g.C.PoolNetwork.IsNetwork in
-    let xs = c.as_slice-network-items.result.now in
-    let same = c.as_slice-network-items.ensures.networks in
-    let p = f c.in-Some.first in
-    let reduced = subst (λ (s : List g.row.C.Denot). IsReduced 129 (map f s)) (sym same) c.as_slice-network-items.ensures.reduced in
-    subst (λ (s : List g.row.C.Denot). IsFirstFree N (map f s) c.args.len (Some p)) same
-    (first_of_all N c.args.len f xs c.loop-network.network-index c.network-item.result p c.loop-network-test.true c.network-item.is
-    reduced c.loop-network.invariant c.in-Some.ensures)
 
 pub returns-clause-first : goal.returns-clause-first
 returns-clause-first g c =
     let f = g.C.BitString.bits in
     let N = g.C.PoolNetwork.IsNetwork in
-    subst (λ (s : List g.row.C.Denot). IsFirstFree N (map f s) c.args.len None) c.as_slice-network-items.ensures.networks
-    (none_at_all N c.args.len f c.as_slice-network-items.result.now c.loop-network.network-index
-    (omega (arith, c.loop-network-test.false)) c.loop-network.invariant)
+    let s = c.args.self.now in
+    let n = c.args.len in
+    first_of_each N n f s c.find_map.result c.as_slice.ensures.reduced
+    (first_from_find_map iter_rest (HasNone N n f s) (λ x y. IsFirstFree N (f x ∷ []) n (Some (f y))) (λ x k. search (rules, tests)) (λ x y k. search (rules, tests))
+    s c.iter.result c.find_map.result c.iter.ensures.runs (c.iter.ensures.rest ∙ c.as_slice.ensures.networks) (λ a r q k. search rules) c.find_map.ensures.runs)
