@@ -1,10 +1,12 @@
 -- Networks by the numbers of their addresses: they are apart or one in the other.
-use Rattle.std.proofs.Common.{◌≡◌, sym, subst, ◌∙◌, ap, arith, inl, inr, ℕ, List, length, get_or, ◌+◌, ◌-◌, ◌*◌, ◌/◌, ◌%◌, ◌^◌, ◌<◌, ◌≤◌}
+use Rattle.std.proofs.Common.{◌≡◌, sym, subst, ◌∙◌, ap, arith, inl, inr, add-one, Option, Some, None, ℕ, zero, suc, List, length, get_or, ◌+◌, ◌-◌, ◌*◌, ◌/◌, ◌%◌, ◌^◌, ◌<◌, ◌≤◌}
 use Rattle.std.proofs.lemmas.Bool.{cases_eq, cases_lt}
 use Rattle.std.proofs.lemmas.List.{get_or-map, length-map}
 use Rattle.std.proofs.lemmas.Nat.{pow_pos, pow-add, mod-pow-add, div-add-mod', mul-le, mod-mul-add, shr_high}
-use Rattle.cidr_arrays.specs.Arrays.{AreNetworksUpTo, IsNetwork, Precedes, last_number_in, key_networks}
+use Rattle.cidr_arrays.specs.Arrays.{AreNetworksUpTo, IsFirstRefused, IsNetwork, Precedes, last_number_in, key_networks}
+use Rattle.cidr_arrays.specs.Passing.{IsNext}
 use Rattle.cidr_arrays.specs.declared.key.Key.{Key}
+use Rattle.std.specs.Option.{MatchOption}
 
 -- one multiple more is no further than the next
 pub multiples : (s x y : ℕ) → x % s ≡ 0 → y % s ≡ 0 → x < y → x + s ≤ y
@@ -132,3 +134,26 @@ pub network_at : {W : Type 0} (value : W → ℕ) (keys : List (Key W)) (j : ℕ
 network_at {W} value keys j key is l =
     let f : Key W → ℕ × ℕ = λ k. (value k.address, k.len) in
     get_or-map f keys j key (0, 0) l ∙ ap f (sym is)
+
+-- the first that isn't next
+module _ (w : ℕ) (networks : List (ℕ × ℕ)) where
+  all_next : (n : ℕ) → ((i : ℕ) → 0 ≤ i → i < n → IsNext w networks i) → AreNetworksUpTo w networks n
+  all_next zero each = record { each = λ i l. absurd (omega arith); ascending = λ i k lt l. absurd (omega arith) }
+  all_next (suc n) each =
+      let last = each n (omega arith) (omega arith) in
+      subst (AreNetworksUpTo w networks) (add-one n)
+      (networks_more w networks n (all_next n (λ i low less. each i low (omega arith))) last.network last.behind)
+
+  pub first_refused_is : (count : ℕ) → count ≡ length networks → (place : Option ℕ)
+      → MatchOption place ((i : ℕ) → 0 ≤ i → i < count → IsNext w networks i)
+      (λ n. (0 ≤ n) × (n < count) × (¬ (IsNext w networks n)) × ((i : ℕ) → 0 ≤ i → i < n → IsNext w networks i))
+      → IsFirstRefused w networks place
+  first_refused_is count same None all = subst (AreNetworksUpTo w networks) same (all_next count all)
+  first_refused_is count same (Some n) (low, within, other, before) = (
+    omega arith,
+    all_next n before,
+    λ more. other (record {
+      network = more.each n (omega arith);
+      behind = λ some. more.ascending (n - 1) n (omega arith) (omega arith);
+    }),
+  )

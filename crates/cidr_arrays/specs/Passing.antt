@@ -1,10 +1,15 @@
 -- What the pass over networks keeps: the last network that has an address, among the first `bound`.
 use Rattle.std.specs.Prelude.{◌≡◌, ◌≢◌, ℕ, ◌+◌, ◌-◌, ◌^◌, ◌<◌, ◌≤◌, ◌⊎◌, List, length, slice_index_or}
-use Rattle.cidr_arrays.specs.Arrays.{AreStarts, IsFirstLevel, last_number_in}
+use Rattle.cidr_arrays.specs.Arrays.{AreStarts, IsFirstLevel, IsNetwork, Precedes, last_number_in}
 
 module _ (w : ℕ) (networks : List (ℕ × ℕ)) where
   abbrev pub at : ℕ → ℕ × ℕ
   at j = slice_index_or networks j (0, 0)
+
+  -- what stands at this index is a network, and comes behind the one before it
+  pub record IsNext (i : ℕ) : Type 0 where
+    pub network : IsNetwork w (at i)
+    pub behind : 0 < i → Precedes (at (i - 1)) (at i)
 
   -- the network has the address
   abbrev pub HasNumber : ℕ × ℕ → ℕ → Type 0

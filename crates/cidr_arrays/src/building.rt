@@ -1,7 +1,7 @@
 //! The ranges of networks, written into arrays of the caller.
-ghost use Rattle.std.specs.Prelude.{◌≡◌, ℕ, ◌+◌, ◌*◌, ◌^◌, ◌<◌, ◌≤◌, List, length, map, take, IfOk, IfErr, OnErr};
+ghost use Rattle.std.specs.Prelude.{◌≡◌, ◌↔◌, ℕ, ◌+◌, ◌*◌, ◌^◌, ◌<◌, ◌≤◌, List, length, map, take, IfOk, IfErr, IsTrue, OnErr};
 ghost use Rattle.cidr_arrays.specs.Arrays.{AreAscendingNetworks, AreMatchRanges, IsFirstRefused, IsBuildRefused, key_networks};
-ghost use Rattle.cidr_arrays.specs.Passing.{AreSoFar, IsEdge, IsLastWithNumber, IsPut};
+ghost use Rattle.cidr_arrays.specs.Passing.{AreSoFar, IsEdge, IsLastWithNumber, IsNext, IsPut};
 
 use crate::key::Key;
 use crate::pass::{goes_on, started};
@@ -96,15 +96,15 @@ pub fn build<W: Word>(
 pub fn first_refused<W: Word>(keys: &[Key<W>]) -> Option<usize>
     ensures { IsFirstRefused W.width (key_networks W.value keys.now) result }
 {
-    for place in 0..keys.len() {
-        if !keys[place].is_network() {
-            return Some(place);
-        }
-        if place > 0 && !keys[place - 1].precedes(&keys[place]) {
-            return Some(place);
-        }
-    }
-    None
+    (0..keys.len()).find(|&place| !is_next(keys, place))
+}
+
+/// Whether a key is a network and comes after the one before it.
+fn is_next<W: Word>(keys: &[Key<W>], place: usize) -> bool
+    requires { place < length keys.now }
+    ensures { IsTrue result ↔ IsNext W.width (key_networks W.value keys.now) place }
+{
+    keys[place].is_network() && (place == 0 || keys[place - 1].precedes(&keys[place]))
 }
 
 /// Writes the ranges, and returns how many there are.

@@ -159,10 +159,5 @@ fn first_wrong<W: Word>(starts: &[W], level: &[u32], shift: u32) -> Option<usize
     requires shift { shift < W.width }
     ensures { IsFirstWrong (map W.value starts.now) level.now shift result }
 {
-    for i in 0..level.len() {
-        if !is_entry(starts, shift, i, level[i] as usize) {
-            return Some(i);
-        }
-    }
-    None
+    (0..level.len()).find(|&i| !is_entry(starts, shift, i, level[i] as usize))
 }
