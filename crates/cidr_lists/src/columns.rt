@@ -62,7 +62,7 @@ fn begin_of(separator: Separator, line: &[u8]) -> &[u8]
 }
 
 /// How many bytes stand before the first white space.
-fn len_to_white_space(line: &[u8]) -> usize
+pub(crate) fn len_to_white_space(line: &[u8]) -> usize
     ensures first { result ≡ position_or_len is_ascii_whitespace line.now }
     ensures fits { result ≤ length line.now }
 {

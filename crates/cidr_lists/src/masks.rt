@@ -12,6 +12,7 @@ ghost use Rattle.cidr_lists.specs.Messages.{but_a_mask, IsMaskFault, ShowsBy};
 ghost use Rattle.cidr.specs.declared.cidr.combined.IpCidr.{IpCidr as Network};
 ghost use Rattle.cidr.specs.declared.inet.combined.IpInet.{IpInet as Host};
 
+use crate::columns::len_to_white_space;
 use crate::errors::BadText;
 use crate::lines::HostBits;
 use cidr::laws::hosts::equal_hosts_are_the_same;
@@ -71,12 +72,8 @@ fn cut_at_white_space(text: &str) -> (&str, &str)
     ensures front { result.0.now ≡ before_first is_ascii_whitespace text.now }
     ensures back { IsTrimAsciiStart (drop (length result.0.now) text.now) result.1.now }
 {
-    for (place, byte) in text.as_bytes().iter().enumerate() {
-        if byte.is_ascii_whitespace() {
-            return (&text[..place], text[place..].trim_ascii_start());
-        }
-    }
-    (text, "")
+    let (front, back) = text.split_at(len_to_white_space(text.as_bytes()));
+    (front, back.trim_ascii_start())
 }
 
 /// The host that a string with a mask is: an address and, behind a slash or white space, a network mask or a host mask.
