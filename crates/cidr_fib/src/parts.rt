@@ -139,12 +139,13 @@ fn first_from(starts: &[u32], from: usize, number: u64) -> usize
     ensures before { (i : ℕ) → i < result → slice_index_or starts.now i 0 < number }
     ensures behind { (i : ℕ) → result ≤ i → i < length starts.now → number ≤ slice_index_or starts.now i 0 }
 {
-    for place in from..starts.len() {
-        if u64::from(starts[place]) >= number {
-            return place;
-        }
+    match starts[from..]
+        .iter()
+        .position(|start| u64::from(*start) >= number)
+    {
+        Some(place) => from + place,
+        None => starts.len(),
     }
-    starts.len()
 }
 
 /// The last 16 bits of each start.
