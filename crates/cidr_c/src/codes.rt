@@ -123,7 +123,8 @@ pub fn line_code(error: &LineError) -> u32
         LineError::NoField
         | LineError::NoAction(_)
         | LineError::Quoted(_)
-        | LineError::NoLength(_) => NOT_ADDRESS,
+        | LineError::NoLength(_)
+        | LineError::NoCount(_) => NOT_ADDRESS,
         LineError::TwoFamilies(_) => TWO_FAMILIES,
         LineError::Reversed(_) => REVERSED,
     }

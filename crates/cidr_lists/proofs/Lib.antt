@@ -22,6 +22,7 @@ pub mod PrintedTexts
 pub mod ReadBack
 pub mod Registered
 pub mod Resolved
+pub mod RecordLines
 pub mod RuleTexts
 pub mod SaidWidths
 pub mod Shadows

@@ -38,6 +38,7 @@ no_network bits first rest (error.NoNetwork text e) is some bad = (is, some, bad
 no_network bits first rest (error.NoAddress text e) is some bad = absurd bad
 no_network bits first rest (error.Quoted text) is some bad = absurd bad
 no_network bits first rest (error.NoLength text) is some bad = absurd bad
+no_network bits first rest (error.NoCount text) is some bad = absurd bad
 no_network bits first rest (error.NoAction text) is some bad = absurd bad
 no_network bits first rest (error.TwoFamilies text) is some bad = absurd bad
 no_network bits first rest (error.Reversed text) is some bad = absurd bad

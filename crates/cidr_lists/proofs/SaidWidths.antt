@@ -7,11 +7,13 @@ use Rattle.std.proofs.lemmas.List.Elements.{Contains-append_cases, Contains-appe
 use Rattle.std.specs.declared.cmp.Ordering.TheVariants.{Greater}
 use Rattle.cidr.specs.either.IpText.{IsIpHostText}
 use Rattle.cidr.specs.either.IpHost.{host_at, host_network}
+use Rattle.cidr.specs.laws.BitLaws.{length-bits}
 use Rattle.cidr.specs.model.Bits.{bit_cmp}
 use Rattle.cidr.specs.model.Host.{Host, first_host, network_of}
 use Rattle.cidr.specs.model.Network.{BeginsWith, width_of}
 use Rattle.cidr.specs.texts.HostText.{IsHostText}
 use Rattle.cidr.specs.texts.NetworkText.{IsNetworkText}
+use Rattle.cidr.specs.declared.addr.ip.IpAddr.TheVariants as address
 use Rattle.cidr.specs.declared.cidr.combined.IpCidr.{IpCidr}
 use Rattle.cidr.specs.declared.cidr.combined.IpCidr.TheVariants.{V4, V6}
 use Rattle.cidr.specs.declared.family.Family.{Family}
@@ -24,14 +26,18 @@ use Rattle.cidr_table.proofs.MapLaws.{contains_nothing}
 use Rattle.cidr_sets.specs.model.Ranges.{IsBetween}
 use Rattle.cidr_sets.specs.model.Sets.{IsSetOf}
 use Rattle.cidr_lists.specs.Combining.{SomeHas}
+use Rattle.cidr_lists.specs.Forms.{with_length}
 use Rattle.cidr_lists.specs.Masks.{IsMaskedHost}
-use Rattle.cidr_lists.specs.Lists.{IsContent, IsNetworkBy, LineSays, ListSays, AreContentNetworks as AreOfContent, Text, lines_of, line_networks, networks_in}
+use Rattle.cidr_lists.specs.Records.{IsRecordContent}
+use Rattle.cidr_lists.specs.Lists.{IsContent, IsNetworkBy, SaysBy, ListSays, AreContentNetworks as AreOfContent, Text, lines_of, line_networks, networks_in}
 use Rattle.cidr_lists.specs.ReadBack.{AreOfFamilies, AreUnions}
 use Rattle.cidr_lists.specs.Texts.{SaysAddress}
 use Rattle.cidr_lists.specs.declared.lines.Content.{Content}
 use Rattle.cidr_lists.specs.declared.lines.Content.TheVariants.{Blank, Network, Ipv4Range, Ipv6Range}
 use Rattle.cidr_lists.specs.declared.lines.HostBits.{HostBits}
 use Rattle.cidr_lists.specs.declared.lines.HostBits.TheVariants.{Refused, Cleared, RefusedWithMasks, ClearedWithMasks}
+use Rattle.cidr_lists.specs.declared.records.ListForm.{ListForm}
+use Rattle.cidr_lists.specs.declared.records.ListForm.TheVariants.{Networks, Rir}
 use Rattle.cidr_lists.proofs.Anywhere.{address_width}
 use Rattle.cidr_lists.proofs.MaskedTexts.{mask_fits, network_again}
 use Rattle.cidr_lists.proofs.Contents.{in_v4, in_v6, not_in_v4, not_in_v6}
@@ -184,22 +190,42 @@ content_tells bits field (Ipv6Range first last) said Ipv6 ((front, back, split, 
     at_networks 128 (line_networks Ipv6 said) networks (ap (line_networks Ipv6) are ∙ in_v6 networks)
     (range_tells 128 first last networks (omega arith) (address_width Ipv6 head first low) (address_width Ipv6 tail last high) set)
 
+-- what a record says
+record_tells : (line : List ℕ) (content : Content) (said : List IpCidr) (family : Family) → IsRecordContent line content
+    → AreOfContent content said → TellFirst (width_of family) (Covers (line_networks family said))
+record_tells line Blank said family is are =
+    at_networks (width_of family) (line_networks family said) [] (ap (line_networks family) are ∙ none_in family) (nothing_tells (width_of family))
+record_tells line (Network network) said family (start, value, _, (a, _, is)) are =
+    at_networks (width_of family) (line_networks family said) (line_networks family (network ∷ [])) (ap (line_networks family) are)
+    (narrow_tells family network (network_narrow Refused (with_length (address.V6 a) value) network is))
+record_tells line (Ipv4Range first last) said Ipv4 (start, value, _, (count, at, _, (end, _, _, _, same))) (networks, set, are) =
+    at_networks 32 (line_networks Ipv4 said) networks (ap (line_networks Ipv4) are ∙ in_v4 networks)
+    (range_tells 32 first last networks (omega arith) (address_width Ipv4 start first at) (ap length same ∙ length-bits 32 end) set)
+record_tells line (Ipv4Range first last) said Ipv6 is (networks, set, are) =
+    at_networks 128 (line_networks Ipv6 said) [] (ap (line_networks Ipv6) are ∙ not_in_v6 networks) (nothing_tells 128)
+record_tells line (Ipv6Range first last) said family (start, value, _, is) are = absurd is
+
 -- ---- what lists say
-lines_tell : (bits : HostBits) (family : Family) (lines : List (List ℕ)) (said : List (List IpCidr)) → AllZip (LineSays bits) lines said
+line_tells : (form : ListForm) (family : Family) (line : List ℕ) (said : List IpCidr) → SaysBy form line said
+    → TellFirst (width_of family) (Covers (line_networks family said))
+line_tells (Networks bits) family line said (short, field, content, is_field, is, are) = content_tells bits field content said family is are
+line_tells Rir family line said (short, content, is, are) = record_tells line content said family is are
+
+lines_tell : (form : ListForm) (family : Family) (lines : List (List ℕ)) (said : List (List IpCidr)) → AllZip (SaysBy form) lines said
     → TellFirst (width_of family) (Covers (networks_in family said))
-lines_tell bits family [] [] h = nothing_tells (width_of family)
-lines_tell bits family [] (s ∷ said) h = absurd h
-lines_tell bits family (line ∷ lines) [] h = absurd h
-lines_tell bits family (line ∷ lines) (s ∷ said) ((short, field, content, is_field, is, are), h) =
-    append_tells (width_of family) (line_networks family s) (networks_in family said) (content_tells bits field content s family is are)
-    (lines_tell bits family lines said h)
+lines_tell form family [] [] h = nothing_tells (width_of family)
+lines_tell form family [] (s ∷ said) h = absurd h
+lines_tell form family (line ∷ lines) [] h = absurd h
+lines_tell form family (line ∷ lines) (s ∷ said) (says, h) =
+    append_tells (width_of family) (line_networks family s) (networks_in family said) (line_tells form family line s says)
+    (lines_tell form family lines said h)
 
 lists_tell : (family : Family) (texts : List Text) (lists : List (List (List IpCidr))) → AllZip ListSays texts lists
     → TellFirst (width_of family) (SomeHas SaysAddress lists family)
 lists_tell family [] [] h a b la lb same none = none
 lists_tell family [] (said ∷ lists) h a b la lb same here = absurd h
 lists_tell family (text ∷ texts) [] h a b la lb same here = absurd h
-lists_tell family (text ∷ texts) (said ∷ lists) h a b la lb same (inl here) = inl (lines_tell text.host_bits family (lines_of text.bytes) said h.0 a b la lb same here)
+lists_tell family (text ∷ texts) (said ∷ lists) h a b la lb same (inl here) = inl (lines_tell text.form family (lines_of text.bytes) said h.0 a b la lb same here)
 lists_tell family (text ∷ texts) (said ∷ lists) h a b la lb same (inr there) = inr (lists_tell family texts lists h.1 a b la lb same there)
 
 pub unions_fit : (texts : List Text) (lists : List (List (List IpCidr))) (networks : Family → List (List Bool)) → AllZip ListSays texts lists

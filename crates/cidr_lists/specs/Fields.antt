@@ -8,7 +8,7 @@ use Rattle.cidr.specs.either.IpText.{IsIpNetworkText}
 use Rattle.cidr.specs.declared.addr.ip.IpAddr.{IpAddr}
 use Rattle.cidr.specs.declared.cidr.combined.IpCidr.{IpCidr}
 use Rattle.cidr_io.specs.Shown.{byte_excerpt}
-use Rattle.cidr_lists.specs.Lists.{IsFirstField, IsBadLineBy, IsField, IsNoAddressBy, IsNoNetworkBy, is_comment_sign}
+use Rattle.cidr_lists.specs.ListLines.{IsFirstField, IsBadLineBy, IsField, IsNoAddressBy, IsNoNetworkBy, is_comment_sign}
 use Rattle.cidr_lists.specs.Messages.{ShowsBy}
 use Rattle.cidr_lists.specs.declared.errors.LineError.{LineError}
 use Rattle.cidr_lists.specs.declared.lines.HostBits.TheVariants.{Refused}

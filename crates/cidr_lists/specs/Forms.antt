@@ -11,7 +11,7 @@ use Rattle.cidr.specs.declared.cidr.combined.IpCidr.{IpCidr}
 use Rattle.cidr.specs.declared.family.Family.{Family}
 use Rattle.cidr.specs.declared.family.Family.TheVariants.{Ipv4, Ipv6}
 use Rattle.cidr_io.specs.Shown.{byte_excerpt}
-use Rattle.cidr_lists.specs.Lists.{IsBadLineBy, IsNetworkBy, IsTooLong}
+use Rattle.cidr_lists.specs.ListLines.{IsBadLineBy, IsNetworkBy, IsTooLong}
 use Rattle.cidr_lists.specs.Fields.{AreFirstAndRest, HasNoFields, IsNoAddressField, IsNoNetworkField, IsRowSplit}
 use Rattle.cidr_lists.specs.declared.columns.Separator.{Separator}
 use Rattle.cidr_lists.specs.declared.columns.Separator.TheVariants.{WhiteSpace}

@@ -3,13 +3,15 @@
 pub mod Printing
 pub mod Masks
 pub mod Messages
+pub mod ListLines
+pub mod Fields
+pub mod Forms
+pub mod Records
 pub mod Lists
 pub mod Reading
 pub mod Lines
-pub mod Fields
 pub mod Words
 pub mod Within
-pub mod Forms
 pub mod Tables
 pub mod LookUps
 pub mod Sets

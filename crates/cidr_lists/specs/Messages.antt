@@ -10,7 +10,7 @@ use Rattle.cidr_io.specs.Shown.{excerpt, shown}
 use Rattle.cidr_lists.specs.Masks.{IsMaskedHost}
 use Rattle.cidr_lists.specs.declared.errors.BadText.{BadText}
 use Rattle.cidr_lists.specs.declared.errors.LineError.{LineError}
-use Rattle.cidr_lists.specs.declared.errors.LineError.TheVariants.{TooLong, NotUtf8, NoNetwork, NoAddress, NoField, Quoted, NoLength, NoAction, TwoFamilies, Reversed}
+use Rattle.cidr_lists.specs.declared.errors.LineError.TheVariants.{TooLong, NotUtf8, NoNetwork, NoAddress, NoField, Quoted, NoLength, NoCount, NoAction, TwoFamilies, Reversed}
 use Rattle.cidr_lists.specs.declared.lines.HostBits.{HostBits as Bits}
 use Rattle.cidr_lists.specs.declared.lines.HostBits.TheVariants.{Refused, Cleared, RefusedWithMasks, ClearedWithMasks}
 
@@ -60,6 +60,7 @@ line_message (NoNetwork bad e) = bad.text.bytes ++ codes ": " ++ fault_words bad
 line_message (NoAddress bad e) = bad.text.bytes ++ codes ": " ++ address_words bad.fault (address_message e)
 line_message (Quoted text) = text.bytes ++ codes ": " ++ codes "quoted fields are not read"
 line_message (NoLength text) = text.bytes ++ codes ": " ++ codes "no prefix length"
+line_message (NoCount text) = text.bytes ++ codes ": " ++ codes "no number of addresses from the first one on"
 line_message (NoAction text) = text.bytes ++ codes ": " ++ codes "neither permit nor deny"
 line_message (TwoFamilies text) = text.bytes ++ codes ": " ++ codes "the ends of the range are of two families"
 line_message (Reversed text) = text.bytes ++ codes ": " ++ codes "the first address of the range is above the last one"

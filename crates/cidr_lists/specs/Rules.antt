@@ -15,7 +15,7 @@ use Rattle.cidr_sets.specs.declared.access.Rule.{Rule}
 use Rattle.cidr_lists.specs.Changes.{AreChanges, printed_changes}
 use Rattle.cidr_lists.specs.Fields.{IsNoNetworkField, IsSplit}
 use Rattle.cidr_lists.specs.Formats.{Style, line_style, printed_by}
-use Rattle.cidr_lists.specs.Lists.{Text, IsBadLineBy, IsField, IsFirstBad, IsNetworkBy, IsTooLong, lines_of}
+use Rattle.cidr_lists.specs.Lists.{Text, IsBadLineBy, IsField, IsFirstBad, IsNetworkBy, IsTooLong, bits_in, lines_of}
 use Rattle.cidr_lists.specs.Printing.{line}
 use Rattle.cidr_lists.specs.Tables.{row_in}
 use Rattle.cidr_lists.specs.declared.changes.Sign.{Sign}
@@ -64,11 +64,11 @@ IsBadRule bits line e = IsBadLineBy (HasNoRule bits) line e
 -- ---- an access list
 -- what each line of an access list says
 abbrev pub RulesSay : Text → List (Option (IpCidr × Action)) → Type 0
-RulesSay text said = AllZip (RuleSays text.host_bits) (lines_of text.bytes) said
+RulesSay text said = AllZip (RuleSays (bits_in text.form)) (lines_of text.bytes) said
 
 -- its first line in error
 abbrev pub IsFirstBadRule : Text → ℕ → LineError → Type 0
-IsFirstBadRule text number e = IsFirstBad (AllZip (RuleSays text.host_bits)) (IsBadRule text.host_bits) (lines_of text.bytes) number e
+IsFirstBadRule text number e = IsFirstBad (AllZip (RuleSays (bits_in text.form))) (IsBadRule (bits_in text.form)) (lines_of text.bytes) number e
 
 -- the rule of a line of this number, if it is one of the family
 abbrev pub rule_in : Family → ℕ × Option (IpCidr × Action) → List (List Bool × Ruling)

@@ -6,7 +6,7 @@ use Rattle.cidr.specs.declared.cidr.combined.IpCidr.TheVariants.{V4, V6}
 use Rattle.cidr.specs.declared.family.Family.{Family}
 use Rattle.cidr.specs.declared.family.Family.TheVariants.{Ipv4, Ipv6}
 use Rattle.cidr_table.specs.model.LastRows.{AreLastRows}
-use Rattle.cidr_lists.specs.Lists.{Text, lines_of}
+use Rattle.cidr_lists.specs.Lists.{Text, bits_in, lines_of}
 use Rattle.cidr_lists.specs.Forms.{RowSays}
 use Rattle.cidr_lists.specs.declared.forms.RowForm.{RowForm}
 use Rattle.cidr_lists.specs.declared.rows.Rows.{Rows}
@@ -32,7 +32,7 @@ rows_in family said = flat_map (said_in family) said
 
 -- what a text says as a table: the networks of each family, each once, with the value of its last line
 abbrev pub IsTable : RowForm → Text → (Family → List (List Bool × List ℕ)) → Type 0
-IsTable form text table = (said : List (Option (IpCidr × List ℕ))) × AllZip (RowSays form text.host_bits) (lines_of text.bytes) said
+IsTable form text table = (said : List (Option (IpCidr × List ℕ))) × AllZip (RowSays form (bits_in text.form)) (lines_of text.bytes) said
     × ((family : Family) → AreLastRows (rows_in family said) (table family))
 
 -- the bytes of a value among those of all values

@@ -103,6 +103,8 @@ pub enum LineError {
     Quoted(ArrayString<42>),
     /// The field of a prefix length is longer than any: the field, as it is shown.
     NoLength(ArrayString<42>),
+    /// The value of a record is no number of addresses, or there are fewer from its first one on: the value, as it is shown.
+    NoCount(ArrayString<42>),
     /// Its first word is neither `permit` nor `deny`: the word, as it is shown.
     NoAction(ArrayString<42>),
     /// The ends of its range are of two families: the range, as it is shown.
@@ -138,6 +140,9 @@ impl LineError {
             }
             LineError::Quoted(shown) => message_of(shown, "quoted fields are not read"),
             LineError::NoLength(shown) => message_of(shown, "no prefix length"),
+            LineError::NoCount(shown) => {
+                message_of(shown, "no number of addresses from the first one on")
+            }
             LineError::NoAction(shown) => message_of(shown, "neither permit nor deny"),
             LineError::TwoFamilies(shown) => {
                 message_of(shown, "the ends of the range are of two families")

@@ -125,7 +125,11 @@ fn with_length(address: &IpAddr, len: &[u8]) -> ArrayVec<u8, 85>
 }
 
 /// The network of an address with a prefix length in a field of its own.
-fn network_with(host_bits: HostBits, address: &IpAddr, len: &[u8]) -> Result<IpCidr, LineError>
+pub(crate) fn network_with(
+    host_bits: HostBits,
+    address: &IpAddr,
+    len: &[u8],
+) -> Result<IpCidr, LineError>
     ensures { MatchResult result (IsNetworkBy host_bits (with_length address.now len.now)) (IsBadLength host_bits address.now len.now) }
 {
     if len.is_empty() {

@@ -4,7 +4,8 @@
 //! caller that cuts its input into lines itself, as by `cidr_io`, gives each line, without its line feed, to the call for
 //! what the lines are:
 //!
-//! - `lines::content_of`: a line of a list says nothing, a network, an address or a range. `lists::Lists` collects the
+//! - `lines::content_of`: a line of a list says nothing, a network, an address or a range. `records::content_in`: the same, or
+//!   a record of the Internet registries. `lists::Lists` collects the
 //!   networks, and `sets::Sets` has their addresses, combines them and tells what lies in them.
 //! - `entries::entry_of`: a line has a network or a host, with its place. `near` and `findings` tell what is found in
 //!   them.
@@ -39,6 +40,7 @@ mod masks;
 pub mod near;
 pub mod objects;
 pub mod printing;
+pub mod records;
 pub mod rows;
 pub mod rules;
 pub mod sets;

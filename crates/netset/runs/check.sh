@@ -138,6 +138,11 @@ rows_of_arguments() {
 -k                      each line of a list in error is told, and not only the first
 --skip-bad              each line of a list in error is told, and the answer is that of the other
                         lines; the status is 2 then, or 3; it goes neither with -k nor with -o
+--form NAME             how lines are read: those of a list by rir, the records in which the
+                        Internet registries publish what they have delegated; the rows of a
+                        table by pfx2as, an address, its prefix length and the value, as CAIDA
+                        has them, or by routes or routes6, as ip route prints those of IPv4
+                        and of IPv6, and default is all addresses
 --format NAME           how the networks are written: plain, json, nft, ipset, iptables,
                         cisco, juniper or bird
 --prefix TEXT, --suffix TEXT
@@ -826,6 +831,41 @@ rows_of_look_ups() {
     run 1 '' '' '' look owners -k
 }
 
+# Lists that are files of Internet registries.
+rows_of_records() {
+    local v4='x|DE|ipv4|192.0.2.0' none='the field is missing or empty' count='no number of addresses from the first one on'
+    printf '%s\n' '2|x|1|6|1|1|0' 'x|*|ipv4|*|2|summary' 'x|DE|ipv4|192.0.2.0|768|1|allocated' 'x|NL|asn|64500|1|1|assigned' \
+        'x|FR|ipv6|2001:db8::|32|1|allocated' >"$room/delegated"
+    run 0 $'192.0.2.0/23\n192.0.4.0/24\n2001:db8::/32\n' '' '' merge --form rir delegated
+    run 0 $'192.0.2.0-192.0.4.255\n2001:db8::-2001:db8:ffff:ffff:ffff:ffff:ffff:ffff\n' '' '' ranges --form=rir delegated
+    run 0 $'IPv4 768\nIPv6 79228162514264337593543950336\n' '' '' count --form rir delegated
+    run 0 $'192.0.3.0/24\n192.0.4.0/24\n2001:db8::/32\n' '' "$v4|256|1|x\n" minus --form rir delegated -
+    run 0 $'192.0.2.1\n' '' '192.0.2.1\n192.0.5.1\n' match --form rir delegated
+    run 0 $'192.0.2.0/24\n' '' '' free --form rir delegated 24
+    run 0 $'2.0.192.in-addr.arpa\n3.0.192.in-addr.arpa\n4.0.192.in-addr.arpa\n8.b.d.0.1.0.0.2.ip6.arpa\n' '' '' reverse --form rir delegated
+    run 1 $'-192.0.4.0/24\n-2001:db8::/32\n' '' "$v4|512|1|x\n" diff --form rir delegated -
+    run 0 $'0.0.0.0/0\n' '' '# all\r\n ;\n\nx||ipv4|0.0.0.0|4294967296|\r\n' merge --form rir
+    run 0 $'255.255.255.255\n' '' ' x | DE | ipv4 | 255.255.255.255 | +1 | 1 ' merge --form rir
+    run 0 '' '' 'x|DE|IPV4|192.0.2.0|768|1|allocated' merge --form rir
+    run 0 $'2001:db8::1\n' '' 'x|DE|ipv6|2001:db8::1|128|1' merge --form rir
+    run 2 '' "-:1: $none"$'\n' '10.0.0.0/8' merge --form rir
+    run 2 '' "-:1: $none"$'\n' "$v4" merge --form rir
+    run 2 '' "-:1: 0: $count"$'\n' "$v4|0|1" merge --form rir
+    run 2 '' "-:1: x: $count"$'\n' "$v4|x|1" merge --form rir
+    run 2 '' "-:1: 2: $count"$'\n' 'x|DE|ipv4|255.255.255.255|2|1' merge --form rir
+    run 2 '' "-:1: 18446744073709551616: $count"$'\n' "$v4|18446744073709551616|1" merge --form rir
+    run 2 '' $'-:1: \\xff: not UTF-8\n' "$v4|\xff|1" merge --form rir
+    run 2 '' $'-:1: 192.0.2: not four octets\n' 'x|DE|ipv4|192.0.2|768|1' merge --form rir
+    run 2 '' $'-:1: 2001:db8::1/32: host bits set; the network is 2001:db8::/32\n' 'x|DE|ipv6|2001:db8::1|32|1' merge --form rir
+    run 2 $'192.0.2.0/24\n' "-:2: $none"$'\n' "$v4|256|1\nx" merge --form rir --skip-bad
+    run 2 '' "-:1: $none"$'\n'"-:3: 0: $count"$'\n' "x\n$v4|256|1\n$v4|0|1" merge --form rir -k
+    run 2 '' $'--masks: not with --form, see: netset help merge\n' '' merge --masks --form rir
+    run 2 '' $'--host-bits: not with --form, see: netset help free\n' '' free --host-bits --form rir - 24
+    run 2 '' $'pfx2as: no such form of lists, but rir, see: netset help merge\n' '' merge --form pfx2as
+    run 2 '' $'rir: no such form, but pfx2as, routes and routes6, see: netset help look\n' '' look --form rir missing
+    run 2 '' $'--form: no such option, see: netset help acl\n' '' acl --form rir rules
+}
+
 # Tables whose rows have other forms.
 rows_of_forms() {
     local quoted='quoted fields are not read' none='the field is missing or empty'
@@ -876,7 +916,66 @@ rows_of_forms() {
     run 2 '' "Routes: no such form, but $names, see: netset help compile"$'\n' '' compile --form Routes missing out
     run 2 '' $'--table-separator: not with --form, see: netset help look\n' '' look --table-separator , --form routes missing
     run 2 '' $'routes6: one argument too many, see: netset help look\n' '' look --form routes --form routes6 missing
-    run 2 '' $'--form: no such option, see: netset help match\n' '' match --form routes missing
+    run 2 '' $'routes: no such form of lists, but rir, see: netset help match\n' '' match --form routes missing
+}
+
+# Tables whose first line is a header.
+rows_of_headed_tables() {
+    local network="couldn't parse address in network: invalid IP address syntax" found=$'10.0.0.1 10.0.0.0/8 west\n'
+    run 0 "$found" '' 'network,name\n10.0.0.0/8,west\n' look --table-header --table-separator , - address
+    run 0 "$found" '' '"network","name"\r\n10.0.0.0/8,west\r\n' look --table-header --table-separator , - address
+    run 0 "$found" '' '\xef\xbb\xbf\xff\n10.0.0.0/8 west' look - --table-header address
+    run 0 "$found" '' 'x\n10.0.0.0/8 west' look --table-header --table-separator ' ' - address
+    run 0 "$found" '' 'x\n10.0.0.0 8 west' look --table-header --form pfx2as - address
+    run 0 "$found" '' 'x\n10.0.0.0/8 west' look --table-header --form routes - address
+    run 0 '{"address":"10.0.0.1","value":"west","network":"10.0.0.0/8","first":"10.0.0.0","last":"10.255.255.255","length":8,"family":"IPv4"}'$'\n' '' \
+        '\xff\n10.0.0.0/8 west' look --table-header --format json - address
+    # the first line is none of the table, whatever it says
+    run 1 $'10.0.0.1 -\n' '' '10.0.0.0/8 west' look --table-header - address
+    run 1 $'10.0.0.1 -\n' '' '10.0.0.0/8 west\n' look --table-header - address
+    run 1 $'10.0.0.1 -\n' '' '' look --table-header - address
+    run 0 "$found" '' '\n10.0.0.0/8 west' look --table-header - address
+    run 1 $'10.0.0.1 -\n11.0.0.1 -\n192.0.2.1 -\n' '' '10.0.0.0/8 west' look --table-header - asked
+    # the file that is looked up has a header of its own
+    run 2 '' $'-:1: ip: invalid IP address syntax\n' 'ip\n10.0.0.1' look --table-header headed
+    run 0 "$found" '' 'ip\n10.0.0.1' look --table-header --header headed
+    run 0 $'ip\n10.0.0.1 10.0.0.0/8 west\n' '' 'ip\n10.0.0.1' look --keep --header --table-header headed
+    # it goes by the name
+    run 2 '' $'headed:2: 10.0.0.0/8: invalid IP address syntax\n' '' look --table-header headed headed
+    run 2 '' $'./headed:1: net: invalid IP address syntax\n' '' look --table-header headed ./headed
+    # the lines behind it keep their numbers
+    run 2 '' "-:2: x: $network"$'\n' 'x\nx y\n10.0.0.0/8 west\nz' look --table-header - address
+    run 2 '' "-:2: x: $network"$'\n'"-:4: z: $network"$'\n' 'x\nx y\n10.0.0.0/8 west\nz' look -k --table-header - address
+    run 2 "$found" "-:2: x: $network"$'\n'"-:4: z: $network"$'\n' 'x\nx y\n10.0.0.0/8 west\nz' look --skip-bad --table-header - address
+    run 0 "$found" '' '10.0.0.1' look -k --table-header headed
+    run 0 "$found" '' '10.0.0.1' look --skip-bad --table-header headed
+    run 2 '' "headed:1: net: $network"$'\n' '10.0.0.1' look headed
+    run 2 '' "headed:1: net: $network"$'\n' '10.0.0.1' look --header headed
+    run 2 '' $'missing: no such file\n' '' look --table-header missing
+    run 2 '' $'.: is a directory\n' '' look --table-header .
+    # the other commands
+    run 0 '' '' '' compile --table-header headed compiled_headed
+    run 0 "$found" '' '10.0.0.1' look compiled_headed
+    run 2 '' "headed:1: net: $network"$'\n' '' compile headed compiled_headed
+    run 0 "$found" '' '10.0.0.1' look compiled_headed
+    run 2 '' "-:2: x: $network"$'\n'"-:3: y: $network"$'\n' '10.0.0.0/8\nx\ny' compile -k --table-header - compiled_headed
+    run 2 '' $'headed: the same file as TABLE\n' '' compile --table-header headed headed
+    run 0 '' '' 'header\n10.0.0.0/8 west' same --table-header headed -
+    run 1 $'-10.0.0.0/8 west\n' '' '10.0.0.0/8 west' same --table-header headed -
+    run 1 $'+10.0.0.0/8 west\n' '' '10.0.0.0/8 west' same --table-header - headed
+    run 2 '' "headed:1: net: $network"$'\n' '10.0.0.0/8 west' same - headed
+    run 2 '' "-:2: x: $network"$'\n' '10.0.0.0/8 west\nx' same -k --table-header - headed
+    run 2 $'+10.0.0.0/8 west\n' "-:2: x: $network"$'\n' '10.0.0.0/8 west\nx' same --skip-bad --table-header - headed
+    run 0 $'10.0.0.0/8 west\n' '' '10.0.0.0/9 east\n10.0.0.0/9 west\n10.128.0.0/9 west' smallest --table-header -
+    run 0 $'10.0.0.0/8 west\n' '' '' smallest --holes --table-header headed
+    run 0 '' '' '10.0.0.0/8 -' smallest --holes --table-header -
+    run 0 '' '' '' smallest --table-header headed -o told
+    has "$room/told" $'10.0.0.0/8 west\n' || differs=1
+    run 2 '' "-:2: x: $network"$'\n' '10.0.0.0/8 west\nx' smallest -k --table-header -
+    # the words
+    run 2 '' $'--table-header: no such option, see: netset help match\n' '' match --table-header missing
+    run 2 '' $'--table-header=x: no such option, see: netset help look\n' '' look --table-header=x missing
+    run 2 '' $'--table-header: no such option, see: netset help merge\n' '' merge --table-header missing
 }
 
 # The same as objects of JSON, each put together by hand.
@@ -1243,6 +1342,8 @@ rows_of_long_lines() {
     run 2 '' "-:1: $told" "$long" look --header --keep owners
     run 2 $'ip\n' "-:2: $told" "ip\n$long" look --header --keep owners
     run 2 '' "-:1: $told" "$long x" look - owners
+    run 2 '' "-:1: $told" "$long x" look --table-header - owners
+    run 0 $'10.0.0.0/8 x\n' '' "$fits\n10.0.0.0/8 x" smallest --table-header -
     run 0 "$fits"$'\n' '' "$fits" match ten
     run 2 $'10.0.0.2\n' "-:2: $told" "10.0.0.2\n$long\n10.0.0.1" match ten
     run 2 $'10.0.0.2\n10.0.0.1\n' "-:2: $told" "10.0.0.2\n$long\n10.0.0.1\n$long" match --any ten
@@ -1840,6 +1941,7 @@ printf '10.0.0.1 a\n11.0.0.1 b\n10.2.0.0/16 c\n' >"$room/seen"
 printf ' a b 10.0.0.1\nc\td  11.0.0.1 e\nf g 10.2.0.0/16 h\n' >"$room/spaced"
 printf '2026-11-26,192.0.2.70,GET /\n' >"$room/kept_csv"
 printf '10.0.0.0/8|west\n' >"$room/parted"
+printf 'net name\n10.0.0.0/8 west\n' >"$room/headed"
 printf '10.0.0.0\t8\t64500_64501\n2001:db8::\t32\t64502\n' >"$room/origins"
 printf 'default dev eth0\n' >"$room/defaults"
 printf '10.0.0.1\n11.0.0.1\n192.0.2.1\n' >"$room/asked"
@@ -1872,7 +1974,9 @@ for build in netset netset.by-rattle; do
     rows_of_several_files
     rows_of_fields
     rows_of_look_ups
+    rows_of_records
     rows_of_forms
+    rows_of_headed_tables
     rows_of_objects
     rows_of_kept_lines
     rows_of_compiled_tables

@@ -11,7 +11,7 @@ use Rattle.cidr_sets.specs.model.Sets.{IsSetOf}
 use Rattle.cidr_sets.specs.declared.access.Action.{Action}
 use Rattle.cidr_lists.specs.Changes.{family_changes, printed_changes}
 use Rattle.cidr_lists.specs.Formats.{Style, printed_by}
-use Rattle.cidr_lists.specs.Lists.{Text, text_by}
+use Rattle.cidr_lists.specs.Lists.{Text, bits_in, text_by, text_in}
 use Rattle.cidr_lists.specs.Rules.{Permitted, Shadowed, Compared, ArePermittedLines, ArePermitting, AreShadowLines, HaveRules, IsFirstBadRule, IsRulesError, RulesSay, rules_of}
 use Rattle.cidr_lists.specs.Sets.{IsInSets, Steps, networks_of}
 use Rattle.cidr_lists.specs.declared.changes.Sign.{Sign}
@@ -20,7 +20,7 @@ use Rattle.cidr_lists.specs.declared.errors.ListError.{ListError}
 use Rattle.cidr_lists.specs.declared.errors.ListError.TheVariants.{Line, NoMemory}
 use Rattle.cidr_lists.specs.declared.formats.LineFormat.{LineFormat}
 use Rattle.cidr_lists.specs.declared.formats.LineFormat.TheVariants as by_line
-use Rattle.cidr_lists.specs.declared.lines.HostBits.{HostBits}
+use Rattle.cidr_lists.specs.declared.records.ListForm.{ListForm}
 use Rattle.cidr_lists.specs.declared.rules.Rules.{Rules}
 use Rattle.cidr_lists.specs.declared.rules.Ruling.{Ruling}
 use Rattle.cidr_lists.specs.declared.sets.Sets.{Sets}
@@ -48,17 +48,17 @@ no_rules_read contents name error.Output h = absurd h
 no_rules_read contents name (error.File file why) h = absurd h
 
 -- the bytes that were read are the text
-module _ (contents : Option Text) (known : Option (List ℕ)) (bytes : List ℕ) (bits : HostBits) (opens : (text : Text) → contents ≡ Some text → known ≡ Some text.bytes)
-    (read : IfSome known (λ text. bytes ≡ text)) (by : (text : Text) → contents ≡ Some text → text.host_bits ≡ bits) where
-  told_of_text : (P : Text → Type 0) → P (text_by bits bytes) → (text : Text) → contents ≡ Some text → P text
+module _ (contents : Option Text) (known : Option (List ℕ)) (bytes : List ℕ) (bits : ListForm) (opens : (text : Text) → contents ≡ Some text → known ≡ Some text.bytes)
+    (read : IfSome known (λ text. bytes ≡ text)) (by : (text : Text) → contents ≡ Some text → text.form ≡ bits) where
+  told_of_text : (P : Text → Type 0) → P (text_in bits bytes) → (text : Text) → contents ≡ Some text → P text
   told_of_text P h text at =
-      subst (λ (b : HostBits). P (text_by b text.bytes)) (sym (by text at))
-      (subst (λ (b : List ℕ). P (text_by bits b)) (whole_read known text.bytes bytes (opens text at) read) h)
+      subst (λ (b : ListForm). P (text_in b text.bytes)) (sym (by text at))
+      (subst (λ (b : List ℕ). P (text_in bits b)) (whole_read known text.bytes bytes (opens text at) read) h)
 
-  pub rules_told : (rules : Rules) → HaveRules (text_by bits bytes) rules → (text : Text) → contents ≡ Some text → HaveRules text rules
+  pub rules_told : (rules : Rules) → HaveRules (text_by (bits_in bits) bytes) rules → (text : Text) → contents ≡ Some text → HaveRules text rules
   rules_told rules h = told_of_text (λ text. HaveRules text rules) h
 
-  pub rules_untold : (file : Bor (List ℕ)) (e : ListError) → IsRulesError (text_by bits bytes) e → IsUnreadRules contents file.now (rules_error file e)
+  pub rules_untold : (file : Bor (List ℕ)) (e : ListError) → IsRulesError (text_by (bits_in bits) bytes) e → IsUnreadRules contents file.now (rules_error file e)
   rules_untold file (Line number e) h = (refl, told_of_text (λ text. IsFirstBadRule text number e) h)
   rules_untold file NoMemory h = tt
 

@@ -3,11 +3,12 @@ use Rattle.std.proofs.Common.{◌≡◌, refl, sym, ◌∙◌, ap, subst, arith,
 use Rattle.std.specs.Result.{result_unwrap_or}
 use Rattle.cidr_io.specs.Writing.{State, Whole, Answered, Tells}
 use Rattle.cidr_io.specs.declared.sink.OutputFailed.{OutputFailed}
+use Rattle.cidr_lists.specs.declared.records.ListForm.TheVariants.{Networks as OfNetworks}
 use Rattle.cidr_lists.specs.Lists.{Text}
 use Rattle.netset_commands.specs.Arguments.{Line, line_request}
 use Rattle.netset_commands.specs.Causes.{Refusals}
-use Rattle.netset_commands.specs.Commands.{Request, Lists, Styled, NotIn, Diff, Same, Free, Acl, Split, Check, Which, Match, MatchEach, Look, Compile, Smallest, Describe, Class, Single, Help, Version, IsAnswer, reading_of}
-use Rattle.netset_commands.specs.Program.{AnswersRequest, AnswersWhole, IsRequestRefused, KeepsGoing, Reports, Runs, RunsFound, RunsLine, RunsOnce, RunsRequest, answer_status, by_output, status_of, contents_by}
+use Rattle.netset_commands.specs.Commands.{Request, Lists, Styled, NotIn, Diff, Same, Free, Acl, Split, Check, Which, Match, MatchEach, Look, Compile, Smallest, Describe, Class, Single, Help, Version, IsAnswer, bits_of, reading_of}
+use Rattle.netset_commands.specs.Program.{AnswersRequest, AnswersWhole, IsRequestRefused, KeepsGoing, Reports, Runs, RunsFound, RunsLine, RunsOnce, RunsRequest, answer_status, by_output, status_of, contents_in, contents_of}
 use Rattle.netset_commands.specs.Typed.{AnswersTyped}
 use Rattle.netset_commands.specs.declared.output.answers.Verdict.{Verdict}
 use Rattle.netset_commands.specs.declared.output.answers.Verdict.TheVariants.{Yes, No}
@@ -125,7 +126,7 @@ module _ (verdict : Verdict) (refused : Refusals) (closed : Bool) (out new err n
   -- the arguments were read as a request, and that was answered, perhaps to a file
   abbrev Found : (List ℕ → Option (List ℕ)) → Result Line (List ℕ) → Type 0
   Found contents found = (reading : Reading) × (target : Option (List ℕ)) × (request : Request) × (found ≡ Ok (reading, (target, request)))
-      × (target ≡ None → HasAnswered (contents_by reading.host_bits contents) request verdict out new err new_err)
+      × (target ≡ None → HasAnswered (contents_of reading request contents) request verdict out new err new_err)
 
   module _ (contents : List ℕ → Option Text) (request : Request) where
     request_done : (mid : State) (r : Result Verdict CommandError) → answer_status verdict ≡ status_of r → AnswersRequest contents request out new r
@@ -154,13 +155,13 @@ module _ (verdict : Verdict) (refused : Refusals) (closed : Bool) (out new err n
     run_done Skip goes = keeps_done true goes
 
   once_done : (reading : Reading) (request : Request) (contents : List ℕ → Option (List ℕ))
-      → RunsOnce reading contents refused request closed out new err new_err (answer_status verdict) → HasAnswered (contents_by reading.host_bits contents) request verdict out new err new_err
+      → RunsOnce reading contents refused request closed out new err new_err (answer_status verdict) → HasAnswered (contents_of reading request contents) request verdict out new err new_err
   once_done reading request contents (inl (twice, e, why, (same, says, ends))) = absurd (never_error verdict e ends)
-  once_done reading request contents (inr (once, h)) = run_done (contents_by reading.host_bits contents) request reading.at_fault h
+  once_done reading request contents (inr (once, h)) = run_done (contents_of reading request contents) request reading.at_fault h
 
   pub found_answered : (reading : Reading) (request : Request) (contents : List ℕ → Option (List ℕ))
       → RunsFound (Ok (reading, (None, request))) contents refused closed out new err new_err (answer_status verdict)
-      → HasAnswered (contents_by reading.host_bits contents) request verdict out new err new_err
+      → HasAnswered (contents_of reading request contents) request verdict out new err new_err
   found_answered reading request contents (inl once) = once_done reading request contents once
   found_answered reading request contents (inr (left, (same, says, ends))) = absurd (never_error verdict error.NoMemory ends)
 
@@ -189,7 +190,7 @@ answers_typed words contents refused closed out new err new_err status runs give
     let told = subst (λ (k : Option (List (List ℕ))). Runs k contents refused closed out new err new_err status) is runs in
     let done = subst (λ (k : ℕ). Runs (Some given) contents refused closed out new err new_err k) ends told in
     let (reading, target, other, found, answered) = run_answered verdict refused closed out new err new_err given contents done in
-    let same : (reading, (target, other)) ≡ (reading_of options, (None, request)) =
-    one_request (reading, (target, other)) (reading_of options, (None, request)) (line_request given) found (typed_asks given options request typed) in
-    subst (λ (k : Line). HasAnswered (contents_by (k.0).host_bits contents) (k.1).1 verdict out new err new_err) same
+    let same : (reading, (target, other)) ≡ (reading_of (OfNetworks (bits_of options)) options, (None, request)) =
+    one_request (reading, (target, other)) (reading_of (OfNetworks (bits_of options)) options, (None, request)) (line_request given) found (typed_asks given options request typed) in
+    subst (λ (k : Line). HasAnswered (contents_of k.0 (k.1).1 contents) (k.1).1 verdict out new err new_err) same
     (answered (ap (λ (k : Line). (k.1).0) same))

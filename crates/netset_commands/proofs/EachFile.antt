@@ -9,7 +9,7 @@ use Rattle.cidr.specs.declared.family.Family.TheVariants.{Ipv4, Ipv6}
 use Rattle.cidr_table.specs.model.Cover.{Covers}
 use Rattle.cidr_sets.specs.model.Sets.{IsSetOf}
 use Rattle.netset_commands.specs.Keeping.{AllSaid}
-use Rattle.cidr_lists.specs.Lists.{Text, lines_of, text_by, ListSays, networks_in}
+use Rattle.cidr_lists.specs.Lists.{Text, lines_of, text_in, ListSays, networks_in}
 use Rattle.cidr_lists.specs.Reading.{Grows, listed}
 use Rattle.netset_commands.specs.Reading.{ReadsList}
 use Rattle.netset_commands.specs.Commands.{AreTold}
@@ -22,21 +22,21 @@ use Rattle.netset_commands.proofs.Zips.{zip_behind}
 use Rattle.netset_commands.specs.declared.errors.CommandError.{CommandError}
 use Rattle.netset_commands.specs.declared.errors.CommandError.TheVariants as error
 use Rattle.netset_commands.specs.declared.errors.ReadError.{ReadError}
-use Rattle.cidr_lists.specs.declared.lines.HostBits.{HostBits}
+use Rattle.cidr_lists.specs.declared.records.ListForm.{ListForm}
 use Rattle.netset_commands.specs.declared.input.keeping.Said.TheVariants.{Networks}
 use Rattle.cidr_lists.specs.declared.lists.Lists.{Lists}
 use Rattle.cidr_lists.specs.declared.sets.Sets.{Sets}
 
 -- the list of a file, as it is read
-pub list_read : (contents : Option Text) (left : Option (List ℕ)) (bits : HostBits) (old new : Lists) (r : Result (Unit {0}) ReadError)
-    → ((text : Text) → contents ≡ Some text → left ≡ Some text.bytes) → ((text : Text) → contents ≡ Some text → text.host_bits ≡ bits)
-    → IfSome left (λ bytes. ReadsList (text_by bits bytes) old new r) → (text : Text) → contents ≡ Some text → ReadsList text old new r
+pub list_read : (contents : Option Text) (left : Option (List ℕ)) (bits : ListForm) (old new : Lists) (r : Result (Unit {0}) ReadError)
+    → ((text : Text) → contents ≡ Some text → left ≡ Some text.bytes) → ((text : Text) → contents ≡ Some text → text.form ≡ bits)
+    → IfSome left (λ bytes. ReadsList (text_in bits bytes) old new r) → (text : Text) → contents ≡ Some text → ReadsList text old new r
 list_read contents left bits old new r opens by h text is =
-    rw (text_same bits text (by text is)) at (bytes_read (λ bytes. ReadsList (text_by bits bytes) old new r) left text.bytes (opens text is) h)
+    rw (text_same bits text (by text is)) at (bytes_read (λ bytes. ReadsList (text_in bits bytes) old new r) left text.bytes (opens text is) h)
 
 -- the list of a file, as it was kept
 pub networks_copied : (contents : Option Text) (name : List ℕ) (old new kept : Lists)
-    → ((text : Text) → contents ≡ Some text → AllSaid text.host_bits (lines_of text.bytes) (Networks kept)) → Grows old new (listed kept)
+    → ((text : Text) → contents ≡ Some text → AllSaid text.form (lines_of text.bytes) (Networks kept)) → Grows old new (listed kept)
     → AddsFile contents name old new (Ok tt)
 networks_copied contents name old new kept is grows text at =
     let (said, says, same) = is text at in

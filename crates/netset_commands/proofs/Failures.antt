@@ -8,7 +8,7 @@ use Rattle.cidr_lists.specs.Lists.{Text}
 use Rattle.netset_commands.specs.Arguments.{Line, line_request}
 use Rattle.netset_commands.specs.Causes.{Cause, FileMayFail, Refusals}
 use Rattle.netset_commands.specs.Commands.{Lists, ReadsInputTwice, read_files}
-use Rattle.netset_commands.specs.Program.{AnswersRequest, IsCaused, IsUnread, Reports, Runs, RunsLine, RunsOnce, RunsRequest, by_output, contents_by, error_line, status_of}
+use Rattle.netset_commands.specs.Program.{AnswersRequest, IsCaused, IsUnread, Reports, Runs, RunsLine, RunsOnce, RunsRequest, by_output, contents_in, error_line, status_of}
 use Rattle.netset_commands.specs.declared.commands.AtFault.{AtFault}
 use Rattle.netset_commands.specs.declared.commands.AtFault.TheVariants.{Stop}
 use Rattle.netset_commands.specs.declared.commands.Reading.{Reading}
@@ -54,14 +54,14 @@ module _ (words : List (List ℕ)) (contents : List ℕ → Option (List ℕ)) (
     (op : Operation) (files : List (List ℕ)) (asks : line_request words ≡ Ok (reading, (None, Lists op files))) (once : ¬ (ReadsInputTwice (Lists op files)))
     (first : reading.at_fault ≡ Stop) (text : (word : List ℕ) → Contains words word → IsUtf8 word) where
   abbrev HasFailed : Type 0
-  HasFailed = Failed (contents_by reading.host_bits contents) refused.memory (read_files files) out new err new_err
+  HasFailed = Failed (contents_in reading.list_form contents) refused.memory (read_files files) out new err new_err
 
   once_failed : RunsOnce reading contents refused (Lists op files) closed out new err new_err 2 → HasFailed
   once_failed (inl (twice, e, why, ends)) = absurd (once twice)
   once_failed (inr (single, runs)) =
       let (r, answers, caused, says, two) =
-      subst (λ (k : AtFault). RunsRequest k (contents_by reading.host_bits contents) refused (Lists op files) closed out new err new_err 2) first runs in
-      answer_failed (contents_by reading.host_bits contents) op files refused closed out new err new_err r two answers caused says
+      subst (λ (k : AtFault). RunsRequest k (contents_in reading.list_form contents) refused (Lists op files) closed out new err new_err 2) first runs in
+      answer_failed (contents_in reading.list_form contents) op files refused closed out new err new_err r two answers caused says
 
   pub lists_fail : Runs (Some words) contents refused closed out new err new_err 2 → HasFailed
   lists_fail (inl (given, are, runs)) =

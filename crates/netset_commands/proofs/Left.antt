@@ -7,7 +7,7 @@ use Rattle.netset_commands.specs.Causes.{Refusals}
 use Rattle.netset_commands.specs.Commands.{Request, Compile, IsAnswer}
 use Rattle.netset_commands.specs.Arguments.{Line, line_request}
 use Rattle.netset_commands.specs.Leaving.{IsSaved, Leaves, LeavesBy, LeavesFound, LeavesTo, RunLeaves}
-use Rattle.netset_commands.specs.Program.{RunsFound, answer_status, contents_by, empty, status_of}
+use Rattle.netset_commands.specs.Program.{RunsFound, answer_status, contents_in, empty, status_of, contents_of}
 use Rattle.netset_commands.specs.Saving.{with_file}
 use Rattle.netset_commands.specs.declared.commands.Reading.{Reading}
 use Rattle.netset_commands.specs.declared.errors.CommandError.{CommandError}
@@ -40,7 +40,7 @@ left_alone contents request files status other = refl
 pub none_left : (found : Result Line (List ℕ)) (contents : List ℕ → Option (List ℕ)) (files : Option (List (List ℕ × List ℕ))) (status : ℕ) → 2 ≤ status
     → LeavesFound found contents files files status
 none_left (Ok (reading, (None, request))) contents files status two =
-    left_alone (contents_by reading.host_bits contents) request files status (λ zero. omega (arith, zero, two))
+    left_alone (contents_of reading request contents) request files status (λ zero. omega (arith, zero, two))
 none_left (Ok (reading, (Some name, request))) contents files status two = inr (two, refl)
 none_left (Err line) contents files status two = refl
 
@@ -59,9 +59,9 @@ saved_there contents form table name old new (inr (other, same)) = absurd (other
 -- a run of `compile` that ends with status 0 has written the file of its table
 pub compile_saves : (words : List (List ℕ)) (contents : List ℕ → Option (List ℕ)) (old new : Option (List (List ℕ × List ℕ))) (reading : Reading) (form : RowForm) (table name : List ℕ)
     → RunLeaves (Some words) contents old new 0 → line_request words ≡ Ok (reading, (None, Compile form table name))
-    → IsSaved form (contents_by reading.host_bits contents table) name old new
+    → IsSaved form (contents_of reading (Compile form table name) contents table) name old new
 compile_saves words contents old new reading form table name (inl (given, are, h)) asks =
-    saved_there (contents_by reading.host_bits contents) form table name old new
+    saved_there (contents_of reading (Compile form table name) contents) form table name old new
     (subst (λ (k : Result Line (List ℕ)). LeavesFound k contents old new 0) asks
     (subst (λ (k : List (List ℕ)). LeavesFound (line_request k) contents old new 0) are h))
 compile_saves words contents old new reading form table name (inr (two, same)) asks = absurd (omega (arith, two))
@@ -75,10 +75,10 @@ saved_to contents request name old new status few (inr (two, same)) = absurd (om
 -- a run with `-o` that ends with the status of an answer has written it to the file
 pub answer_saves : (words : List (List ℕ)) (contents : List ℕ → Option (List ℕ)) (old new : Option (List (List ℕ × List ℕ))) (status : ℕ) (reading : Reading) (name : List ℕ)
     (request : Request) → RunLeaves (Some words) contents old new status → status ≤ 1 → line_request words ≡ Ok (reading, (Some name, request))
-    → (answer : List ℕ) × (verdict : Verdict) × IsAnswer (contents_by reading.host_bits contents) request answer verdict × (status ≡ answer_status verdict)
+    → (answer : List ℕ) × (verdict : Verdict) × IsAnswer (contents_of reading request contents) request answer verdict × (status ≡ answer_status verdict)
     × (new ≡ with_file name answer old)
 answer_saves words contents old new status reading name request (inl (given, are, h)) few asks =
-    saved_to (contents_by reading.host_bits contents) request name old new status few
+    saved_to (contents_of reading request contents) request name old new status few
     (subst (λ (k : Result Line (List ℕ)). LeavesFound k contents old new status) asks
     (subst (λ (k : List (List ℕ)). LeavesFound (line_request k) contents old new status) are h))
 answer_saves words contents old new status reading name request (inr (two, same)) few asks = absurd (omega (arith, few, two))
@@ -92,7 +92,7 @@ kept_by contents request old new status other is = is
 kept_found : (found : Result Line (List ℕ)) (contents : List ℕ → Option (List ℕ)) (old new : Option (List (List ℕ × List ℕ))) (status : ℕ) → 2 ≤ status
     → LeavesFound found contents old new status → new ≡ old
 kept_found (Ok (reading, (None, request))) contents old new status two h =
-    kept_by (contents_by reading.host_bits contents) request old new status (λ zero. omega (arith, zero, two)) h
+    kept_by (contents_of reading request contents) request old new status (λ zero. omega (arith, zero, two)) h
 kept_found (Ok (reading, (Some name, request))) contents old new status two (inl (answer, verdict, is, ends, saved)) =
     absurd (omega (arith, at_most_one verdict, ends, two))
 kept_found (Ok (reading, (Some name, request))) contents old new status two (inr (other, is)) = is
@@ -120,7 +120,7 @@ module _ (name : List ℕ) (reading : Reading) (contents : List ℕ → Option (
   RunsBefore k n = RunsFound (Ok (reading, (None, request))) contents before held.1 k text err new_err n
 
   pub saved_into : (old new : Option (List (List ℕ × List ℕ))) → status ≤ 1 → RunsBefore start status → new ≡ with_file name bytes old
-      → LeavesTo (Some name) (contents_by reading.host_bits contents) request old new status
+      → LeavesTo (Some name) (contents_of reading request contents) request old new status
   saved_into old new few runs saved =
       let (verdict, ends) = verdict_by status few in
       let (answer, is, written, quiet) = found_answered verdict before held.1 empty text err new_err reading request contents

@@ -20,6 +20,7 @@ pub mod Parts
 pub mod Values
 pub mod Pages
 pub mod LinesRead
+pub mod ListForms
 pub mod EntriesRead
 pub mod LineFindings
 pub mod Completed
@@ -39,6 +40,7 @@ pub mod Asked
 pub mod Looked
 pub mod Kept
 pub mod Headed
+pub mod HeadedTables
 pub mod Classed
 pub mod Telling
 pub mod Loading

@@ -11,10 +11,10 @@ use Rattle.cidr_arrays.specs.Arrays.{prefix_bits}
 use Rattle.cidr_files.specs.Layout.{wide_words, words}
 use Rattle.cidr_files.specs.Tables.{part_at, parts_in, stored_networks, value_in}
 use Rattle.cidr_files.specs.declared.layout.Table.{Table}
-use Rattle.cidr_lists.specs.Lists.{Text, text_by}
+use Rattle.cidr_lists.specs.Lists.{Text, text_in}
 use Rattle.cidr_lists.specs.Reading.{listed}
 use Rattle.cidr_lists.specs.Sets.{networks_of}
-use Rattle.cidr_lists.specs.declared.lines.HostBits.{HostBits}
+use Rattle.cidr_lists.specs.declared.records.ListForm.{ListForm}
 use Rattle.cidr_lists.specs.declared.lists.Lists.{Lists}
 use Rattle.cidr_lists.specs.declared.sets.Sets.{Sets}
 use Rattle.cidr_sets.specs.model.Sets.{IsSetOf}
@@ -51,9 +51,9 @@ no_list_read contents name error.Output h = absurd h
 no_list_read contents name (error.File file why) h = absurd h
 
 -- a line of it is in error
-pub no_list_lines : (contents : Option Text) (left : Option (List ℕ)) (bits : HostBits) (file : Bor (List ℕ)) (old new : Lists) (e : ReadError)
-    → ((text : Text) → contents ≡ Some text → left ≡ Some text.bytes) → ((text : Text) → contents ≡ Some text → text.host_bits ≡ bits)
-    → IfSome left (λ bytes. ReadsList (text_by bits bytes) old new (Err e)) → ((text : Text) → contents ≡ Some text → begins_file text.bytes ≡ false)
+pub no_list_lines : (contents : Option Text) (left : Option (List ℕ)) (bits : ListForm) (file : Bor (List ℕ)) (old new : Lists) (e : ReadError)
+    → ((text : Text) → contents ≡ Some text → left ≡ Some text.bytes) → ((text : Text) → contents ≡ Some text → text.form ≡ bits)
+    → IfSome left (λ bytes. ReadsList (text_in bits bytes) old new (Err e)) → ((text : Text) → contents ≡ Some text → begins_file text.bytes ≡ false)
     → IsNotGiven (IsFileError contents file.now) contents file.now (unread file e)
 no_list_lines contents left bits file old new (Line number e) opens by h begins =
     ((refl, list_read contents left bits old new (Err (Line number e)) opens by h), begins)

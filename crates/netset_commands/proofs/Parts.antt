@@ -69,7 +69,7 @@ pair_pushed options values more both operands name value first second =
     (sym (append-nil (texts operands)))
 
 -- ---- what a word adds
-if_true : {X : Type 0} (b : Bool) (x y : X) → b ≡ true → cond b x y ≡ x
+pub if_true : {X : Type 0} (b : Bool) (x y : X) → b ≡ true → cond b x y ≡ x
 if_true true x y h = refl
 if_true false x y h = absurd (true≢false (sym h))
 

@@ -5,21 +5,21 @@ use Rattle.std.specs.List.{AllZip}
 use Rattle.std.proofs.lemmas.List.{append-nil, flat_map_more}
 use Rattle.cidr.specs.declared.cidr.combined.IpCidr.{IpCidr}
 use Rattle.netset_commands.specs.Causes.{TextFails}
-use Rattle.cidr_lists.specs.Lists.{text_by, lines_of, LineSays, line_networks, networks_in}
+use Rattle.cidr_lists.specs.Lists.{text_in, lines_of, SaysBy, line_networks, networks_in}
 use Rattle.netset_commands.specs.Reading.{IsNextLine, IsStopped, IsReadError, IsLineError, ReadsList}
 use Rattle.cidr_lists.specs.Reading.{listed, Grows}
 use Rattle.netset_commands.proofs.Causes.{KnownOf, too_many}
 use Rattle.netset_commands.proofs.Zips.{zip_behind}
 use Rattle.netset_commands.specs.declared.errors.ReadError.{ReadError}
 use Rattle.netset_commands.specs.declared.errors.ReadError.TheVariants.{Line, Input, NoMemory}
-use Rattle.cidr_lists.specs.declared.lines.HostBits.{HostBits}
+use Rattle.cidr_lists.specs.declared.records.ListForm.{ListForm}
 use Rattle.cidr_lists.specs.declared.lists.Lists.{Lists}
 
 first_of_more : (text line : List ℕ) (more : Bool) (next : Option (List ℕ)) → IsNextLine text line more next → (after : List (List ℕ)) × (lines_of text ≡ line ∷ after)
 first_of_more text line true next n = (lines_of n.0, n.2)
 first_of_more text line false next n = ([], n)
 
-module _ (bits : HostBits) where
+module _ (bits : ListForm) where
   -- the lines before this number were read
   pub record Progress (text : List ℕ) (left : Option (List ℕ)) (old new : Lists) (number : ℕ) : Type 0 where
     pub rest : List ℕ
@@ -29,7 +29,7 @@ module _ (bits : HostBits) where
     pub size : length rest ≤ length text
     pub place : number ≡ length before + 1
     pub said : List (List IpCidr)
-    pub fine : AllZip (LineSays bits) before said
+    pub fine : AllZip (SaysBy bits) before said
     pub grown : Grows old new (λ family. networks_in family said)
 
   pub started : (contents : Option (List ℕ)) (lists : Lists) → IfSome contents (λ text. Progress text contents lists lists 1)
@@ -53,7 +53,7 @@ module _ (bits : HostBits) where
 
   -- a line that has another behind it
   pub stepped : (contents left next : Option (List ℕ)) (old now new : Lists) (number : ℕ) (line : List ℕ) (more : Bool) (one : List IpCidr)
-      → more ≡ true → IfSome contents (λ text. Progress text left old now number) → IfSome left (λ text. IsNextLine text line more next) → LineSays bits line one
+      → more ≡ true → IfSome contents (λ text. Progress text left old now number) → IfSome left (λ text. IsNextLine text line more next) → SaysBy bits line one
       → Grows now new (λ family. line_networks family one) → IfSome contents (λ text. Progress text next old new (number + 1))
   stepped None left next old now new number line more one is p n s g = tt
   stepped (Some text) left next old now new number line false one is p n s g = cc
@@ -67,24 +67,24 @@ module _ (bits : HostBits) where
         size = omega (arith, p.size, less);
         place = omega (arith, p.place, length-append p.before (line ∷ []));
         said = p.said ++ one ∷ [];
-        fine = zip_behind (LineSays bits) p.before p.said line one p.fine s;
+        fine = zip_behind (SaysBy bits) p.before p.said line one p.fine s;
         grown = grown_more old now new p.said one p.grown g;
       }
 
   -- the last line
   pub finished : (contents left next : Option (List ℕ)) (old now new : Lists) (number : ℕ) (line : List ℕ) (more : Bool) (one : List IpCidr)
-      → more ≡ false → IfSome contents (λ text. Progress text left old now number) → IfSome left (λ text. IsNextLine text line more next) → LineSays bits line one
-      → Grows now new (λ family. line_networks family one) → IfSome contents (λ text. ReadsList (text_by bits text) old new (Ok tt))
+      → more ≡ false → IfSome contents (λ text. Progress text left old now number) → IfSome left (λ text. IsNextLine text line more next) → SaysBy bits line one
+      → Grows now new (λ family. line_networks family one) → IfSome contents (λ text. ReadsList (text_in bits text) old new (Ok tt))
   finished None left next old now new number line more one is p n s g = tt
   finished (Some text) left next old now new number line true one is p n s g = cc
   finished (Some text) left next old now new number line false one is p n s g =
       let lines : lines_of text ≡ p.before ++ line ∷ [] = p.lines ∙ ap (λ k. p.before ++ k) (rw p.known at n) in
-      (p.said ++ one ∷ [], rw lines (zip_behind (LineSays bits) p.before p.said line one p.fine s), grown_more old now new p.said one p.grown g)
+      (p.said ++ one ∷ [], rw lines (zip_behind (SaysBy bits) p.before p.said line one p.fine s), grown_more old now new p.said one p.grown g)
 
   -- a line in error, or an end of reading
   failed_by : (contents left next : Option (List ℕ)) (old now : Lists) (number : ℕ) (line : List ℕ) (more : Bool) (e : ReadError)
       → IfSome contents (λ text. Progress text left old now number) → IfSome left (λ text. IsNextLine text line more next) → IsLineError bits line number e
-      → IfSome contents (λ text. IsReadError (text_by bits text) e)
+      → IfSome contents (λ text. IsReadError (text_in bits text) e)
   failed_by None left next old now number line more e p n h = tt
   failed_by (Some text) left next old now number line more Input p n h = absurd h
   failed_by (Some text) left next old now number line more NoMemory p n h = tt
@@ -101,7 +101,7 @@ module _ (bits : HostBits) where
         fault = h.1;
       }
 
-  stopped_by : (contents : Option (List ℕ)) (e : ReadError) → IsStopped e → IfSome contents (λ text. IsReadError (text_by bits text) e)
+  stopped_by : (contents : Option (List ℕ)) (e : ReadError) → IsStopped e → IfSome contents (λ text. IsReadError (text_in bits text) e)
   stopped_by None e h = tt
   stopped_by (Some text) (Line number e) h = absurd h
   stopped_by (Some text) Input h = tt
@@ -111,20 +111,20 @@ module _ (bits : HostBits) where
   failing e = Err e
 
   passed_on : (contents : Option (List ℕ)) (old new : Lists) (r : Result (Unit {0}) ReadError) (y e : ReadError) → r ≡ Err y → y ≡ e
-      → IfSome contents (λ text. IsReadError (text_by bits text) e) → IfSome contents (λ text. ReadsList (text_by bits text) old new r)
+      → IfSome contents (λ text. IsReadError (text_in bits text) e) → IfSome contents (λ text. ReadsList (text_in bits text) old new r)
   passed_on contents old new r y e is same h =
-      let P : Result (Unit {0}) ReadError → Type 0 = λ k. IfSome contents (λ text. ReadsList (text_by bits text) old new k) in
+      let P : Result (Unit {0}) ReadError → Type 0 = λ k. IfSome contents (λ text. ReadsList (text_in bits text) old new k) in
       subst P (sym (is ∙ ap failing same)) h
 
   pub failed : (contents left next : Option (List ℕ)) (old now new : Lists) (number : ℕ) (line : List ℕ) (more : Bool) (r : Result (Unit {0}) ReadError) (y e : ReadError)
       → r ≡ Err y → y ≡ e
       → IfSome contents (λ text. Progress text left old now number) → IfSome left (λ text. IsNextLine text line more next) → IsLineError bits line number e
-      → IfSome contents (λ text. ReadsList (text_by bits text) old new r)
+      → IfSome contents (λ text. ReadsList (text_in bits text) old new r)
   failed contents left next old now new number line more r y e is same p n h =
       passed_on contents old new r y e is same (failed_by contents left next old now number line more e p n h)
 
   pub stopped : (contents : Option (List ℕ)) (old new : Lists) (r : Result (Unit {0}) ReadError) (y e : ReadError) → r ≡ Err y → y ≡ e → IsStopped e
-      → IfSome contents (λ text. ReadsList (text_by bits text) old new r)
+      → IfSome contents (λ text. ReadsList (text_in bits text) old new r)
   stopped contents old new r y e is same h = passed_on contents old new r y e is same (stopped_by contents e h)
 
   -- what is left is told too

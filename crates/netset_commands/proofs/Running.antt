@@ -6,28 +6,28 @@ use Rattle.std.specs.List.{count_by}
 use Rattle.cidr_io.specs.Arguments.{AreArguments}
 use Rattle.cidr_io.specs.Writing.{State, Tells}
 use Rattle.netset_commands.specs.Causes.{Cause, FileMayFail, Refusals}
-use Rattle.netset_commands.specs.Arguments.{Line, Parts, and_then, line_parts, line_request, part_request, read_request, target_in}
-use Rattle.netset_commands.specs.Commands.{AreLists, Request, input_name, lists_of, others_of, reading_of}
+use Rattle.netset_commands.specs.Arguments.{Line, Parts, and_then, line_parts, line_request, part_request, read_request, reading_in, target_in}
+use Rattle.netset_commands.specs.Commands.{AreLists, Request, input_name, lists_of, others_of}
 use Rattle.netset_commands.specs.Compiled.{begins_file}
 use Rattle.netset_commands.specs.Keeping.{AreGoodBytes, AreGoodKept, IsGoodFile, IsGoodText, good_bytes, good_file, good_files, kind_of, lined, list_named, takes_file}
-use Rattle.cidr_lists.specs.Lists.{Text, text_by}
+use Rattle.cidr_lists.specs.Lists.{Text, text_in}
 use Rattle.netset_commands.specs.Matching.{has, is_word}
 use Rattle.netset_commands.specs.Loading.{AreListsLoaded, IsUnloaded}
-use Rattle.netset_commands.specs.Program.{AnswersRequest, IntoFound, IsCaused, IsNotSaved, IsReadTwice, IsWrong, KeepsGoing, Reports, Runs, RunsFound, RunsGood, RunsOnce, RunsRequest, TellsFaults, empty, status_of, contents_by}
+use Rattle.netset_commands.specs.Program.{AnswersRequest, IntoFound, IsCaused, IsNotSaved, IsReadTwice, IsWrong, KeepsGoing, Reports, Runs, RunsFound, RunsGood, RunsOnce, RunsRequest, TellsFaults, empty, status_of, contents_in, contents_of}
 use Rattle.netset_commands.specs.declared.output.answers.Verdict.{Verdict}
 use Rattle.netset_commands.specs.declared.commands.Reading.{Reading}
 use Rattle.netset_commands.specs.declared.commands.table.Verb.{Verb}
 use Rattle.netset_commands.specs.declared.errors.CommandError.{CommandError}
 use Rattle.netset_commands.specs.declared.errors.CommandError.TheVariants as error
 use Rattle.netset_commands.specs.declared.input.keeping.Kept.{Kept}
-use Rattle.cidr_lists.specs.declared.lines.HostBits.{HostBits}
+use Rattle.cidr_lists.specs.declared.records.ListForm.{ListForm}
 use Rattle.cidr_lists.specs.declared.forms.Kind.{Kind}
 use Rattle.netset_commands.proofs.Arguments.{same_text}
 use Rattle.netset_commands.proofs.ReadBy.{text_same}
 
 -- ---- what is read without the lines in error
-module _ (contents : List ℕ → Option Text) (request : Request) (bits : HostBits) (by : (name : List ℕ) (text : Text) → contents name ≡ Some text → text.host_bits ≡ bits) where
-  as_it_is : (found : Option Text) → ((text : Text) → found ≡ Some text → text.host_bits ≡ bits) → good_file bits None found ≡ found
+module _ (contents : List ℕ → Option Text) (request : Request) (bits : ListForm) (by : (name : List ℕ) (text : Text) → contents name ≡ Some text → text.form ≡ bits) where
+  as_it_is : (found : Option Text) → ((text : Text) → found ≡ Some text → text.form ≡ bits) → good_file bits None found ≡ found
   as_it_is None same = refl
   as_it_is (Some text) same = ap (λ (k : Text). Some k) (text_same bits text (same text refl))
 
@@ -38,9 +38,9 @@ module _ (contents : List ℕ → Option Text) (request : Request) (bits : HostB
     held_first : (first : List ℕ) (list : Kept) → AreGoodBytes (takes_file request) (kind_of request) (contents first) (good_bytes list) → first ≡ name → IsRead true (Some list)
     held_first first list good same text at =
         let bytes : List ℕ = good_bytes list in (
-          text_by bits bytes,
+          text_in bits bytes,
           refl,
-          subst (λ (k : HostBits). IsGoodText (takes_file request && begins_file text.bytes) (kind_of request) text (text_by k bytes)) (by name text at)
+          subst (λ (k : ListForm). IsGoodText (takes_file request && begins_file text.bytes) (kind_of request) text (text_in k bytes)) (by name text at)
               (good text (ap contents same ∙ at)),
         )
 
@@ -116,18 +116,22 @@ found_none words line is = ap (λ (r : Result (Verb × Parts) (List ℕ)). and_t
 
 pub read_none : (verb : Verb) (parts : Parts) (line : List ℕ) → part_request verb parts ≡ Err line → read_request verb parts ≡ Err line
 read_none verb parts line is =
-    ap (λ (r : Result Request (List ℕ)). and_then r (λ request. and_then (target_in verb parts) (λ target. Ok (reading_of parts.options, (target, request))))) is
+    ap (λ (r : Result Request (List ℕ)). and_then r (λ request. and_then (target_in verb parts) (λ target. and_then (reading_in verb parts) (λ reading. Ok (reading, (target, request)))))) is
 
 pub read_target : (verb : Verb) (parts : Parts) (request : Request) (found : Result (Option (List ℕ)) (List ℕ)) → part_request verb parts ≡ Ok request → target_in verb parts ≡ found
-    → read_request verb parts ≡ and_then found (λ target. Ok (reading_of parts.options, (target, request)))
+    → read_request verb parts ≡ and_then found (λ target. and_then (reading_in verb parts) (λ reading. Ok (reading, (target, request))))
 read_target verb parts request found is to =
-    ap (λ (r : Result Request (List ℕ)). and_then r (λ request. and_then (target_in verb parts) (λ target. Ok (reading_of parts.options, (target, request))))) is
-    ∙ ap (λ (r : Result (Option (List ℕ)) (List ℕ)). and_then r (λ target. Ok (reading_of parts.options, (target, request)))) to
+    ap (λ (r : Result Request (List ℕ)). and_then r (λ request. and_then (target_in verb parts) (λ target. and_then (reading_in verb parts) (λ reading. Ok (reading, (target, request)))))) is
+    ∙ ap (λ (r : Result (Option (List ℕ)) (List ℕ)). and_then r (λ target. and_then (reading_in verb parts) (λ reading. Ok (reading, (target, request))))) to
+
+pub read_reading : (verb : Verb) (parts : Parts) (target : Option (List ℕ)) (request : Request) (found : Result Reading (List ℕ)) → part_request verb parts ≡ Ok request
+    → target_in verb parts ≡ Ok target → reading_in verb parts ≡ found → read_request verb parts ≡ and_then found (λ reading. Ok (reading, (target, request)))
+read_reading verb parts target request found is to read =
+    read_target verb parts request (Ok target) is to ∙ ap (λ (r : Result Reading (List ℕ)). and_then r (λ reading. Ok (reading, (target, request)))) read
 
 pub read_one : (verb : Verb) (parts : Parts) (reading : Reading) (target : Option (List ℕ)) (request : Request) → part_request verb parts ≡ Ok request
-    → target_in verb parts ≡ Ok target → reading ≡ reading_of parts.options → read_request verb parts ≡ Ok (reading, (target, request))
-read_one verb parts reading target request is to read =
-    read_target verb parts request (Ok target) is to ∙ ap (λ (k : Reading). Ok (k, (target, request))) (sym read)
+    → target_in verb parts ≡ Ok target → reading_in verb parts ≡ Ok reading → read_request verb parts ≡ Ok (reading, (target, request))
+read_one verb parts reading target request is to read = read_reading verb parts target request (Ok reading) is to read
 
 pub run_found : (found other : Result Line (List ℕ)) (contents : List ℕ → Option (List ℕ)) (refused : Refusals) (closed : Bool) (out new s t : State) (status : ℕ)
     → found ≡ other → RunsFound other contents refused closed out new s t status → RunsFound found contents refused closed out new s t status
@@ -140,7 +144,7 @@ run_misused found line contents refused closed out s t status is says ends =
     run_found found (Err line) contents refused closed out out s t status is (inl (refl, says, ends))
 
 pub run_once : (reading : Reading) (contents : List ℕ → Option (List ℕ)) (refused : Refusals) (request : Request) (closed : Bool) (out new s t : State) (status : ℕ) (twice : Bool) (names : List (List ℕ))
-    → names ≡ lists_of request ++ others_of request → Decides twice (1 < count_by (is_word input_name) names) → twice ≡ false → RunsRequest reading.at_fault (contents_by reading.host_bits contents) refused request closed out new s t status
+    → names ≡ lists_of request ++ others_of request → Decides twice (1 < count_by (is_word input_name) names) → twice ≡ false → RunsRequest reading.at_fault (contents_of reading request contents) refused request closed out new s t status
     → RunsOnce reading contents refused request closed out new s t status
 run_once reading contents refused request closed out new s t status twice names are decides once h = inr (
   λ twice_read. true≢false (sym (decides.1 (subst (λ (k : List (List ℕ)). 1 < count_by (is_word input_name) k) (sym are) twice_read)) ∙ once),

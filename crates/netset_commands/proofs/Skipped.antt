@@ -11,7 +11,7 @@ use Rattle.netset_commands.specs.Causes.{Refusals}
 use Rattle.netset_commands.specs.Commands.{AreLists, AreTold, IsMadeOf, Lists, read_files}
 use Rattle.netset_commands.specs.Keeping.{IsGoodFile}
 use Rattle.netset_commands.specs.Matching.{has}
-use Rattle.netset_commands.specs.Program.{KeepsGoing, Reports, Runs, RunsAnswer, RunsLine, RunsOnce, RunsRequest, by_output, contents_by, status_of}
+use Rattle.netset_commands.specs.Program.{KeepsGoing, Reports, Runs, RunsAnswer, RunsLine, RunsOnce, RunsRequest, by_output, contents_in, status_of}
 use Rattle.netset_commands.specs.declared.commands.AtFault.{AtFault}
 use Rattle.netset_commands.specs.declared.commands.AtFault.TheVariants.{Skip}
 use Rattle.netset_commands.specs.declared.commands.Reading.{Reading}
@@ -85,13 +85,13 @@ module _ (op : Operation) (files : List (List ℕ)) (refused : Refusals) (closed
   module _ (words : List (List ℕ)) (contents : List ℕ → Option (List ℕ)) (reading : Reading) (asks : line_request words ≡ Ok (reading, (None, Lists op files)))
       (skips : reading.at_fault ≡ Skip) where
     abbrev HasSkipped : Type 0
-    HasSkipped = Skipped (contents_by reading.host_bits contents) op files out new err new_err
+    HasSkipped = Skipped (contents_in reading.list_form contents) op files out new err new_err
 
     once_skipped : RunsOnce reading contents refused (Lists op files) closed out new err new_err 2 → HasSkipped
     once_skipped (inl (twice, e, why, (same, says, ends))) = absurd (changed same)
     once_skipped (inr (single, runs)) =
-        goes_on (contents_by reading.host_bits contents)
-        (subst (λ (k : AtFault). RunsRequest k (contents_by reading.host_bits contents) refused (Lists op files) closed out new err new_err 2) skips runs)
+        goes_on (contents_in reading.list_form contents)
+        (subst (λ (k : AtFault). RunsRequest k (contents_in reading.list_form contents) refused (Lists op files) closed out new err new_err 2) skips runs)
 
     pub lists_skip : Runs (Some words) contents refused closed out new err new_err 2 → HasSkipped
     lists_skip (inl (given, are, runs)) =

@@ -10,7 +10,7 @@ use Rattle.cidr.specs.declared.family.Family.{Family}
 use Rattle.cidr.specs.declared.family.Family.TheVariants.{Ipv4, Ipv6}
 use Rattle.cidr_table.specs.model.LastRows.{AreLastRows}
 use Rattle.netset_commands.specs.Causes.{TextFails}
-use Rattle.cidr_lists.specs.Lists.{Text, lines_of, text_by}
+use Rattle.cidr_lists.specs.Lists.{Text, bits_in, lines_of, text_in}
 use Rattle.cidr_lists.specs.Forms.{IsBadRow, RowSays}
 use Rattle.netset_commands.specs.Look.{IsUnreadTable}
 use Rattle.cidr_lists.specs.Tables.{row_in, rows_in, said_in, AreCopies, AreSpansWithin, Stores, kept, resolved, stored, value_at}
@@ -23,7 +23,7 @@ use Rattle.netset_commands.specs.declared.input.keeping.Said.TheVariants.{Rows a
 use Rattle.cidr_lists.specs.declared.formats.LineFormat.{LineFormat}
 use Rattle.cidr_lists.specs.declared.forms.RowForm.{RowForm}
 use Rattle.cidr_lists.specs.declared.forms.RowLayout.{RowLayout}
-use Rattle.cidr_lists.specs.declared.lines.HostBits.{HostBits}
+use Rattle.cidr_lists.specs.declared.records.ListForm.{ListForm}
 use Rattle.cidr_lists.specs.declared.rows.Rows.{Rows}
 use Rattle.cidr_lists.specs.declared.rows.Span.{Span}
 use Rattle.cidr_lists.specs.declared.table.Table.{Table}
@@ -112,57 +112,57 @@ stored_more old new said (Some (network, value)) s p = record {
 }
 
 -- ---- one line after the other
-module _ (form : RowForm) (bits : HostBits) where
+module _ (form : RowForm) (bits : ListForm) where
   abbrev pub Reads : List ℕ → Option (List ℕ) → Rows → ℕ → Type 0
-  Reads text left rows number = (said : List (Option (IpCidr × List ℕ))) × Passed (RowSays form bits) text left said number × Stores rows said
+  Reads text left rows number = (said : List (Option (IpCidr × List ℕ))) × Passed (RowSays form (bits_in bits)) text left said number × Stores rows said
 
   pub rows_started : (contents : Option (List ℕ)) (rows : Rows) → Stores rows [] → IfSome contents (λ text. Reads text contents rows 1)
   rows_started None rows h = tt
-  rows_started (Some text) rows h = ([], none_passed (RowSays form bits) text, h)
+  rows_started (Some text) rows h = ([], none_passed (RowSays form (bits_in bits)) text, h)
 
   pub rows_stepped : (contents left next : Option (List ℕ)) (old new : Rows) (number : ℕ) (line : List ℕ) (more : Bool) (one : Option (IpCidr × List ℕ)) → more ≡ true
-      → IfSome contents (λ text. Reads text left old number) → IfSome left (λ text. IsNextLine text line more next) → RowSays form bits line one → Adds old new one
+      → IfSome contents (λ text. Reads text left old number) → IfSome left (λ text. IsNextLine text line more next) → RowSays form (bits_in bits) line one → Adds old new one
       → IfSome contents (λ text. Reads text next new (number + 1))
   rows_stepped None left next old new number line more one is h n says adds = tt
   rows_stepped (Some text) left next old new number line more one is (said, p, s) n says adds =
-      (said ++ one ∷ [], one_passed (RowSays form bits) text left next said number line more one is p n says, stored_more old new said one s adds)
+      (said ++ one ∷ [], one_passed (RowSays form (bits_in bits)) text left next said number line more one is p n says, stored_more old new said one s adds)
 
   pub rows_finished : (contents left next : Option (List ℕ)) (old new : Rows) (number : ℕ) (line : List ℕ) (more : Bool) (one : Option (IpCidr × List ℕ)) → more ≡ false
-      → IfSome contents (λ text. Reads text left old number) → IfSome left (λ text. IsNextLine text line more next) → RowSays form bits line one → Adds old new one
-      → IfSome contents (λ text. ReadsRows form (text_by bits text) (Ok new))
+      → IfSome contents (λ text. Reads text left old number) → IfSome left (λ text. IsNextLine text line more next) → RowSays form (bits_in bits) line one → Adds old new one
+      → IfSome contents (λ text. ReadsRows form (text_in bits text) (Ok new))
   rows_finished None left next old new number line more one is h n says adds = tt
   rows_finished (Some text) left next old new number line more one is (said, p, s) n says adds =
-      (said ++ one ∷ [], all_passed (RowSays form bits) text left next said number line more one is p n says, stored_more old new said one s adds)
+      (said ++ one ∷ [], all_passed (RowSays form (bits_in bits)) text left next said number line more one is p n says, stored_more old new said one s adds)
 
   abbrev failing : ReadError → Result Rows ReadError
   failing e = Err e
 
   rows_in_error : (contents left next : Option (List ℕ)) (old : Rows) (number : ℕ) (line : List ℕ) (more : Bool) (e : ReadError)
-      → IfSome contents (λ text. Reads text left old number) → IfSome left (λ text. IsNextLine text line more next) → IsErrorAt (IsBadRow form bits) line number e
-      → IfSome contents (λ text. ReadsRows form (text_by bits text) (Err e))
+      → IfSome contents (λ text. Reads text left old number) → IfSome left (λ text. IsNextLine text line more next) → IsErrorAt (IsBadRow form (bits_in bits)) line number e
+      → IfSome contents (λ text. ReadsRows form (text_in bits text) (Err e))
   rows_in_error None left next old number line more e h n bad = tt
   rows_in_error (Some text) left next old number line more Input h n bad = tt
   rows_in_error (Some text) left next old number line more NoMemory h n bad = tt
   rows_in_error (Some text) left next old number line more (Line m e) (said, p, s) n bad =
-      (said, error_passed (RowSays form bits) (IsBadRow form bits) text left next said number line more m e p n bad.0 bad.1)
+      (said, error_passed (RowSays form (bits_in bits)) (IsBadRow form (bits_in bits)) text left next said number line more m e p n bad.0 bad.1)
 
   pub rows_failed : (contents left next : Option (List ℕ)) (old : Rows) (number : ℕ) (line : List ℕ) (more : Bool) (r : Result Rows ReadError) (y e : ReadError)
       → r ≡ Err y → y ≡ e → IfSome contents (λ text. Reads text left old number) → IfSome left (λ text. IsNextLine text line more next)
-      → IsErrorAt (IsBadRow form bits) line number e → IfSome contents (λ text. ReadsRows form (text_by bits text) r)
+      → IsErrorAt (IsBadRow form (bits_in bits)) line number e → IfSome contents (λ text. ReadsRows form (text_in bits text) r)
   rows_failed contents left next old number line more r y e is same h n bad =
-      subst (λ (k : Result Rows ReadError). IfSome contents (λ text. ReadsRows form (text_by bits text) k)) (sym (is ∙ ap failing same))
+      subst (λ (k : Result Rows ReadError). IfSome contents (λ text. ReadsRows form (text_in bits text) k)) (sym (is ∙ ap failing same))
       (rows_in_error contents left next old number line more e h n bad)
 
-  no_more_rows : (contents : Option (List ℕ)) (e : ReadError) → IsStopped e → IfSome contents (λ text. ReadsRows form (text_by bits text) (Err e))
+  no_more_rows : (contents : Option (List ℕ)) (e : ReadError) → IsStopped e → IfSome contents (λ text. ReadsRows form (text_in bits text) (Err e))
   no_more_rows None e h = tt
   no_more_rows (Some text) (Line number e) h = absurd h
   no_more_rows (Some text) Input h = tt
   no_more_rows (Some text) NoMemory h = tt
 
   pub rows_stopped : (contents : Option (List ℕ)) (r : Result Rows ReadError) (y e : ReadError) → r ≡ Err y → y ≡ e → IsStopped e
-      → IfSome contents (λ text. ReadsRows form (text_by bits text) r)
+      → IfSome contents (λ text. ReadsRows form (text_in bits text) r)
   rows_stopped contents r y e is same h =
-      subst (λ (k : Result Rows ReadError). IfSome contents (λ text. ReadsRows form (text_by bits text) k)) (sym (is ∙ ap failing same)) (no_more_rows contents e h)
+      subst (λ (k : Result Rows ReadError). IfSome contents (λ text. ReadsRows form (text_in bits text) k)) (sym (is ∙ ap failing same)) (no_more_rows contents e h)
 
   -- what is left is told too
   pub rows_known : (contents left : Option (List ℕ)) (rows : Rows) (number : ℕ) → IfSome contents (λ text. Reads text left rows number) → KnownOf contents left
@@ -177,13 +177,13 @@ module _ (form : RowForm) (bits : HostBits) where
 
 -- ---- the table of the rows
 -- what is read of a reader whose bytes are told
-told_rows : (form : RowForm) (bits : HostBits) (left : Option (List ℕ)) (text : Text) (r : Result Rows ReadError) → left ≡ Some text.bytes → text.host_bits ≡ bits
-    → IfSome left (λ bytes. ReadsRows form (text_by bits bytes) r) → ReadsRows form text r
-told_rows form bits left text r is by h = rw (text_same bits text by) at (bytes_read (λ bytes. ReadsRows form (text_by bits bytes) r) left text.bytes is h)
+told_rows : (form : RowForm) (bits : ListForm) (left : Option (List ℕ)) (text : Text) (r : Result Rows ReadError) → left ≡ Some text.bytes → text.form ≡ bits
+    → IfSome left (λ bytes. ReadsRows form (text_in bits bytes) r) → ReadsRows form text r
+told_rows form bits left text r is by h = rw (text_same bits text by) at (bytes_read (λ bytes. ReadsRows form (text_in bits bytes) r) left text.bytes is h)
 
-pub rows_read : (form : RowForm) (contents : Option Text) (left : Option (List ℕ)) (bits : HostBits) (name : List ℕ) (rows : Rows)
-    → ((text : Text) → contents ≡ Some text → left ≡ Some text.bytes) → ((text : Text) → contents ≡ Some text → text.host_bits ≡ bits)
-    → IfSome left (λ bytes. ReadsRows form (text_by bits bytes) (Ok rows)) → ReadsFileRows form contents name (Ok rows)
+pub rows_read : (form : RowForm) (contents : Option Text) (left : Option (List ℕ)) (bits : ListForm) (name : List ℕ) (rows : Rows)
+    → ((text : Text) → contents ≡ Some text → left ≡ Some text.bytes) → ((text : Text) → contents ≡ Some text → text.form ≡ bits)
+    → IfSome left (λ bytes. ReadsRows form (text_in bits bytes) (Ok rows)) → ReadsFileRows form contents name (Ok rows)
 rows_read form contents left bits name rows opens by reads text is = told_rows form bits left text (Ok rows) (opens text is) (by text is) reads
 
 -- two ways of reading rows are the same
@@ -205,10 +205,10 @@ stored_same rows others said same s = record {
 }
 
 pub rows_copied : (form said : RowForm) (contents : Option Text) (name : List ℕ) (kept rows : Rows)
-    → ((text : Text) → contents ≡ Some text → AllSaid text.host_bits (lines_of text.bytes) (AsRows said kept)) → said ≡ form → AreCopies kept rows
+    → ((text : Text) → contents ≡ Some text → AllSaid text.form (lines_of text.bytes) (AsRows said kept)) → said ≡ form → AreCopies kept rows
     → ReadsFileRows form contents name (Ok rows)
 rows_copied form said contents name kept rows is read same text at =
-    let (all, says, stores) = subst (λ (k : RowForm). AllSaid text.host_bits (lines_of text.bytes) (AsRows k kept)) read (is text at) in
+    let (all, says, stores) = subst (λ (k : RowForm). AllSaid text.form (lines_of text.bytes) (AsRows k kept)) read (is text at) in
     (all, says, stored_same kept rows all same stores)
 
 pub bytes_copied : (contents : Option Text) (kept bytes : List ℕ) → AreFileBytes contents kept → AllZip (λ x y. y ≡ x) kept bytes → AreFileBytes contents bytes
@@ -222,9 +222,9 @@ table_read form contents name rows table reads last = λ text is.
     let (said, says, s) = reads text is in
     (said, says, λ family. subst (λ (k : List (List Bool × List ℕ)). AreLastRows k (kept table family)) (s.same family) (last family))
 
-pub table_unread : (form : RowForm) (contents : Option Text) (left : Option (List ℕ)) (bits : HostBits) (file : Bor (List ℕ)) (e : ReadError)
-    → ((text : Text) → contents ≡ Some text → left ≡ Some text.bytes) → ((text : Text) → contents ≡ Some text → text.host_bits ≡ bits)
-    → IfSome left (λ bytes. ReadsRows form (text_by bits bytes) (Err e)) → IsUnreadTable form contents file.now (unread file e)
+pub table_unread : (form : RowForm) (contents : Option Text) (left : Option (List ℕ)) (bits : ListForm) (file : Bor (List ℕ)) (e : ReadError)
+    → ((text : Text) → contents ≡ Some text → left ≡ Some text.bytes) → ((text : Text) → contents ≡ Some text → text.form ≡ bits)
+    → IfSome left (λ bytes. ReadsRows form (text_in bits bytes) (Err e)) → IsUnreadTable form contents file.now (unread file e)
 table_unread form contents left bits file (Line number e) opens by reads = (
   refl,
   λ text is.

@@ -16,7 +16,7 @@ use Rattle.netset_commands.specs.Compiled.{begins_file}
 use Rattle.netset_commands.specs.Keeping.{AddsBy, AllSaid, AreGoodLines, IsAny, IsGoodLine, IsGoodText, IsKept, AreErrorsTold, IsLoadError, IsNothingSaid, KeepsLine, KeepsListLines, KeepsList, SaysMore, kind_in, lined_in, only_lines}
 use Rattle.cidr_lists.specs.Faults.{AreErrors, AreTellings, IsFaulty, IsPartTold, IsSound}
 use Rattle.cidr_lists.specs.Messages.{fault_line}
-use Rattle.cidr_lists.specs.Lists.{IsTooLong, LineSays, Text, lines_of, line_networks, text_by}
+use Rattle.cidr_lists.specs.Lists.{IsTooLong, SaysBy, Text, bits_in, lines_of, line_networks, text_in}
 use Rattle.cidr_lists.specs.declared.lines.Content.TheVariants.{Blank}
 use Rattle.cidr_lists.specs.Forms.{RowSays}
 use Rattle.netset_commands.specs.Gathering.{IsNotReadFurther}
@@ -40,7 +40,8 @@ use Rattle.netset_commands.specs.declared.input.begun.Given.TheVariants.{Lines, 
 use Rattle.netset_commands.specs.declared.input.keeping.Heard.{Heard}
 use Rattle.netset_commands.specs.declared.input.keeping.Said.{Said}
 use Rattle.netset_commands.specs.declared.input.keeping.Said.TheVariants.{Networks, Hosts, Rows}
-use Rattle.cidr_lists.specs.declared.lines.HostBits.{HostBits}
+use Rattle.cidr_lists.specs.declared.records.ListForm.{ListForm}
+use Rattle.cidr_lists.specs.declared.records.ListForm.TheVariants.{Networks as OfNetworks, Rir}
 
 -- ---- lines that are written one after another, as far as the sink takes them
 nothing_by : (s : State) (b : Bool) → s.failed ≡ b → Tells s s []
@@ -60,7 +61,7 @@ tells_more s t u xs ys (Err f, (part, kept)) (Err g, (more, still)) =
     (Err f, (subst (λ (k : State). Part s k (xs ++ ys)) (sym same) (part_more s t xs ys part), λ failed. same ∙ kept failed))
 
 -- ---- the errors of lines
-sound_behind : (kind : Kind) (bits : HostBits) (first : ℕ) (lines : List (List ℕ)) (line : List ℕ) (errors : List (ℕ × LineError))
+sound_behind : (kind : Kind) (bits : ListForm) (first : ℕ) (lines : List (List ℕ)) (line : List ℕ) (errors : List (ℕ × LineError))
     → AreErrors kind bits first lines errors → IsSound kind bits line → AreErrors kind bits first (lines ++ line ∷ []) errors
 sound_behind kind bits first [] line errors are sound = inl (sound, are)
 sound_behind kind bits first (other ∷ lines) line errors (inl (here, are)) sound =
@@ -68,7 +69,7 @@ sound_behind kind bits first (other ∷ lines) line errors (inl (here, are)) sou
 sound_behind kind bits first (other ∷ lines) line errors (inr (e, rest, bad, are, is)) sound =
     inr (e, rest, bad, sound_behind kind bits (first + 1) lines line rest are sound, is)
 
-faulty_behind : (kind : Kind) (bits : HostBits) (first n : ℕ) (lines : List (List ℕ)) (line : List ℕ) (errors : List (ℕ × LineError)) (e : LineError)
+faulty_behind : (kind : Kind) (bits : ListForm) (first n : ℕ) (lines : List (List ℕ)) (line : List ℕ) (errors : List (ℕ × LineError)) (e : LineError)
     → n ≡ first + length lines → AreErrors kind bits first lines errors → IsFaulty kind bits line e
     → AreErrors kind bits first (lines ++ line ∷ []) (errors ++ (n, e) ∷ [])
 faulty_behind kind bits first n [] line errors e at are bad =
@@ -85,7 +86,7 @@ faulty_behind kind bits first n (other ∷ lines) line errors e at (inr (d, rest
 )
 
 -- ---- what a line says
-module _ (bits : HostBits) (line : List ℕ) (number : ℕ) where
+module _ (bits : ListForm) (line : List ℕ) (number : ℕ) where
   pub same_kind : (was now : Said) (r : Result (Unit {0}) ReadError) → AddsBy bits line number was now r → kind_in now ≡ kind_in was
   same_kind (Networks old) (Networks new) r h = refl
   same_kind (Hosts old) (Hosts new) r h = refl
@@ -98,7 +99,7 @@ module _ (bits : HostBits) (line : List ℕ) (number : ℕ) where
   same_kind (Rows form old) (Hosts new) r h = absurd h
 
   line_sound : (was now : Said) → AddsBy bits line number was now (Ok tt) → IsSound (kind_in was) bits line
-  line_sound (Networks old) (Networks new) (said, (short, field, content, is_field, is_content, are), grows) = (short, field, content, is_field, is_content)
+  line_sound (Networks old) (Networks new) (said, says, grows) = (said, says)
   line_sound (Hosts old) (Hosts new) (one, has, is) = ([], number, one, has)
   line_sound (Rows form old) (Rows same new) (is, (said, says, adds)) = (said, says)
   line_sound (Networks old) (Hosts new) h = absurd h
@@ -123,14 +124,14 @@ module _ (bits : HostBits) (line : List ℕ) (number : ℕ) where
       → AllSaid bits (before ++ line ∷ []) now
   said_behind (Networks old) (Networks new) (one, says, grows) before at (said, zip, same) = (
     said ++ one ∷ [],
-    zip_behind (LineSays bits) before said line one zip says,
+    zip_behind (SaysBy bits) before said line one zip says,
     λ family. grows family ∙ (ap (λ (k : List (List Bool)). k ++ line_networks family one) (same family) ∙ flat_map_more (line_networks family) [] said one),
   )
   said_behind (Hosts old) (Hosts new) (one, has, is) before at are =
       subst (AreEntries [] 1 (before ++ line ∷ [])) (sym is) (line_behind [] 1 number before line old.items one (omega (arith, at)) are has)
   said_behind (Rows form old) (Rows same new) (is, (one, says, adds)) before at (said, zip, stores) =
       subst (λ (k : RowForm). AllSaid bits (before ++ line ∷ []) (Rows k new)) (sym is)
-      (said ++ one ∷ [], zip_behind (RowSays form bits) before said line one zip says, stored_more old new said one stores adds)
+      (said ++ one ∷ [], zip_behind (RowSays form (bits_in bits)) before said line one zip says, stored_more old new said one stores adds)
   said_behind (Networks old) (Hosts new) h before at are = absurd h
   said_behind (Networks old) (Rows form new) h before at are = absurd h
   said_behind (Hosts old) (Networks new) h before at are = absurd h
@@ -166,7 +167,7 @@ module _ (old mid new line : List ℕ) (len : ℕ) (added : mid ≡ old ++ 10 �
       ap (take len) (added ∙ sym (append_assoc old (10 ∷ []) line))
       ∙ (ap (λ (n : ℕ). take n (front ++ line)) (omega (arith, at, length-append old (10 ∷ []))) ∙ take-append_seam front line)
 
-  good_line : (kind : Kind) (bits : HostBits) (before : List (List ℕ)) → IsSound kind bits line → new ≡ mid → AreGoodLines kind bits before old
+  good_line : (kind : Kind) (bits : ListForm) (before : List (List ℕ)) → IsSound kind bits line → new ≡ mid → AreGoodLines kind bits before old
       → AreGoodLines kind bits (before ++ line ∷ []) new
   good_line kind bits before sound whole (goods, zip, all) = (
     goods ++ line ∷ [],
@@ -174,7 +175,7 @@ module _ (old mid new line : List ℕ) (len : ℕ) (added : mid ≡ old ++ 10 �
     whole ∙ (added ∙ (ap (λ (k : List ℕ). k ++ 10 ∷ line) all ∙ flat_map_more (λ (l : List ℕ). 10 ∷ l) [] goods line)),
   )
 
-  left_empty : (kind : Kind) (bits : HostBits) (before : List (List ℕ)) (e : LineError) → IsFaulty kind bits line e → new ≡ take len mid
+  left_empty : (kind : Kind) (bits : ListForm) (before : List (List ℕ)) (e : LineError) → IsFaulty kind bits line e → new ≡ take len mid
       → AreGoodLines kind bits before old → AreGoodLines kind bits (before ++ line ∷ []) new
   left_empty kind bits before e bad cut (goods, zip, all) = (
     goods ++ [] ∷ [],
@@ -195,7 +196,7 @@ same_says old t u block now rest lines same kept says start text h =
     subst (λ (k : State). HasSaid start k rest (text ++ lines)) (sym same)
     (subst (λ (k : List ℕ). HasSaid start t k (text ++ lines)) (sym kept) (says start text h))
 
-module _ (kind : Kind) (bits : HostBits) (file : List ℕ) (skips : Bool) (s : State) (b : List ℕ) where
+module _ (kind : Kind) (bits : ListForm) (file : List ℕ) (skips : Bool) (s : State) (b : List ℕ) where
   -- how far the lines of a list were told and kept
   abbrev pub IsKeeping : Option (List ℕ) → Option (List ℕ) → State → List ℕ → Bool → Said → List ℕ → ℕ → Type 0
   IsKeeping contents left t block found said good number = (lines : List ℕ) × SaysMore s b t block lines × IsAny found lines × (kind_in said ≡ kind)
@@ -277,7 +278,7 @@ module _ (kind : Kind) (bits : HostBits) (file : List ℕ) (skips : Bool) (s : S
 
   part_told : (contents left : Option (List ℕ)) (lines : List ℕ) (found : Bool) (said : Said) (good : List ℕ) (number : ℕ)
       → IfSome contents (λ text. LinesRead (IsKept kind bits file skips) text left (lines, found, said, good) number)
-      → IfSome contents (λ text. IsPartTold kind file (text_by bits text) lines)
+      → IfSome contents (λ text. IsPartTold kind file (text_in bits text) lines)
   part_told None left lines found said good number p = tt
   part_told (Some text) left lines found said good number p =
       let (errors, are, is, fine, read) = p.done in
@@ -314,24 +315,24 @@ lined_same : (takes : Bool) (contents : Option Text) → ((text : Text) → cont
 lined_same false contents lines text is = is
 lined_same true None lines text is = cc
 lined_same true (Some known) lines text is =
-    sym (ap (λ (b : Bool). Some (if b then text_by known.host_bits [] else known)) (lines known refl refl)) ∙ is
+    sym (ap (λ (b : Bool). Some (if b then text_in known.form [] else known)) (lines known refl refl)) ∙ is
 
 -- so that its good lines are read
 no_file : (takes stored : Bool) → (takes ≡ true → stored ≡ false) → (takes && stored) ≡ false
 no_file false stored h = refl
 no_file true stored h = h refl
 
-module _ (takes : Bool) (contents : Option Text) (left : Option (List ℕ)) (kind : Kind) (bits : HostBits) (skips : Bool) (s t u : State) (block rest : List ℕ)
+module _ (takes : Bool) (contents : Option Text) (left : Option (List ℕ)) (kind : Kind) (bits : ListForm) (skips : Bool) (s t u : State) (block rest : List ℕ)
     (lines_are : (text : Text) → contents ≡ Some text → takes ≡ true → begins_file text.bytes ≡ false)
-    (opens : (text : Text) → contents ≡ Some text → left ≡ Some text.bytes) (by : (text : Text) → contents ≡ Some text → text.host_bits ≡ bits)
+    (opens : (text : Text) → contents ≡ Some text → left ≡ Some text.bytes) (by : (text : Text) → contents ≡ Some text → text.form ≡ bits)
     (none : block ≡ []) (ends : EndsSaying t rest u) where
   abbrev kept_of : List ℕ → Heard → List ℕ × Bool × Said × List ℕ
   kept_of lines heard = (lines, heard.is_bad, heard.said, heard.text.items)
 
   kept_by : (file lines : List ℕ) (heard : Heard) → IfSome left (λ bytes. IsKept kind bits file skips (lines_of bytes) (kept_of lines heard))
-      → (text : Text) → contents ≡ Some text → IsKept kind text.host_bits file skips (lines_of text.bytes) (kept_of lines heard)
+      → (text : Text) → contents ≡ Some text → IsKept kind text.form file skips (lines_of text.bytes) (kept_of lines heard)
   kept_by file lines heard is text at =
-      subst (λ (k : HostBits). IsKept kind k file skips (lines_of text.bytes) (kept_of lines heard)) (sym (by text at))
+      subst (λ (k : ListForm). IsKept kind k file skips (lines_of text.bytes) (kept_of lines heard)) (sym (by text at))
       (bytes_read (λ bytes. IsKept kind bits file skips (lines_of bytes) (kept_of lines heard)) left text.bytes (opens text at) is)
 
   pub list_kept : (file : Bor (List ℕ)) (heard : Heard) → KeepsListLines kind bits file.now skips left s block t rest (Ok heard)
@@ -346,7 +347,7 @@ module _ (takes : Bool) (contents : Option Text) (left : Option (List ℕ)) (kin
     λ sound text at. (kept_by file.now lines heard is text at).3 sound,
     λ skip text at.
         let bytes : List ℕ = drop 1 heard.text.items in
-        subst (λ (b : Bool). IsGoodText b kind text (text_by text.host_bits bytes)) (sym (no_file takes (begins_file text.bytes) (lines_are text at)))
+        subst (λ (b : Bool). IsGoodText b kind text (text_in text.form bytes)) (sym (no_file takes (begins_file text.bytes) (lines_are text at)))
         (refl, heard.text.items, (kept_by file.now lines heard is text at).4 skip, refl),
     refl,
   )
@@ -365,7 +366,7 @@ module _ (takes : Bool) (contents : Option Text) (left : Option (List ℕ)) (kin
     λ text at.
         let here = lined_same takes contents lines_are text at in
         subst (λ (k : Text). IsPartTold kind file.now k lines) (text_same bits text (by text here))
-        (bytes_read (λ bytes. IsPartTold kind file.now (text_by bits bytes) lines) left text.bytes (opens text here) is),
+        (bytes_read (λ bytes. IsPartTold kind file.now (text_in bits bytes) lines) left text.bytes (opens text here) is),
   )
 
 -- ---- the bytes of a file of look-ups, which has no lines
@@ -375,22 +376,23 @@ blank_short long = absurd (omega (arith, long))
 blank_field : IsTrimAscii [] []
 blank_field = (0, refl, λ i l. absurd (omega (arith, l)), λ l. absurd (omega (arith, l)), λ i l m. absurd (omega (arith, l, m)), λ l. absurd (omega (arith, l)))
 
-blank_sound : (kind : Kind) (bits : HostBits) → IsSound kind bits []
-blank_sound kinds.Networks bits = (blank_short, [], Blank, blank_field, refl)
+blank_sound : (kind : Kind) (bits : ListForm) → IsSound kind bits []
+blank_sound kinds.Networks (OfNetworks bits) = ([], (blank_short, [], Blank, blank_field, refl, refl))
+blank_sound kinds.Networks Rir = ([], (blank_short, Blank, inl ([], blank_field, refl), refl))
 blank_sound kinds.Hosts bits = ([], 1, None, (blank_short, blank_field))
 blank_sound (kinds.Rows form) bits = (None, (blank_short, ([], blank_field, refl)))
 
-blank_told : (kind : Kind) (file : List ℕ) (bits : HostBits) → AreErrorsTold kind file (text_by bits []) []
+blank_told : (kind : Kind) (file : List ℕ) (bits : ListForm) → AreErrorsTold kind file (text_in bits []) []
 blank_told kind file bits = ([], inl (blank_sound kind bits, refl), refl)
 
 file_lined : (contents : Option Text) → ((text : Text) → contents ≡ Some text → begins_file text.bytes ≡ true)
-    → (text : Text) → lined_in true contents ≡ Some text → text_by text.host_bits [] ≡ text
+    → (text : Text) → lined_in true contents ≡ Some text → text_in text.form [] ≡ text
 file_lined None is text at = cc
 file_lined (Some known) is text at =
     let same : only_lines known ≡ text = some_same (only_lines known) text at in
-    let none : only_lines known ≡ text_by known.host_bits [] = ap (λ (b : Bool). if b then text_by known.host_bits [] else known) (is known refl) in
-    let bare : text_by known.host_bits [] ≡ text = sym none ∙ same in
-    ap (λ (b : HostBits). text_by b []) (sym (ap (λ (t : Text). t.host_bits) bare)) ∙ bare
+    let none : only_lines known ≡ text_in known.form [] = ap (λ (b : Bool). if b then text_in known.form [] else known) (is known refl) in
+    let bare : text_in known.form [] ≡ text = sym none ∙ same in
+    ap (λ (b : ListForm). text_in b []) (sym (ap (λ (t : Text). t.form) bare)) ∙ bare
 
 pub file_kept : (contents : Option Text) (kind : Kind) (file : Bor (List ℕ)) (skips : Bool) (s : State) (bytes text : Vec ℕ Global) → AreFileBytes contents bytes.items
     → KeepsList true contents kind file.now skips s s (Ok (record { name = file; given = Stored bytes; text = text }, false))
@@ -398,17 +400,17 @@ file_kept contents kind file skips s bytes lines are = (
   [],
   tells_nothing s,
   refl,
-  λ text at. subst (λ (k : Text). AreErrorsTold kind file.now k []) (file_lined contents (λ text is. (are text is).0) text at) (blank_told kind file.now text.host_bits),
+  λ text at. subst (λ (k : Text). AreErrorsTold kind file.now k []) (file_lined contents (λ text is. (are text is).0) text at) (blank_told kind file.now text.form),
   λ _ text is. are text is,
   λ _ text at.
-      subst (λ (b : Bool). IsGoodText b kind text (text_by text.host_bits bytes.items)) (sym (are text at).0)
-      (ap (text_by text.host_bits) (are text at).1 ∙ text_same text.host_bits text refl),
+      subst (λ (b : Bool). IsGoodText b kind text (text_in text.form bytes.items)) (sym (are text at).0)
+      (ap (text_in text.form) (are text at).1 ∙ text_same text.form text refl),
   refl,
 )
 
 -- ---- one list after another
 pub tellings_behind : (kind : Kind) (names : List (List ℕ)) (texts : List Text) (name : List ℕ) (text : Text) (lines : List ℕ) (errors : List (ℕ × LineError))
-    → AreTellings kind names texts lines → AreErrors kind text.host_bits 1 (lines_of text.bytes) errors
+    → AreTellings kind names texts lines → AreErrors kind text.form 1 (lines_of text.bytes) errors
     → AreTellings kind (names ++ name ∷ []) (texts ++ text ∷ []) (lines ++ flat_map (fault_line name) errors)
 tellings_behind kind [] [] name text lines errors none are = (
   errors,

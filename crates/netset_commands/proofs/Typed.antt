@@ -1,5 +1,5 @@
 -- Requests as they are typed are read as these requests.
-use Rattle.std.proofs.Common.{◌≡◌, refl, sym, ◌∙◌, ap, subst, inl, inr, ℕ, Bool, true, false, ◌||◌, ◌&&◌, List, [], ◌∷◌, ◌++◌, codes, slice_get, append-nil, Option, Some, None, Result, Ok}
+use Rattle.std.proofs.Common.{◌≡◌, ◌⊎◌, refl, sym, ◌∙◌, ap, subst, inl, inr, ℕ, Bool, true, false, if◌then◌else◌, ◌||◌, ◌&&◌, List, [], ◌∷◌, ◌++◌, codes, slice_get, append-nil, Option, Some, None, Result, Ok}
 use Rattle.std.specs.List.{list_all, list_any}
 use Rattle.std.proofs.lemmas.Bool.{true≢false}
 use Rattle.cidr.specs.declared.family.Family.TheVariants.{Ipv4, Ipv6}
@@ -10,9 +10,11 @@ use Rattle.cidr_lists.specs.declared.formats.LineFormat.TheVariants as by_line
 use Rattle.cidr_lists.specs.declared.formats.LineFormat.{LineFormat}
 use Rattle.cidr_lists.specs.declared.forms.RowForm.{RowForm}
 use Rattle.cidr_lists.specs.declared.forms.RowLayout.{RowLayout}
+use Rattle.cidr_lists.specs.declared.records.ListForm.{ListForm}
+use Rattle.cidr_lists.specs.declared.records.ListForm.TheVariants.{Networks}
 use Rattle.cidr_lists.specs.declared.forms.RowLayout.TheVariants.{Fields, Pfx2as, Routes}
-use Rattle.netset_commands.specs.Arguments.{Parts, and_then, question_by, asks_help, choice_by, choice_in, counted_request, extent_by, extra_operand, form_in, is_option, joined_arguments, line_request, lists_request, look_by, match_by, may_keep, named_verb, only_operand, only_options, only_value, operand_or, part_request, parts_from, read_request, style_in_values, takes, target_by, tells_two_ways, value_behind, value_of, verb_request, word_parts}
-use Rattle.netset_commands.specs.Commands.{Request, Lists, Styled, NotIn, Diff, Same, Free, Acl, Split, Check, Which, Match, MatchEach, Look, Compile, Smallest, Describe, Class, Single, Help, Version, input_name, reading_of}
+use Rattle.netset_commands.specs.Arguments.{Parts, and_then, question_by, asks_help, choice_by, choice_in, counted_request, extent_by, extra_operand, form_in, is_option, joined_arguments, line_request, list_form_by, list_form_in, lists_request, look_by, match_by, may_keep, named_verb, only_operand, only_options, only_value, operand_or, part_request, parts_from, read_request, reading_in, reads_tables, style_in_values, takes, target_by, value_behind, value_of, verb_request, word_parts}
+use Rattle.netset_commands.specs.Commands.{Request, Lists, Styled, NotIn, Diff, Same, Free, Acl, Split, Check, Which, Match, MatchEach, Look, Compile, Smallest, Describe, Class, Single, Help, Version, bits_of, input_name, reading_of}
 use Rattle.netset_commands.specs.Free.{Extent, First, Count, All}
 use Rattle.netset_commands.specs.Matching.{has, is_word}
 use Rattle.netset_commands.specs.Picking.{Choice, FirstField, FieldOf}
@@ -158,15 +160,15 @@ its_options (verb.Lists Not) = (refl, (refl, (refl, (refl, (refl, (refl, tt)))))
 its_options (verb.Lists Ranges) = (refl, (refl, (refl, (refl, (refl, (refl, tt))))))
 its_options (verb.Lists of_lists.Count) = (refl, (refl, (refl, (refl, (refl, (refl, tt))))))
 its_options verb.Diff = (refl, (refl, (refl, (refl, (refl, (refl, tt))))))
-its_options verb.Same = (refl, (refl, (refl, (refl, (refl, (refl, tt))))))
+its_options verb.Same = (refl, (refl, (refl, (refl, (refl, (refl, (refl, tt)))))))
 its_options verb.Free = (refl, (refl, (refl, (refl, (refl, (refl, (refl, tt)))))))
 its_options verb.Acl = (refl, (refl, (refl, (refl, (refl, tt)))))
 its_options verb.Check = (refl, (refl, (refl, (refl, tt))))
 its_options verb.Which = (refl, (refl, (refl, (refl, tt))))
 its_options verb.Match = (refl, (refl, (refl, (refl, (refl, (refl, (refl, (refl, (refl, (refl, (refl, tt)))))))))))
-its_options verb.Look = (refl, (refl, (refl, (refl, (refl, (refl, (refl, (refl, (refl, tt)))))))))
-its_options verb.Compile = (refl, (refl, (refl, (refl, (refl, tt)))))
-its_options verb.Smallest = (refl, (refl, (refl, (refl, (refl, (refl, (refl, tt)))))))
+its_options verb.Look = (refl, (refl, (refl, (refl, (refl, (refl, (refl, (refl, (refl, (refl, tt))))))))))
+its_options verb.Compile = (refl, (refl, (refl, (refl, (refl, (refl, tt))))))
+its_options verb.Smallest = (refl, (refl, (refl, (refl, (refl, (refl, (refl, (refl, tt))))))))
 its_options (verb.Describe what) = (refl, (refl, (refl, (refl, (refl, (refl, tt))))))
 its_options verb.Class = (refl, (refl, tt))
 its_options verb.Show = (refl, (refl, tt))
@@ -226,9 +228,14 @@ style_told : (command : Verb) (style : Option Style) → IsBare style → style_
 style_told command None plain = refl
 style_told command (Some style) plain = style_found command style plain
 
-no_file_told : (command : Verb) (style : Option Style) → value_of command (codes "-o") (style_words style) ≡ Ok None
-no_file_told command None = refl
-no_file_told command (Some style) = refl
+-- no file is named by these values, and no form of lists
+abbrev IsUnset : Verb → List (List ℕ) → Type 0
+IsUnset command values = (value_of command (codes "-o") values ≡ Ok None)
+    × ((reads_tables command ≡ true) ⊎ (value_of command (codes "--form") values ≡ Ok None))
+
+no_file_told : (command : Verb) (style : Option Style) → IsUnset command (style_words style)
+no_file_told command None = (refl, inr refl)
+no_file_told command (Some style) = (refl, inr refl)
 
 no_count_told : (style : Option Style) → value_of verb.Free (codes "--count") (style_words style) ≡ Ok None
 no_count_told None = refl
@@ -243,9 +250,9 @@ module _ (count : List ℕ) where
   counted_style None plain = refl
   counted_style (Some style) plain = style_found verb.Free style plain
 
-  counted_file : (style : Option Style) → value_of verb.Free (codes "-o") (counted_words style) ≡ Ok None
-  counted_file None = refl
-  counted_file (Some style) = refl
+  counted_file : (style : Option Style) → IsUnset verb.Free (counted_words style)
+  counted_file None = (refl, inr refl)
+  counted_file (Some style) = (refl, inr refl)
 
   count_told : (style : Option Style) → value_of verb.Free (codes "--count") (counted_words style) ≡ Ok (Some count)
   count_told None = refl
@@ -279,10 +286,10 @@ question_asks shadowed values found asked options file is given by =
     ∙ ap (λ (r : Result Question (List ℕ)). and_then r behind) (ap (λ (b : Bool). question_by b found values) is ∙ by)
 
 -- the field that match and look read
-no_output : (command : Verb) (choice : Choice) → value_of command (codes "-o") (choice_words choice) ≡ Ok None
-no_output command FirstField = refl
-no_output command (FieldOf number None) = refl
-no_output command (FieldOf number (Some separator)) = refl
+no_output : (command : Verb) (choice : Choice) → IsUnset command (choice_words choice)
+no_output command FirstField = (refl, inr refl)
+no_output command (FieldOf number None) = (refl, inr refl)
+no_output command (FieldOf number (Some separator)) = (refl, inr refl)
 
 choice_asks : (command : Verb) (choice : Choice) (options operands : List (List ℕ)) → GoesWith choice options
     → choice_in command (parts_with options (choice_words choice) operands) ≡ Ok choice
@@ -405,11 +412,32 @@ none_by command keeps false fine = refl
 none_by command false true fine = refl
 none_by command true true fine = absurd (true≢false fine)
 
-no_target : (command : Verb) (options values : List (List ℕ)) → tells_two_ways options ≡ false → value_of command (codes "-o") values ≡ Ok None
+no_target : (command : Verb) (options values : List (List ℕ)) → (has (codes "-k") options && has (codes "--skip-bad") options) ≡ false → value_of command (codes "-o") values ≡ Ok None
     → and_then (value_of command (codes "-o") values) (target_by command (has (codes "-k") options) (has (codes "--skip-bad") options)) ≡ Ok None
 no_target command options values fine none =
     ap (λ (r : Result (Option (List ℕ)) (List ℕ)). and_then r (target_by command (has (codes "-k") options) (has (codes "--skip-bad") options))) none
     ∙ none_by command (has (codes "-k") options) (has (codes "--skip-bad") options) fine
+
+-- the lists have networks, where no form is told
+either_way : {X : Type 0} (b : Bool) (x y : X) → y ≡ x → (if b then x else y) ≡ x
+either_way true x y is = refl
+either_way false x y is = is
+
+networks_told : (command : Verb) (parts : Parts) → asks_help parts.options ≡ false
+    → (reads_tables command ≡ true) ⊎ (value_of command (codes "--form") parts.values ≡ Ok None) → list_form_in command parts ≡ Ok (Networks (bits_of parts.options))
+networks_told command parts no_page (inl tables) =
+    let found = and_then (value_of command (codes "--form") parts.values) (λ name. list_form_by command parts.options name) in
+    let lists : Result ListForm (List ℕ) = Ok (Networks (bits_of parts.options)) in
+    ap (λ (b : Bool). if b || reads_tables command then lists else found) no_page ∙ ap (λ (b : Bool). if false || b then lists else found) tables
+networks_told command parts no_page (inr none) =
+    either_way (asks_help parts.options || reads_tables command) _ _
+    (ap (λ (r : Result (Option (List ℕ)) (List ℕ)). and_then r (λ name. list_form_by command parts.options name)) none)
+
+networks_read : (command : Verb) (parts : Parts) → asks_help parts.options ≡ false
+    → (reads_tables command ≡ true) ⊎ (value_of command (codes "--form") parts.values ≡ Ok None)
+    → reading_in command parts ≡ Ok (reading_of (Networks (bits_of parts.options)) parts.options)
+networks_read command parts no_page unformed =
+    ap (λ (r : Result ListForm (List ℕ)). and_then r (λ form. Ok (reading_of form parts.options))) (networks_told command parts no_page unformed)
 
 -- ---- a command line
 -- a command with the parts of its words
@@ -418,18 +446,18 @@ with_parts command found = and_then found (λ parts. Ok (command, parts))
 
 module _ (words options : List (List ℕ)) where
   abbrev Asks : Request → Type 0
-  Asks request = line_request words ≡ Ok (reading_of options, (None, request))
+  Asks request = line_request words ≡ Ok (reading_of (Networks (bits_of options)) options, (None, request))
 
   module _ (command : Verb) (valued values operands : List (List ℕ)) (typed : AreTyped command options valued operands words)
       (parts : parts_from command (valued ++ operands) Any ≡ Ok (parts_with [] values operands)) (fits : extra_operand command operands ≡ None)
-      (no_file : value_of command (codes "-o") values ≡ Ok None) where
+      (unset : IsUnset command values) where
     abbrev all_parts : Parts
     all_parts = parts_with options values operands
 
     line_asks : (request : Request) → verb_request command all_parts ≡ Ok request → Asks request
     line_asks request made =
         let (is, all, fine, none, enough) = typed in
-        let (no_page, one_way) = none_of (asks_help options) (tells_two_ways options) fine in
+        let (no_page, one_way) = none_of (asks_help options) (has (codes "-k") options && has (codes "--skip-bad") options) fine in
         let asked : part_request command all_parts ≡ Ok request =
         if_false (asks_help options) _ _ no_page
         ∙ (ap (λ (k : Option (List ℕ)). counted_request command all_parts k (extra_operand command operands)) enough
@@ -438,12 +466,13 @@ module _ (words options : List (List ℕ)) where
         ∙ (ap (λ (r : Result Verb (List ℕ)). and_then (and_then r (λ one. with_parts one (parts_from one (options ++ (valued ++ operands)) Any))) (λ line. read_request line.0 line.1)) (named command)
         ∙ (ap (λ (r : Result Parts (List ℕ)). and_then (with_parts command r) (λ line. read_request line.0 line.1))
         (options_first command options (valued ++ operands) values operands all parts)
-        ∙ read_one command all_parts (reading_of options) None request asked (if_false (asks_help options) _ _ no_page ∙ no_target command options values one_way no_file) refl))
+        ∙ read_one command all_parts (reading_of (Networks (bits_of options)) options) None request asked
+        (if_false (asks_help options) _ _ no_page ∙ no_target command options values one_way unset.0) (networks_read command all_parts no_page unset.1)))
 
   plain_asks : (command : Verb) (operands : List (List ℕ)) (request : Request) → AreTyped command options [] operands words → extra_operand command operands ≡ None
       → verb_request command (parts_with options [] operands) ≡ Ok request → Asks request
   plain_asks command operands request (is, all, no_page, none, enough) fits made =
-      line_asks command [] [] operands (is, all, no_page, none, enough) (operands_alone command operands none) fits refl request made
+      line_asks command [] [] operands (is, all, no_page, none, enough) (operands_alone command operands none) fits (refl, inr refl) request made
 
   match_asks : (choice : Choice) (operands : List (List ℕ)) (request : Request) → GoesWith choice options
       → AreTyped verb.Match options (choice_words choice) operands words
@@ -463,7 +492,7 @@ module _ (words options : List (List ℕ)) where
       let parts = parts_with options values operands in
       line_asks verb.Look values values operands (is, all, no_page, none, enough)
       (behind_choice verb.Look choice (form_values form.layout form.values) operands (refl, refl)
-      (behind_layout verb.Look form.layout (style_words (line_style form.values)) operands (refl, refl) (behind_format form.values operands none))) fits (look_file choice form) request
+      (behind_layout verb.Look form.layout (style_words (line_style form.values)) operands (refl, refl) (behind_format form.values operands none))) fits (look_file choice form, inl refl) request
       (ap (λ (r : Result Choice (List ℕ)). and_then r (λ one. and_then (form_in verb.Look values) (λ f. look_by one f parts))) (look_choice choice form options operands goes)
       ∙ (ap (λ (r : Result RowForm (List ℕ)). and_then r (λ f. look_by choice f parts)) (look_form choice form)
       ∙ (ap (λ (r : Result (Unit {0}) (List ℕ)). and_then r (λ _. Ok (Look choice form options (operand_or operands 0 []) (operand_or operands 1 input_name))))
@@ -475,22 +504,22 @@ module _ (words options : List (List ℕ)) where
   typed_asks (Styled style operation files) (plain, takes, (is, all, no_page, none, enough)) =
       let values = codes "--format" ∷ format_name style.format ∷ [] in
       line_asks (verb.Lists operation) values values files (is, all, no_page, none, enough)
-      (behind_value (verb.Lists operation) (codes "--format") (format_name style.format) files (has_format operation takes) none) refl refl
+      (behind_value (verb.Lists operation) (codes "--format") (format_name style.format) files (has_format operation takes) none) refl (refl, inr refl)
       (Styled style operation files) (styled_request operation style files plain)
   typed_asks (NotIn None net files) (no_style, (is, all, no_page, none, enough)) =
       line_asks (verb.Lists Not) (codes "--in" ∷ net ∷ []) (codes "--in" ∷ net ∷ []) files (is, all, no_page, none, enough)
-      (behind_value (verb.Lists Not) (codes "--in") net files refl none) refl refl (NotIn None net files) refl
+      (behind_value (verb.Lists Not) (codes "--in") net files refl none) refl (refl, inr refl) (NotIn None net files) refl
   typed_asks (NotIn (Some style) net files) (plain, (is, all, no_page, none, enough)) =
       let format = codes "--format" ∷ format_name style.format ∷ [] in
       let values = codes "--in" ∷ net ∷ format in
       line_asks (verb.Lists Not) values values files (is, all, no_page, none, enough)
       (behind_values (verb.Lists Not) (codes "--in") net format files refl
-      (behind_value (verb.Lists Not) (codes "--format") (format_name style.format) files refl none)) refl refl
+      (behind_value (verb.Lists Not) (codes "--format") (format_name style.format) files refl none)) refl (refl, inr refl)
       (NotIn (Some style) net files) (inside_request style net files plain)
   typed_asks (Diff by_line.Plain old new) typed = plain_asks verb.Diff (old ∷ new ∷ []) (Diff by_line.Plain old new) typed refl refl
   typed_asks (Diff by_line.Json old new) (is, all, no_page, none, enough) =
       line_asks verb.Diff json_words json_words (old ∷ new ∷ []) (is, all, no_page, none, enough)
-      (behind_value verb.Diff (codes "--format") (codes "json") (old ∷ new ∷ []) refl none) refl refl (Diff by_line.Json old new) refl
+      (behind_value verb.Diff (codes "--format") (codes "json") (old ∷ new ∷ []) refl none) refl (refl, inr refl) (Diff by_line.Json old new) refl
   typed_asks (Free style First pool len used) (plain, one, (is, all, no_page, none, enough)) =
       line_asks verb.Free (style_words style) (style_words style) (pool ∷ len ∷ used) (is, all, no_page, none, enough)
       (behind_style verb.Free style (pool ∷ len ∷ used) refl none) refl (no_file_told verb.Free style) (Free style First pool len used)
@@ -514,13 +543,13 @@ module _ (words options : List (List ℕ)) where
   typed_asks (Acl (Compared by_line.Plain old) file) (of_these, plain, (is, all, no_page, none, enough)) =
       let values = codes "--diff" ∷ old ∷ [] in
       line_asks verb.Acl values values (file ∷ []) (is, all, no_page, none, enough)
-      (behind_value verb.Acl (codes "--diff") old (file ∷ []) refl none) refl refl (Acl (Compared by_line.Plain old) file)
+      (behind_value verb.Acl (codes "--diff") old (file ∷ []) refl none) refl (refl, inr refl) (Acl (Compared by_line.Plain old) file)
       (question_asks false values (Some old) (Compared by_line.Plain old) options file of_these refl refl)
   typed_asks (Acl (Compared by_line.Json old) file) (of_these, plain, (is, all, no_page, none, enough)) =
       let values = codes "--diff" ∷ old ∷ json_words in
       line_asks verb.Acl values values (file ∷ []) (is, all, no_page, none, enough)
       (behind_values verb.Acl (codes "--diff") old json_words (file ∷ []) refl
-      (behind_value verb.Acl (codes "--format") (codes "json") (file ∷ []) refl none)) refl refl (Acl (Compared by_line.Json old) file)
+      (behind_value verb.Acl (codes "--format") (codes "json") (file ∷ []) refl none)) refl (refl, inr refl) (Acl (Compared by_line.Json old) file)
       (question_asks false values (Some old) (Compared by_line.Json old) options file of_these refl refl)
   typed_asks (Split style operand len) (plain, (is, all, no_page, none, enough)) =
       line_asks verb.Split (style_words style) (style_words style) (operand ∷ len ∷ []) (is, all, no_page, none, enough)
@@ -545,18 +574,18 @@ module _ (words options : List (List ℕ)) where
       (ap (λ (k : List (List ℕ)). Look choice form k table input_name) (sym same) ∙ ap (λ (k : List ℕ). Look choice form given table k) (sym input))
   typed_asks (Compile form table name) (plain, (is, all, no_page, none, enough)) =
       line_asks verb.Compile (layout_words form.layout) (layout_words form.layout) (table ∷ name ∷ []) (is, all, no_page, none, enough)
-      (only_layout verb.Compile form.layout (table ∷ name ∷ []) (refl, refl) none) refl (no_file_of verb.Compile form.layout) (Compile form table name)
+      (only_layout verb.Compile form.layout (table ∷ name ∷ []) (refl, refl) none) refl (no_file_of verb.Compile form.layout, inl refl) (Compile form table name)
       (ap (λ (r : Result RowForm (List ℕ)). and_then r (λ f. Ok (Compile f table name))) (layout_told verb.Compile form.layout)
       ∙ ap (λ (format : LineFormat). Ok (Compile (record { layout = form.layout; values = format }) table name)) (sym plain))
   typed_asks (Same form old new) (plain, (is, all, no_page, none, enough)) =
       line_asks verb.Same (layout_words form.layout) (layout_words form.layout) (old ∷ new ∷ []) (is, all, no_page, none, enough)
-      (only_layout verb.Same form.layout (old ∷ new ∷ []) (refl, refl) none) refl (no_file_of verb.Same form.layout) (Same form old new)
+      (only_layout verb.Same form.layout (old ∷ new ∷ []) (refl, refl) none) refl (no_file_of verb.Same form.layout, inl refl) (Same form old new)
       (ap (λ (r : Result RowForm (List ℕ)). and_then r (λ f. Ok (Same f old new))) (layout_told verb.Same form.layout)
       ∙ ap (λ (format : LineFormat). Ok (Same (record { layout = form.layout; values = format }) old new)) (sym plain))
   typed_asks (Smallest holes form table) (given, plain, (is, all, no_page, none, enough)) =
       let given_holes : Bool = has (codes "--holes") options in
       line_asks verb.Smallest (layout_words form.layout) (layout_words form.layout) (table ∷ []) (is, all, no_page, none, enough)
-      (only_layout verb.Smallest form.layout (table ∷ []) (refl, refl) none) refl (no_file_of verb.Smallest form.layout) (Smallest holes form table)
+      (only_layout verb.Smallest form.layout (table ∷ []) (refl, refl) none) refl (no_file_of verb.Smallest form.layout, inl refl) (Smallest holes form table)
       (ap (λ (r : Result RowForm (List ℕ)). and_then r (λ f. Ok (Smallest given_holes f table))) (layout_told verb.Smallest form.layout)
       ∙ (ap (λ (format : LineFormat). Ok (Smallest given_holes (record { layout = form.layout; values = format }) table)) (sym plain)
       ∙ ap (λ (b : Bool). Ok (Smallest b form table)) given))

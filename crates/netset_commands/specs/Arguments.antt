@@ -1,6 +1,6 @@
 -- The words of a command line as options and operands, and the request that they are. Options are those of POSIX.1-2024,
 -- XBD 12.2, guidelines 4 to 6 and 10, and long ones, which begin with --; they may also stand behind operands.
-use Rattle.std.specs.Prelude.{ℕ, ◌==◌, nat_eq, nat_lt, Bool, true, false, if◌then◌else◌, ◌&&◌, ◌||◌, List, [], ◌∷◌, ◌++◌, length, drop, map, codes, Option, Some, None, Result, Ok, Err, slice_get, slice_index, ok_or, unwrap_or, option_and_then}
+use Rattle.std.specs.Prelude.{ℕ, ◌==◌, nat_eq, nat_lt, Bool, true, false, not, if◌then◌else◌, ◌&&◌, ◌||◌, List, [], ◌∷◌, ◌++◌, length, drop, map, codes, Option, Some, None, Result, Ok, Err, slice_get, slice_index, ok_or, unwrap_or, option_and_then}
 use Rattle.std.specs.List.{after_first, before_first, find, list_all, starts_with}
 use Rattle.cidr_io.specs.Shown.{excerpt}
 use Rattle.cidr_lists.specs.Formats.{Style, bare, format_of}
@@ -8,13 +8,15 @@ use Rattle.cidr_lists.specs.Rules.{Question, Permitted, Shadowed, Compared}
 use Rattle.cidr.specs.declared.family.Family.TheVariants.{Ipv4, Ipv6}
 use Rattle.cidr_lists.specs.declared.columns.Separator.TheVariants.{WhiteSpace, Byte}
 use Rattle.cidr_lists.specs.declared.forms.RowForm.{RowForm}
+use Rattle.cidr_lists.specs.declared.records.ListForm.{ListForm}
+use Rattle.cidr_lists.specs.declared.records.ListForm.TheVariants.{Networks, Rir}
 use Rattle.cidr_lists.specs.declared.forms.RowLayout.{RowLayout}
 use Rattle.cidr_lists.specs.declared.forms.RowLayout.TheVariants.{Fields, Pfx2as, Routes}
 use Rattle.cidr_lists.specs.declared.formats.Format.{Format}
 use Rattle.cidr_lists.specs.declared.formats.Format.TheVariants as format
 use Rattle.cidr_lists.specs.declared.formats.LineFormat.{LineFormat}
 use Rattle.cidr_lists.specs.declared.formats.LineFormat.TheVariants as by_line
-use Rattle.netset_commands.specs.Commands.{Request, Lists, Styled, NotIn, Diff, Same, Free, Acl, Split, Check, Which, Match, MatchEach, Look, Compile, Smallest, Describe, Class, Single, Help, Version, input_name, reading_of}
+use Rattle.netset_commands.specs.Commands.{Request, Lists, Styled, NotIn, Diff, Same, Free, Acl, Split, Check, Which, Match, MatchEach, Look, Compile, Smallest, Describe, Class, Single, Help, Version, bits_of, input_name, reading_of}
 use Rattle.netset_commands.specs.Free.{Extent, First, Count, All}
 use Rattle.netset_commands.specs.Matching.{has, is_word}
 use Rattle.netset_commands.specs.Picking.{Choice, FirstField, FieldOf}
@@ -27,7 +29,7 @@ use Rattle.netset_commands.specs.declared.commands.operations.Operation.{Operati
 use Rattle.netset_commands.specs.declared.commands.table.Verb.{Verb}
 use Rattle.netset_commands.specs.declared.commands.table.Verb.TheVariants as verb
 use Rattle.netset_commands.specs.declared.errors.Misfit.{Misfit}
-use Rattle.netset_commands.specs.declared.errors.Misfit.TheVariants.{Unnamed, NoCommand, NoOption, Missing, Extra, NoFormat, NotPlain, NoField, Anywhere, Skipping, NoLineFormat, WithShadowed, WithDiff, NoForm, NotOneByte, WithForm, WithJson}
+use Rattle.netset_commands.specs.declared.errors.Misfit.TheVariants.{Unnamed, NoCommand, NoOption, Missing, Extra, NoFormat, NotPlain, NoField, Anywhere, Skipping, NoLineFormat, WithShadowed, WithDiff, NoForm, NoListForm, NotOneByte, WithForm, WithJson}
 
 -- ---- the line of a word that is wrong
 abbrev pub misfit_text : Misfit → List ℕ
@@ -45,6 +47,7 @@ misfit_text Skipping = codes ": not with --skip-bad, see: netset help "
 misfit_text WithShadowed = codes ": not with --shadowed, see: netset help "
 misfit_text WithDiff = codes ": not with --diff, see: netset help "
 misfit_text NoForm = codes ": no such form, but pfx2as, routes and routes6, see: netset help "
+misfit_text NoListForm = codes ": no such form of lists, but rir, see: netset help "
 misfit_text NotOneByte = codes ": more or less than one byte, see: netset help "
 misfit_text WithForm = codes ": not with --form, see: netset help "
 misfit_text WithJson = codes ": not with the format json, see: netset help "
@@ -424,10 +427,6 @@ abbrev pub part_request : Verb → Parts → Result Request (List ℕ)
 part_request command parts = if asks_help parts.options then Ok (Help (Some command))
     else counted_request command parts (missing_operand command parts.operands) (extra_operand command parts.operands)
 
--- -k and --skip-bad are given
-abbrev pub tells_two_ways : List (List ℕ) → Bool
-tells_two_ways options = has (codes "-k") options && has (codes "--skip-bad") options
-
 -- the file that the answer is written to, by whether -k and --skip-bad are given: the latter goes with none
 abbrev pub target_by : Verb → Bool → Bool → Option (List ℕ) → Result (Option (List ℕ)) (List ℕ)
 target_by command keeps false target = Ok target
@@ -440,6 +439,29 @@ abbrev pub target_in : Verb → Parts → Result (Option (List ℕ)) (List ℕ)
 target_in command parts = if asks_help parts.options then Ok None else and_then (value_of command (codes "-o") parts.values)
     (λ target. target_by command (has (codes "-k") parts.options) (has (codes "--skip-bad") parts.options) target)
 
+-- the form of lists, by the value of --form: networks, read as other options say, which go with no other form
+abbrev pub named_list_form : Verb → List (List ℕ) → List ℕ → Result ListForm (List ℕ)
+named_list_form command options name = if not (is_word (codes "rir") name) then Err (misuse_text name NoListForm (name_of command))
+    else if has (codes "--host-bits") options then Err (misuse_text (codes "--host-bits") WithForm (name_of command))
+    else if has (codes "--masks") options then Err (misuse_text (codes "--masks") WithForm (name_of command))
+    else Ok Rir
+
+abbrev pub list_form_by : Verb → List (List ℕ) → Option (List ℕ) → Result ListForm (List ℕ)
+list_form_by command options None = Ok (Networks (bits_of options))
+list_form_by command options (Some name) = named_list_form command options name
+
+-- the same of these options; of a command that reads tables --form tells that of their rows
+abbrev pub reads_tables : Verb → Bool
+reads_tables command = takes_value command (codes "--table-separator")
+
+abbrev pub list_form_in : Verb → Parts → Result ListForm (List ℕ)
+list_form_in command parts = if asks_help parts.options || reads_tables command then Ok (Networks (bits_of parts.options))
+    else and_then (value_of command (codes "--form") parts.values) (λ name. list_form_by command parts.options name)
+
+-- how they are read
+abbrev pub reading_in : Verb → Parts → Result Reading (List ℕ)
+reading_in command parts = and_then (list_form_in command parts) (λ form. Ok (reading_of form parts.options))
+
 -- how lists are read, the file that the answer is written to, if one is named, and the request
 abbrev pub Line : Type 0
 Line = Reading × (Option (List ℕ) × Request)
@@ -447,7 +469,7 @@ Line = Reading × (Option (List ℕ) × Request)
 -- these of a command and its parts
 abbrev pub read_request : Verb → Parts → Result Line (List ℕ)
 read_request command parts = and_then (part_request command parts)
-    (λ request. and_then (target_in command parts) (λ target. Ok (reading_of parts.options, (target, request))))
+    (λ request. and_then (target_in command parts) (λ target. and_then (reading_in command parts) (λ reading. Ok (reading, (target, request)))))
 
 -- the same of a command line, or the line that says what is wrong with it
 abbrev pub line_request : List (List ℕ) → Result Line (List ℕ)

@@ -37,6 +37,7 @@ use Rattle.cidr_lists.specs.declared.columns.Column.{Column}
 use Rattle.cidr_lists.specs.declared.fields.Asked.{Asked}
 use Rattle.cidr_lists.specs.declared.forms.RowForm.{RowForm}
 use Rattle.cidr_lists.specs.declared.lines.HostBits.{HostBits}
+use Rattle.cidr_lists.specs.declared.records.ListForm.{ListForm}
 use Rattle.cidr_lists.specs.declared.formats.LineFormat.{LineFormat}
 use Rattle.cidr_lists.specs.declared.sets.Form.{Form}
 use Rattle.netset_commands.specs.declared.commands.operations.Operation.{Operation}
@@ -110,6 +111,14 @@ others_of (Acl asked file) = compared_with asked ++ file ∷ []
 others_of (Class operand) = operand ∷ []
 others_of request = []
 
+-- the tables that it names, if they have headers
+abbrev pub headed_tables : Request → Bool → List (List ℕ)
+headed_tables (Same form old new) true = old ∷ new ∷ []
+headed_tables (Look choice form options table file) true = table ∷ []
+headed_tables (Compile form table name) true = table ∷ []
+headed_tables (Smallest holes form table) true = table ∷ []
+headed_tables request header = []
+
 -- the operand is no list where this is told of it: a network, an address or, of masks, a prefix length
 abbrev pub IsNoList : Description → List ℕ → Type 0
 IsNoList Zones operand = ReadsAsNetwork operand
@@ -140,9 +149,9 @@ fault_way false false = Stop
 fault_way true false = Tell
 fault_way keeps true = Skip
 
--- how lists are read by these options
-abbrev pub reading_of : List (List ℕ) → Reading
-reading_of options = record { host_bits = bits_of options; at_fault = fault_way (has (codes "-k") options) (has (codes "--skip-bad") options) }
+-- how lists of this form are read by these options
+abbrev pub reading_of : ListForm → List (List ℕ) → Reading
+reading_of form options = record { list_form = form; at_fault = fault_way (has (codes "-k") options) (has (codes "--skip-bad") options); table_header = has (codes "--table-header") options }
 
 -- these are the lists of the files of these names
 abbrev pub AreTold : (List ℕ → Option Text) → List (List ℕ) → List Text → Type 0

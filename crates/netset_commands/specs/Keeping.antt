@@ -9,7 +9,7 @@ use Rattle.netset_commands.specs.Commands.{Request, Check, Which, Match, MatchEa
 use Rattle.netset_commands.specs.Compiled.{begins_file}
 use Rattle.netset_commands.specs.Entries.{AddsEntry}
 use Rattle.cidr_lists.specs.Entries.{AreEntries}
-use Rattle.cidr_lists.specs.Lists.{Text, LineSays, lines_of, networks_in, text_by}
+use Rattle.cidr_lists.specs.Lists.{Text, SaysBy, bits_in, lines_of, networks_in, text_in}
 use Rattle.cidr_lists.specs.Forms.{RowSays}
 use Rattle.cidr_lists.specs.Tables.{Stores}
 use Rattle.netset_commands.specs.LookUps.{AddsRow}
@@ -28,7 +28,7 @@ use Rattle.cidr_lists.specs.declared.forms.Kind.{Kind}
 use Rattle.cidr_lists.specs.declared.forms.Kind.TheVariants as kind
 use Rattle.netset_commands.specs.declared.input.keeping.Said.{Said}
 use Rattle.netset_commands.specs.declared.input.keeping.Said.TheVariants.{Networks, Hosts, Rows}
-use Rattle.cidr_lists.specs.declared.lines.HostBits.{HostBits}
+use Rattle.cidr_lists.specs.declared.records.ListForm.{ListForm}
 use Rattle.cidr_lists.specs.Messages.{fault_line}
 use Rattle.cidr_lists.specs.Faults.{IsFaulty, AreErrors, AreTellings, IsPartTold, IsSound}
 
@@ -51,7 +51,7 @@ takes_file request = false
 
 -- a list by its lines: a file of look-ups has none
 abbrev pub only_lines : Text → Text
-only_lines text = if begins_file text.bytes then text_by text.host_bits [] else text
+only_lines text = if begins_file text.bytes then text_in text.form [] else text
 
 -- the lists by their lines, where they may be files of look-ups, or not
 abbrev pub lined_in : Bool → Option Text → Option Text
@@ -79,19 +79,19 @@ IsBegun contents kind (name ∷ names) lines = (text : Text) → contents name �
 
 -- ---- without the lines in error
 -- what is read of a line: nothing of a line in error
-abbrev pub IsGoodLine : Kind → HostBits → List ℕ → List ℕ → Type 0
+abbrev pub IsGoodLine : Kind → ListForm → List ℕ → List ℕ → Type 0
 IsGoodLine kind bits line good = (IsSound kind bits line × (good ≡ line)) ⊎ ((e : LineError) × IsFaulty kind bits line e × (good ≡ []))
 
 -- of some lines, each with a line feed in front
-abbrev pub AreGoodLines : Kind → HostBits → List (List ℕ) → List ℕ → Type 0
+abbrev pub AreGoodLines : Kind → ListForm → List (List ℕ) → List ℕ → Type 0
 AreGoodLines kind bits lines bytes =
     (goods : List (List ℕ)) × AllZip (IsGoodLine kind bits) lines goods × (bytes ≡ flat_map (λ line. 10 ∷ line) goods)
 
 -- of a list: its lines, each of those in error left empty; a file of look-ups has none
 abbrev pub IsGoodText : Bool → Kind → Text → Text → Type 0
 IsGoodText true kind text good = good ≡ text
-IsGoodText false kind text good = (good.host_bits ≡ text.host_bits)
-    × (bytes : List ℕ) × AreGoodLines kind text.host_bits (lines_of text.bytes) bytes × (good.bytes ≡ drop 1 bytes)
+IsGoodText false kind text good = (good.form ≡ text.form)
+    × (bytes : List ℕ) × AreGoodLines kind text.form (lines_of text.bytes) bytes × (good.bytes ≡ drop 1 bytes)
 
 -- of a file, which is a list of the request or not
 abbrev pub IsGoodFile : Bool → Request → Option Text → Option Text → Type 0
@@ -107,18 +107,18 @@ kind_in (Hosts entries) = kind.Hosts
 kind_in (Rows form rows) = kind.Rows form
 
 -- this is what the lines say, each entry in a file of no name
-abbrev pub AllSaid : HostBits → List (List ℕ) → Said → Type 0
-AllSaid bits lines (Networks lists) = (said : List (List IpCidr)) × AllZip (LineSays bits) lines said
+abbrev pub AllSaid : ListForm → List (List ℕ) → Said → Type 0
+AllSaid bits lines (Networks lists) = (said : List (List IpCidr)) × AllZip (SaysBy bits) lines said
     × ((family : Family) → listed lists family ≡ networks_in family said)
 AllSaid bits lines (Hosts entries) = AreEntries [] 1 lines entries.items
-AllSaid bits lines (Rows form rows) = (said : List (Option (IpCidr × List ℕ))) × AllZip (RowSays form bits) lines said × Stores rows said
+AllSaid bits lines (Rows form rows) = (said : List (Option (IpCidr × List ℕ))) × AllZip (RowSays form (bits_in bits)) lines said × Stores rows said
 
 -- nothing is said yet
 abbrev pub IsNothingSaid : Kind → Said → Type 0
-IsNothingSaid kind said = (kind_in said ≡ kind) × ((bits : HostBits) → AllSaid bits [] said)
+IsNothingSaid kind said = (kind_in said ≡ kind) × ((bits : ListForm) → AllSaid bits [] said)
 
 -- what a line says comes behind what the lines before say
-abbrev pub AddsBy : HostBits → List ℕ → ℕ → Said → Said → Result (Unit {0}) ReadError → Type 0
+abbrev pub AddsBy : ListForm → List ℕ → ℕ → Said → Said → Result (Unit {0}) ReadError → Type 0
 AddsBy bits line number (Networks old) (Networks new) r = AddsLine bits line number old new r
 AddsBy bits line number (Hosts old) (Hosts new) r = AddsEntry [] number line old.items new.items r
 AddsBy bits line number (Rows form old) (Rows same new) r = (same ≡ form) × AddsRow form bits line number old new r
@@ -134,33 +134,33 @@ abbrev pub SaysMore : State → List ℕ → State → List ℕ → List ℕ →
 SaysMore old block new rest lines = (start : State) (text : List ℕ) → HasSaid start old block text → HasSaid start new rest (text ++ lines)
 
 -- what a line says was added, or its error was told, or it is not known
-abbrev pub KeepsLine : HostBits → List ℕ → ℕ → List ℕ → Said → Said → State → List ℕ → State → List ℕ → Result Bool ReadError → Type 0
+abbrev pub KeepsLine : ListForm → List ℕ → ℕ → List ℕ → Said → Said → State → List ℕ → State → List ℕ → Result Bool ReadError → Type 0
 KeepsLine bits file number line was now old block new rest (Ok false) = AddsBy bits line number was now (Ok tt) × (new ≡ old) × (rest ≡ block)
 KeepsLine bits file number line was now old block new rest (Ok true) = (e : LineError) × (kind_in now ≡ kind_in was)
     × IsFaulty (kind_in was) bits line e × SaysMore old block new rest (fault_line file (number, e))
 KeepsLine bits file number line was now old block new rest (Err e) = IsStopped e × (new ≡ old) × (rest ≡ block)
 
 -- what was told of lines, whether one is in error, and else what they say; and, if that is wanted, what is read of them
-abbrev pub IsKept : Kind → HostBits → List ℕ → Bool → List (List ℕ) → List ℕ × Bool × Said × List ℕ → Type 0
+abbrev pub IsKept : Kind → ListForm → List ℕ → Bool → List (List ℕ) → List ℕ × Bool × Said × List ℕ → Type 0
 IsKept kind bits file skips lines kept = (errors : List (ℕ × LineError)) × AreErrors kind bits 1 lines errors
     × (kept.0 ≡ flat_map (fault_line file) errors) × (kept.1 ≡ false → AllSaid bits lines kept.2)
     × (skips ≡ true → AreGoodLines kind bits lines kept.3)
 
 -- the lines of a list were read, and those in error told
-abbrev pub KeepsListLines : Kind → HostBits → List ℕ → Bool → Option (List ℕ) → State → List ℕ → State → List ℕ → Result Heard ReadError → Type 0
+abbrev pub KeepsListLines : Kind → ListForm → List ℕ → Bool → Option (List ℕ) → State → List ℕ → State → List ℕ → Result Heard ReadError → Type 0
 KeepsListLines kind bits file skips left old block new rest (Ok heard) = (lines : List ℕ) × SaysMore old block new rest lines
     × IsAny heard.is_bad lines × IfSome left (λ text. IsKept kind bits file skips (lines_of text) (lines, heard.is_bad, heard.said, heard.text.items))
 KeepsListLines kind bits file skips left old block new rest (Err e) = (lines : List ℕ) × SaysMore old block new rest lines × IsStopped e
-    × IfSome left (λ text. IsPartTold kind file (text_by bits text) lines)
+    × IfSome left (λ text. IsPartTold kind file (text_in bits text) lines)
 
 -- this is kept of a list: what its lines say, or the bytes of a file of look-ups
 abbrev pub IsGivenBy : Text → Given Said → Type 0
-IsGivenBy text (Lines said) = AllSaid text.host_bits (lines_of text.bytes) said
+IsGivenBy text (Lines said) = AllSaid text.form (lines_of text.bytes) said
 IsGivenBy text (Stored bytes) = (begins_file text.bytes ≡ true) × (bytes.items ≡ text.bytes)
 
 -- the lines in error are told of a list
 abbrev pub AreErrorsTold : Kind → List ℕ → Text → List ℕ → Type 0
-AreErrorsTold kind file text lines = (errors : List (ℕ × LineError)) × AreErrors kind text.host_bits 1 (lines_of text.bytes) errors
+AreErrorsTold kind file text lines = (errors : List (ℕ × LineError)) × AreErrors kind text.form 1 (lines_of text.bytes) errors
     × (lines ≡ flat_map (fault_line file) errors)
 
 -- the bytes that are read of what is kept of a list without its lines in error
@@ -174,7 +174,7 @@ good_bytes list = given_bytes list.given list.text.items
 -- these are those of a text
 abbrev pub AreGoodBytes : Bool → Kind → Option Text → List ℕ → Type 0
 AreGoodBytes takes kind contents bytes = (text : Text) → contents ≡ Some text
-    → IsGoodText (takes && begins_file text.bytes) kind text (text_by text.host_bits bytes)
+    → IsGoodText (takes && begins_file text.bytes) kind text (text_in text.form bytes)
 
 -- the same of the list of a file, which may be a file of look-ups, or not, and, if that is wanted, what is read of it
 abbrev pub KeepsList : Bool → Option Text → Kind → List ℕ → Bool → State → State → Result (Kept × Bool) CommandError → Type 0
@@ -201,11 +201,11 @@ abbrev pub list_named : List ℕ → List Kept → Option Kept
 list_named name lists = find (λ list. is_word name list.name.now) lists
 
 -- what is read of a file, of which this is kept, or which is read from elsewhere
-abbrev pub good_file : HostBits → Option Kept → Option Text → Option Text
-good_file bits (Some list) contents = Some (text_by bits (good_bytes list))
-good_file bits None contents = option_map (λ text. text_by bits text.bytes) contents
+abbrev pub good_file : ListForm → Option Kept → Option Text → Option Text
+good_file bits (Some list) contents = Some (text_in bits (good_bytes list))
+good_file bits None contents = option_map (λ text. text_in bits text.bytes) contents
 
-abbrev pub good_files : HostBits → List Kept → (List ℕ → Option Text) → List ℕ → Option Text
+abbrev pub good_files : ListForm → List Kept → (List ℕ → Option Text) → List ℕ → Option Text
 good_files bits lists contents name = good_file bits (list_named name lists) (contents name)
 
 -- what was told of lists, if their bytes are told

@@ -8,7 +8,7 @@ use Rattle.cidr_lists.specs.declared.forms.RowForm.{RowForm}
 use Rattle.netset_commands.specs.Arguments.{Line, line_request}
 use Rattle.netset_commands.specs.Commands.{Request, Compile, IsAnswer}
 use Rattle.netset_commands.specs.Compiled.{IsTableFile}
-use Rattle.netset_commands.specs.Program.{answer_status, contents_by}
+use Rattle.netset_commands.specs.Program.{answer_status, contents_in, contents_of}
 use Rattle.netset_commands.specs.Saving.{with_file}
 use Rattle.netset_commands.specs.declared.errors.CommandError.{CommandError}
 use Rattle.netset_commands.specs.declared.output.answers.Verdict.{Verdict}
@@ -41,7 +41,7 @@ LeavesTo (Some name) contents request old new status =
 
 -- the same of a line of arguments, or of words that are none
 abbrev pub LeavesFound : Result Line (List ℕ) → (List ℕ → Option (List ℕ)) → Option (List (List ℕ × List ℕ)) → Option (List (List ℕ × List ℕ)) → ℕ → Type 0
-LeavesFound (Ok (reading, (target, request))) contents old new status = LeavesTo target (contents_by reading.host_bits contents) request old new status
+LeavesFound (Ok (reading, (target, request))) contents old new status = LeavesTo target (contents_of reading request contents) request old new status
 LeavesFound (Err line) contents old new status = new ≡ old
 
 -- What a run leaves in the folder, from its arguments, the files that it reads and its exit status. A run whose status is

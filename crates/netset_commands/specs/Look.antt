@@ -3,7 +3,7 @@ use Rattle.std.specs.Prelude.{◌≡◌, ℕ, Bool, true, if◌then◌else◌, L
 use Rattle.std.specs.List.{AllZip}
 use Rattle.cidr.specs.declared.family.Family.{Family}
 use Rattle.cidr_lists.specs.Lines.{IsBadBehind}
-use Rattle.cidr_lists.specs.Lists.{IsTooLong, Text, IsFirstBad, lines_of}
+use Rattle.cidr_lists.specs.Lists.{IsTooLong, Text, IsFirstBad, bits_in, lines_of}
 use Rattle.netset_commands.specs.Compiled.{SaysTable}
 use Rattle.netset_commands.specs.Streaming.{IsCutBehind}
 use Rattle.netset_commands.specs.declared.output.answers.Verdict.{Verdict}
@@ -19,7 +19,7 @@ use Rattle.cidr_lists.specs.declared.objects.Telling.{Telling}
 -- why the table of a file is not read: its first line in error, the file or memory
 abbrev pub IsUnreadTable : RowForm → Option Text → List ℕ → CommandError → Type 0
 IsUnreadTable form contents name (error.Line file number e) = (file.now ≡ name) × ((text : Text) → contents ≡ Some text
-    → IsFirstBad (AllZip (RowSays form text.host_bits)) (IsBadRow form text.host_bits) (lines_of text.bytes) number e)
+    → IsFirstBad (AllZip (RowSays form (bits_in text.form))) (IsBadRow form (bits_in text.form)) (lines_of text.bytes) number e)
 IsUnreadTable form contents name (error.Input file why) = file.now ≡ name
 IsUnreadTable form contents name error.NoMemory = Unit {0}
 IsUnreadTable form contents name e = ⊥

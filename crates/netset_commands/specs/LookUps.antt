@@ -10,7 +10,7 @@ use Rattle.cidr_io.specs.Writing.{State, Part, Answered}
 use Rattle.cidr_io.specs.declared.sink.OutputFailed.{OutputFailed}
 use Rattle.cidr_table.specs.model.Prefixes.{IsLookedUp}
 use Rattle.cidr_io.specs.Collecting.{Collects}
-use Rattle.cidr_lists.specs.Lists.{IsTooLong, Text, lines_of}
+use Rattle.cidr_lists.specs.Lists.{IsTooLong, Text, bits_in, lines_of}
 use Rattle.cidr_lists.specs.Forms.{IsBadRow, RowSays}
 use Rattle.cidr_lists.specs.Tables.{IsTable, Stores, Pushes, kept, value_at}
 use Rattle.netset_commands.specs.Look.{IsUnreadTable}
@@ -21,7 +21,7 @@ use Rattle.cidr_lists.specs.declared.forms.RowForm.{RowForm}
 use Rattle.netset_commands.specs.declared.errors.CommandError.{CommandError}
 use Rattle.netset_commands.specs.declared.errors.CommandError.TheVariants as error
 use Rattle.cidr_lists.specs.declared.errors.LineError.{LineError}
-use Rattle.cidr_lists.specs.declared.lines.HostBits.{HostBits}
+use Rattle.cidr_lists.specs.declared.records.ListForm.{ListForm}
 use Rattle.netset_commands.specs.declared.errors.ReadError.{ReadError}
 use Rattle.netset_commands.specs.declared.errors.Reason.TheVariants.{Unknown}
 use Rattle.netset_commands.specs.declared.errors.ReadError.TheVariants.{Line, Input, NoMemory}
@@ -64,16 +64,16 @@ IsErrorAt IsBad line number Input = ⊥
 IsErrorAt IsBad line number NoMemory = Unit {0}
 
 -- the row that a line says, if it says one, comes behind those before
-abbrev pub AddsRow : RowForm → HostBits → List ℕ → ℕ → Rows → Rows → Result (Unit {0}) ReadError → Type 0
-AddsRow form bits line number old new (Ok _) = (said : Option (IpCidr × List ℕ)) × RowSays form bits line said × Adds old new said
-AddsRow form bits line number old new (Err e) = IsErrorAt (IsBadRow form bits) line number e
+abbrev pub AddsRow : RowForm → ListForm → List ℕ → ℕ → Rows → Rows → Result (Unit {0}) ReadError → Type 0
+AddsRow form bits line number old new (Ok _) = (said : Option (IpCidr × List ℕ)) × RowSays form (bits_in bits) line said × Adds old new said
+AddsRow form bits line number old new (Err e) = IsErrorAt (IsBadRow form (bits_in bits)) line number e
 
 -- the rows that a text says, or its first line in error, or nothing of the text where reading has stopped
 abbrev pub ReadsRows : RowForm → Text → Result Rows ReadError → Type 0
 ReadsRows form text (Ok rows) = (said : List (Option (IpCidr × List ℕ)))
-    × AllZip (RowSays form text.host_bits) (lines_of text.bytes) said × Stores rows said
+    × AllZip (RowSays form (bits_in text.form)) (lines_of text.bytes) said × Stores rows said
 ReadsRows form text (Err (Line number e)) = (said : List (Option (IpCidr × List ℕ)))
-    × AreBeforeError (RowSays form text.host_bits) (IsBadRow form text.host_bits) text.bytes said number e
+    × AreBeforeError (RowSays form (bits_in text.form)) (IsBadRow form (bits_in text.form)) text.bytes said number e
 ReadsRows form text (Err Input) = Unit {0}
 ReadsRows form text (Err NoMemory) = Unit {0}
 

@@ -19,19 +19,19 @@ abbrev pub IsSeparator : Option (List ℕ) → Separator → Type 0
 IsSeparator None separator = separator ≡ WhiteSpace
 IsSeparator (Some text) separator = (byte : ℕ) × (text ≡ byte ∷ []) × (separator ≡ Byte byte)
 
--- the number is the one of the field at this place, from 0 on
-abbrev pub IsFieldPlace : List ℕ → ℕ → Type 0
-IsFieldPlace number place = IsNumber number (place + 1) × (place + 1 < 2 ^ 64)
-
--- the field that is read of each line
+-- the field that is read of each line: that of a number stands at a place from 0 on
 abbrev pub IsChosen : Choice → Column → Type 0
 IsChosen FirstField column = (column.place ≡ 0) × (column.separator ≡ WhiteSpace)
-IsChosen (FieldOf number separator) column = IsFieldPlace number column.place × IsSeparator separator column.separator
+IsChosen (FieldOf number separator) column = (IsNumber number (column.place + 1) × (column.place + 1 < 2 ^ 64)) × IsSeparator separator column.separator
 
 -- the address that `look` takes of each line: with --any the first anywhere, and else that of the first field, or of this one
 abbrev pub IsAsked : Choice → Bool → Asked → Type 0
 IsAsked FirstField any asked = asked ≡ (if any then Anywhere else First)
 IsAsked (FieldOf number separator) any asked = (column : Column) × IsChosen (FieldOf number separator) column × (asked ≡ Field column)
+
+-- the number is the one of the field at this place, from 0 on
+abbrev pub IsFieldPlace : List ℕ → ℕ → Type 0
+IsFieldPlace number place = IsNumber number (place + 1) × (place + 1 < 2 ^ 64)
 
 -- the number is none from 1 on
 abbrev pub IsBadNumber : List ℕ → List ℕ → ArgumentError → Type 0

@@ -1,6 +1,6 @@
 -- What a run of the program does with its arguments, the files, standard output and standard error.
-use Rattle.std.specs.Prelude.{◌≡◌, ◌≢◌, ℕ, ◌≤◌, max, Bool, true, false, List, [], ◌∷◌, ◌++◌, ◌⊎◌, codes, Option, Some, None, option_map, Result, Ok, Err, IfErr}
-use Rattle.std.specs.List.{AllZip}
+use Rattle.std.specs.Prelude.{◌≡◌, ◌≢◌, ℕ, ◌≤◌, max, Bool, true, false, if◌then◌else◌, List, [], ◌∷◌, ◌++◌, ◌⊎◌, drop, replicate, codes, Option, Some, None, option_map, Result, Ok, Err, IfErr}
+use Rattle.std.specs.List.{AllZip, position_or_len}
 use Rattle.cidr.specs.texts.Messages.{parse_message}
 use Rattle.cidr.specs.either.IpText.{IsIpNetworkText}
 use Rattle.cidr.specs.declared.cidr.combined.IpCidr.{IpCidr}
@@ -9,9 +9,9 @@ use Rattle.cidr_io.specs.Arguments.{AreArguments, IsNotText}
 use Rattle.cidr_io.specs.Shown.{excerpt, shown}
 use Rattle.cidr_io.specs.Writing.{State, Answered, Tells}
 use Rattle.cidr_io.specs.declared.sink.OutputFailed.{OutputFailed}
-use Rattle.cidr_lists.specs.Lists.{Text, text_by, ListSays, IsFirstError}
+use Rattle.cidr_lists.specs.Lists.{Text, text_in, ListSays, IsFirstError, is_line_feed}
 use Rattle.netset_commands.specs.Arguments.{Line, line_request}
-use Rattle.netset_commands.specs.Commands.{Request, Lists, Styled, NotIn, Diff, Same, Free, Acl, Split, Check, Which, Match, MatchEach, Look, Compile, Smallest, Describe, Class, Single, ReadsInputTwice, input_name, read_files, AreLists, AreTold, HoldsOf, IsAnswer}
+use Rattle.netset_commands.specs.Commands.{Request, Lists, Styled, NotIn, Diff, Same, Free, Acl, Split, Check, Which, Match, MatchEach, Look, Compile, Smallest, Describe, Class, Single, ReadsInputTwice, headed_tables, input_name, read_files, AreLists, AreTold, HoldsOf, IsAnswer}
 use Rattle.cidr_lists.specs.Rules.{compared_with}
 use Rattle.netset_commands.specs.Acl.{IsUnreadAcl}
 use Rattle.netset_commands.specs.Causes.{Cause, FileMayFail, Refusals}
@@ -48,6 +48,8 @@ use Rattle.cidr_lists.specs.declared.columns.Column.{Column}
 use Rattle.cidr_lists.specs.declared.fields.Asked.{Asked}
 use Rattle.cidr_lists.specs.declared.forms.RowForm.{RowForm}
 use Rattle.cidr_lists.specs.declared.lines.HostBits.{HostBits}
+use Rattle.cidr_lists.specs.declared.records.ListForm.{ListForm}
+use Rattle.cidr_lists.specs.declared.records.ListForm.TheVariants.{Networks}
 use Rattle.netset_commands.specs.declared.output.answers.Verdict.{Verdict}
 use Rattle.netset_commands.specs.declared.output.answers.Verdict.TheVariants.{Yes, No}
 use Rattle.netset_commands.specs.declared.input.keeping.Kept.{Kept}
@@ -195,8 +197,22 @@ IsCaused contents refused (Compile form table name) (Err (error.File file NotSav
 IsCaused contents refused request r = IfErr r (Cause (FileMayFail contents) refused.memory)
 
 -- the lists of the files, read this way
+abbrev pub contents_in : ListForm → (List ℕ → Option (List ℕ)) → List ℕ → Option Text
+contents_in form contents name = option_map (text_in form) (contents name)
+
+-- the same of lists of networks
 abbrev pub contents_by : HostBits → (List ℕ → Option (List ℕ)) → List ℕ → Option Text
-contents_by bits contents name = option_map (text_by bits) (contents name)
+contents_by bits contents name = contents_in (Networks bits) contents name
+
+-- these bytes, of which the first line is a header and says nothing: those before the first line feed, or all where there is none, are
+-- spaces
+abbrev pub below_header : List ℕ → List ℕ
+below_header bytes = replicate (position_or_len is_line_feed bytes) 32 ++ drop (position_or_len is_line_feed bytes) bytes
+
+-- the files, of which those of these names begin with a header. It goes by the name: a file that `look` looks up is read so too if
+-- it has the name of the table.
+abbrev pub headed : List (List ℕ) → (List ℕ → Option (List ℕ)) → List ℕ → Option (List ℕ)
+headed tables contents name = if has name tables then option_map below_header (contents name) else contents name
 
 -- the message of an argument that is wrong
 abbrev pub argument_message : ArgumentError → List ℕ
@@ -313,11 +329,15 @@ RunsRequest Skip contents refused request closed out new_out err new_err status 
 abbrev pub IsReadTwice : CommandError → Type 0
 IsReadTwice e = IsBadArgument (λ text why. (text ≡ input_name) × (why ≡ bad.ReadTwice)) e
 
+-- the lists of the files of a request, read this way
+abbrev pub contents_of : Reading → Request → (List ℕ → Option (List ℕ)) → List ℕ → Option Text
+contents_of reading request contents = contents_in reading.list_form (headed (headed_tables request reading.table_header) contents)
+
 -- what becomes of a request by itself: one that reads the standard input more than once is not answered
 abbrev pub RunsOnce : Reading → (List ℕ → Option (List ℕ)) → Refusals → Request → Bool → State → State → State → State → ℕ → Type 0
 RunsOnce reading contents refused request closed out new_out err new_err status =
     (ReadsInputTwice request × (e : CommandError) × IsReadTwice e × EndsWith e closed out new_out err new_err status)
-    ⊎ (¬ (ReadsInputTwice request) × RunsRequest reading.at_fault (contents_by reading.host_bits contents) refused request closed out new_out err new_err status)
+    ⊎ (¬ (ReadsInputTwice request) × RunsRequest reading.at_fault (contents_of reading request contents) refused request closed out new_out err new_err status)
 
 -- an output that nothing was written to yet
 abbrev pub empty : State
@@ -383,7 +403,7 @@ IntoFound name reading contents refused request err new_err status = (closed : B
 
 -- of lists in which lines are in error this is kept, and a request was answered by the other lines
 abbrev pub RunsGood : List Kept → (List ℕ → Option Text) → Refusals → Request → Bool → State → State → State → State → ℕ → Type 0
-RunsGood lists contents refused request closed out new_out err new_err status = (bits : HostBits) × (answered : ℕ)
-    × ((name : List ℕ) (text : Text) → contents name ≡ Some text → text.host_bits ≡ bits)
+RunsGood lists contents refused request closed out new_out err new_err status = (bits : ListForm) × (answered : ℕ)
+    × ((name : List ℕ) (text : Text) → contents name ≡ Some text → text.form ≡ bits)
     × RunsAnswer (good_files bits lists contents) (record { memory = refused.memory; folder = true }) request closed out new_out err new_err answered
     × (status ≡ max answered 2)

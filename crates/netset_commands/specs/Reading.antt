@@ -5,10 +5,10 @@ pub use Rattle.cidr_io.specs.Lines.{IsNextLine}
 use Rattle.cidr_io.specs.declared.lines.ReadError.{ReadError as NoLine}
 use Rattle.cidr_io.specs.declared.lines.ReadError.TheVariants.{Failed}
 use Rattle.cidr_io.specs.declared.lines.ReadError.TheVariants as no_line
-use Rattle.cidr_lists.specs.Lists.{Text, LineSays, IsInError, ListSays, IsFirstError, line_networks, networks_in}
+use Rattle.cidr_lists.specs.Lists.{Text, SaysBy, IsBadBy, ListSays, IsFirstError, line_networks, networks_in}
 use Rattle.netset_commands.specs.declared.errors.ReadError.{ReadError}
 use Rattle.netset_commands.specs.declared.errors.ReadError.TheVariants.{Line, Input, NoMemory}
-use Rattle.cidr_lists.specs.declared.lines.HostBits.{HostBits}
+use Rattle.cidr_lists.specs.declared.records.ListForm.{ListForm}
 use Rattle.cidr_lists.specs.declared.lists.Lists.{Lists}
 use Rattle.cidr_lists.specs.Reading.{Grows}
 
@@ -30,14 +30,14 @@ IsReadError text Input = Unit {0}
 IsReadError text NoMemory = Unit {0}
 
 -- the error is that of this line, or the line is not known to have one
-abbrev pub IsLineError : HostBits → List ℕ → ℕ → ReadError → Type 0
-IsLineError bits line number (Line n e) = (n ≡ number) × IsInError bits line e
+abbrev pub IsLineError : ListForm → List ℕ → ℕ → ReadError → Type 0
+IsLineError bits line number (Line n e) = (n ≡ number) × IsBadBy bits line e
 IsLineError bits line number Input = ⊥
 IsLineError bits line number NoMemory = Unit {0}
 
 -- the networks that a line says come behind those before
-abbrev pub AddsLine : HostBits → List ℕ → ℕ → Lists → Lists → Result (Unit {0}) ReadError → Type 0
-AddsLine bits line number old new (Ok _) = (said : List IpCidr) × LineSays bits line said × Grows old new (λ family. line_networks family said)
+abbrev pub AddsLine : ListForm → List ℕ → ℕ → Lists → Lists → Result (Unit {0}) ReadError → Type 0
+AddsLine bits line number old new (Ok _) = (said : List IpCidr) × SaysBy bits line said × Grows old new (λ family. line_networks family said)
 AddsLine bits line number old new (Err e) = IsLineError bits line number e
 
 -- the networks that a text says come behind those before

@@ -6,7 +6,7 @@ use Rattle.netset_commands.specs.declared.commands.describe.Description.{Descrip
 use Rattle.netset_commands.specs.declared.commands.describe.Description.TheVariants.{Zones, Masks}
 use Rattle.netset_commands.specs.declared.commands.operations.Operation.{Operation}
 use Rattle.netset_commands.specs.declared.commands.operations.Operation.TheVariants.{Merge, Nets, Minus, And, Not, Ranges, Count}
-use Rattle.netset_commands.specs.declared.commands.table.TheConstants.{COMMANDS, MERGE, NETS, MINUS, AND, NOT, RANGES, COUNT, DIFF, SAME, FREE, ACL, CHECK, WHICH, MATCH, LOOK, COMPILE, SMALLEST, REVERSE, MASK, CLASS, SHOW, SPLIT, NTH, HELP, VERSION, OPTIONS, HOST_BITS, KEEP_GOING, SKIP_BAD, FORMS, FORMAT, OUTPUT, LISTS}
+use Rattle.netset_commands.specs.declared.commands.table.TheConstants.{COMMANDS, MERGE, NETS, MINUS, AND, NOT, RANGES, COUNT, DIFF, SAME, FREE, ACL, CHECK, WHICH, MATCH, LOOK, COMPILE, SMALLEST, REVERSE, MASK, CLASS, SHOW, SPLIT, NTH, HELP, VERSION, OPTIONS, HOST_BITS, KEEP_GOING, SKIP_BAD, FORMS, TABLE_SEPARATOR, FORMAT, OUTPUT, LISTS}
 use Rattle.netset_commands.specs.declared.commands.table.Verb.{Verb}
 use Rattle.netset_commands.specs.declared.commands.table.Verb.TheVariants.{Lists, Diff, Same, Free, Acl, Check, Which, Match, Look, Compile, Smallest, Describe, Class, Show, Split, Nth, Help, Version}
 use denote.Ref.{Bor}
@@ -50,19 +50,23 @@ style_values = codes "--format" ∷ codes "--prefix" ∷ codes "--suffix" ∷ co
 abbrev pub output_values : List (List ℕ)
 output_values = codes "-o" ∷ []
 
+-- the same with the form of lists
+abbrev pub list_values : List (List ℕ)
+list_values = codes "--form" ∷ style_values
+
 -- the operands of the commands that need two lists
 abbrev pub two_lists : List (List ℕ)
 two_lists = codes "A" ∷ codes "B" ∷ []
 
 -- of an operation on lists its name, the options with a value, the operands that it needs and what the page says
 abbrev pub lists_row : Operation → List ℕ × (List (List ℕ) × (List (List ℕ) × List ℕ))
-lists_row Merge = (codes "merge", (style_values, ([], MERGE.now)))
-lists_row Nets = (codes "nets", (style_values, ([], NETS.now)))
-lists_row Minus = (codes "minus", (style_values, (two_lists, MINUS.now)))
-lists_row And = (codes "and", (style_values, (two_lists, AND.now)))
-lists_row Not = (codes "not", (codes "--in" ∷ style_values, ([], NOT.now)))
-lists_row Ranges = (codes "ranges", (output_values, ([], RANGES.now)))
-lists_row Count = (codes "count", (output_values, ([], COUNT.now)))
+lists_row Merge = (codes "merge", (list_values, ([], MERGE.now)))
+lists_row Nets = (codes "nets", (list_values, ([], NETS.now)))
+lists_row Minus = (codes "minus", (list_values, (two_lists, MINUS.now)))
+lists_row And = (codes "and", (list_values, (two_lists, AND.now)))
+lists_row Not = (codes "not", (codes "--in" ∷ list_values, ([], NOT.now)))
+lists_row Ranges = (codes "ranges", (codes "--form" ∷ output_values, ([], RANGES.now)))
+lists_row Count = (codes "count", (codes "--form" ∷ output_values, ([], COUNT.now)))
 
 -- of what is told of networks its name, the operand that it needs and what the page says
 abbrev pub told_row : Description → List ℕ × (List (List ℕ) × List ℕ)
@@ -71,20 +75,20 @@ told_row Masks = (codes "mask", (codes "NET|LEN|FILE" ∷ [], MASK.now))
 
 abbrev pub row_of : Verb → Row
 row_of (Lists op) = row (lists_row op).0 list_options (lists_row op).1.0 (lists_row op).1.1.0 None (lists_row op).1.1.1
-row_of (Describe what) = row (told_row what).0 list_options output_values (told_row what).1.0 (Some 1) (told_row what).1.1
-row_of Diff = row (codes "diff") list_options (codes "--format" ∷ output_values) two_lists (Some 2) DIFF.now
-row_of Same = row (codes "same") list_options (codes "--form" ∷ codes "--table-separator" ∷ output_values) two_lists (Some 2) SAME.now
-row_of Free = row (codes "free") (codes "--all" ∷ list_options) (codes "--count" ∷ style_values) (codes "POOL" ∷ codes "LEN" ∷ []) None FREE.now
+row_of (Describe what) = row (told_row what).0 list_options (codes "--form" ∷ output_values) (told_row what).1.0 (Some 1) (told_row what).1.1
+row_of Diff = row (codes "diff") list_options (codes "--form" ∷ codes "--format" ∷ output_values) two_lists (Some 2) DIFF.now
+row_of Same = row (codes "same") (codes "--table-header" ∷ list_options) (codes "--form" ∷ codes "--table-separator" ∷ output_values) two_lists (Some 2) SAME.now
+row_of Free = row (codes "free") (codes "--all" ∷ list_options) (codes "--count" ∷ list_values) (codes "POOL" ∷ codes "LEN" ∷ []) None FREE.now
 row_of Acl = row (codes "acl") (codes "--shadowed" ∷ codes "--host-bits" ∷ codes "--masks" ∷ help_options) (codes "--diff" ∷ style_values) (codes "RULES" ∷ []) (Some 1) ACL.now
 row_of Check = row (codes "check") keep_options [] [] None CHECK.now
 row_of Which = row (codes "which") keep_options [] (codes "ADDR" ∷ []) None WHICH.now
-row_of Match = row (codes "match") (codes "--any" ∷ codes "--header" ∷ codes "-v" ∷ codes "-c" ∷ codes "-q" ∷ list_options) (codes "--field" ∷ codes "--separator" ∷ []) (codes "LIST" ∷ []) None MATCH.now
-row_of Look = row (codes "look") (codes "--any" ∷ codes "--header" ∷ codes "--keep" ∷ list_options) (codes "--field" ∷ codes "--separator" ∷ codes "--form" ∷ codes "--table-separator" ∷ codes "--format" ∷ []) (codes "TABLE" ∷ []) (Some 2) LOOK.now
-row_of Compile = row (codes "compile") (codes "--host-bits" ∷ codes "--masks" ∷ codes "-k" ∷ help_options) (codes "--form" ∷ codes "--table-separator" ∷ []) (codes "TABLE" ∷ codes "OUT" ∷ []) (Some 2) COMPILE.now
-row_of Smallest = row (codes "smallest") (codes "--holes" ∷ list_options) (codes "--form" ∷ codes "--table-separator" ∷ output_values) (codes "TABLE" ∷ []) (Some 1) SMALLEST.now
+row_of Match = row (codes "match") (codes "--any" ∷ codes "--header" ∷ codes "-v" ∷ codes "-c" ∷ codes "-q" ∷ list_options) (codes "--field" ∷ codes "--separator" ∷ codes "--form" ∷ []) (codes "LIST" ∷ []) None MATCH.now
+row_of Look = row (codes "look") (codes "--any" ∷ codes "--header" ∷ codes "--keep" ∷ codes "--table-header" ∷ list_options) (codes "--field" ∷ codes "--separator" ∷ codes "--form" ∷ codes "--table-separator" ∷ codes "--format" ∷ []) (codes "TABLE" ∷ []) (Some 2) LOOK.now
+row_of Compile = row (codes "compile") (codes "--table-header" ∷ codes "--host-bits" ∷ codes "--masks" ∷ codes "-k" ∷ help_options) (codes "--form" ∷ codes "--table-separator" ∷ []) (codes "TABLE" ∷ codes "OUT" ∷ []) (Some 2) COMPILE.now
+row_of Smallest = row (codes "smallest") (codes "--holes" ∷ codes "--table-header" ∷ list_options) (codes "--form" ∷ codes "--table-separator" ∷ output_values) (codes "TABLE" ∷ []) (Some 1) SMALLEST.now
 row_of Class = row (codes "class") help_options [] (codes "ADDR|FILE" ∷ []) (Some 1) CLASS.now
 row_of Show = row (codes "show") help_options [] (codes "HOST" ∷ []) (Some 1) SHOW.now
-row_of Split = row (codes "split") list_options style_values (codes "NET|FILE" ∷ codes "LEN" ∷ []) (Some 2) SPLIT.now
+row_of Split = row (codes "split") list_options list_values (codes "NET|FILE" ∷ codes "LEN" ∷ []) (Some 2) SPLIT.now
 row_of Nth = row (codes "nth") help_options [] (codes "NET" ∷ codes "INDEX" ∷ []) (Some 2) NTH.now
 row_of Help = row (codes "help") help_options [] [] (Some 1) HELP.now
 row_of Version = row (codes "--version") help_options [] [] (Some 0) VERSION.now
@@ -107,5 +111,5 @@ note_of command option note = if has option (row_of command).options || takes_va
 abbrev pub help_text : Option Verb → List ℕ
 help_text (Some command) =
     concat (about_of command ∷ note_of command (codes "--host-bits") HOST_BITS.now ∷ note_of command (codes "-k") KEEP_GOING.now ∷ note_of command (codes "--skip-bad") SKIP_BAD.now
-    ∷ note_of command (codes "--form") FORMS.now ∷ note_of command (codes "--prefix") FORMAT.now ∷ note_of command (codes "-o") OUTPUT.now ∷ [])
-help_text None = flat_map about_of commands ++ concat (OPTIONS.now ∷ HOST_BITS.now ∷ KEEP_GOING.now ∷ SKIP_BAD.now ∷ FORMS.now ∷ FORMAT.now ∷ OUTPUT.now ∷ LISTS.now ∷ [])
+    ∷ note_of command (codes "--form") FORMS.now ∷ note_of command (codes "--table-separator") TABLE_SEPARATOR.now ∷ note_of command (codes "--prefix") FORMAT.now ∷ note_of command (codes "-o") OUTPUT.now ∷ [])
+help_text None = flat_map about_of commands ++ concat (OPTIONS.now ∷ HOST_BITS.now ∷ KEEP_GOING.now ∷ SKIP_BAD.now ∷ FORMS.now ∷ TABLE_SEPARATOR.now ∷ FORMAT.now ∷ OUTPUT.now ∷ LISTS.now ∷ [])

@@ -1,6 +1,6 @@
 -- Requests as they are mostly typed, and what a run of one has written that ends with status 0 or 1: its answer, and nothing
 -- else.
-use Rattle.std.specs.Prelude.{◌≡◌, ◌⊎◌, ◌||◌, ℕ, true, false, List, [], ◌∷◌, ◌++◌, codes, Option, Some, None}
+use Rattle.std.specs.Prelude.{◌≡◌, ◌⊎◌, ◌&&◌, ◌||◌, ℕ, true, false, List, [], ◌∷◌, ◌++◌, codes, Option, Some, None}
 use Rattle.std.specs.List.{flat_map, list_all, list_any}
 use Rattle.cidr.specs.declared.family.Family.TheVariants.{Ipv4, Ipv6}
 use Rattle.cidr_io.specs.Writing.{State, Whole, Tells}
@@ -9,14 +9,15 @@ use Rattle.cidr_lists.specs.declared.columns.Separator.TheVariants.{WhiteSpace, 
 use Rattle.cidr_lists.specs.declared.formats.LineFormat.TheVariants.{Plain, Json}
 use Rattle.cidr_lists.specs.declared.forms.RowLayout.{RowLayout}
 use Rattle.cidr_lists.specs.declared.forms.RowLayout.TheVariants.{Fields, Pfx2as, Routes}
+use Rattle.cidr_lists.specs.declared.records.ListForm.TheVariants.{Networks}
 use Rattle.cidr_lists.specs.Formats.{IsBare, Style, format_name, line_style}
 use Rattle.cidr_lists.specs.Rules.{compared_with, is_shadowed, style_asked}
-use Rattle.netset_commands.specs.Arguments.{asks_help, is_option, missing_operand, takes, tells_two_ways}
-use Rattle.netset_commands.specs.Commands.{Request, Lists, Styled, NotIn, Diff, Same, Free, Acl, Split, Check, Which, Match, MatchEach, Look, Compile, Smallest, Describe, Class, Single, Help, Version, IsAnswer, bits_of, input_name}
+use Rattle.netset_commands.specs.Arguments.{asks_help, is_option, missing_operand, takes}
+use Rattle.netset_commands.specs.Commands.{Request, Lists, Styled, NotIn, Diff, Same, Free, Acl, Split, Check, Which, Match, MatchEach, Look, Compile, Smallest, Describe, Class, Single, Help, Version, IsAnswer, bits_of, headed_tables, input_name}
 use Rattle.netset_commands.specs.Free.{First, Count, All}
 use Rattle.netset_commands.specs.Matching.{has}
 use Rattle.netset_commands.specs.Picking.{Choice, FirstField, FieldOf}
-use Rattle.netset_commands.specs.Program.{answer_status, contents_by}
+use Rattle.netset_commands.specs.Program.{answer_status, contents_in, headed}
 use Rattle.netset_commands.specs.Single.{Show, Nth}
 use Rattle.netset_commands.specs.Table.{name_of, takes_value}
 use Rattle.netset_commands.specs.declared.commands.operations.Operation.TheVariants.{Not}
@@ -28,7 +29,7 @@ use Rattle.netset_commands.specs.declared.output.answers.Verdict.{Verdict}
 -- its value or none, and as many operands as it needs: words that don't begin with -, or - itself
 abbrev pub AreTyped : Verb → List (List ℕ) → List (List ℕ) → List (List ℕ) → List (List ℕ) → Type 0
 AreTyped command options valued operands words = (words ≡ name_of command ∷ (options ++ (valued ++ operands)))
-    × (list_all (takes command) options ≡ true) × ((asks_help options || tells_two_ways options) ≡ false)
+    × (list_all (takes command) options ≡ true) × ((asks_help options || (has (codes "-k") options && has (codes "--skip-bad") options)) ≡ false)
     × (list_any is_option operands ≡ false) × (missing_operand command operands ≡ None)
 
 -- the same of a list and a file, or without the file of a list and the standard input
@@ -97,4 +98,5 @@ IsTyped words options Version = AreTyped verb.Version options [] [] words
 abbrev pub AnswersTyped : Option (List (List ℕ)) → (List ℕ → Option (List ℕ)) → State → State → State → State → ℕ → Type 0
 AnswersTyped words contents out new_out err new_err status = (given options : List (List ℕ)) (request : Request) (verdict : Verdict)
     → words ≡ Some given → IsTyped given options request → status ≡ answer_status verdict
-    → (answer : List ℕ) × IsAnswer (contents_by (bits_of options) contents) request answer verdict × Whole out new_out answer × Tells err new_err []
+    → (answer : List ℕ) × IsAnswer (contents_in (Networks (bits_of options)) (headed (headed_tables request (has (codes "--table-header") options)) contents)) request answer verdict
+    × Whole out new_out answer × Tells err new_err []

@@ -2,7 +2,7 @@
 ghost use Rattle.std.specs.Prelude.{◌≡◌, ◌<◌, ◌++◌, count_by, true, IfOk, OnErr};
 ghost use Rattle.std.specs.Bool.{Decides};
 ghost use Rattle.netset_commands.specs.Command.{request_of};
-ghost use Rattle.netset_commands.specs.Commands.{AreLists, HasNoFirstList, IsNoList, fault_way, input_name, lists_of, others_of, reading_of};
+ghost use Rattle.netset_commands.specs.Commands.{AreLists, HasNoFirstList, IsNoList, fault_way, input_name, bits_of, lists_of, others_of, reading_of, headed_tables};
 ghost use Rattle.netset_commands.specs.Keeping.{kind_of, takes_file};
 ghost use Rattle.netset_commands.specs.Matching.{is_word};
 ghost use Rattle.netset_commands.specs.Operands.{ReadsAsNetwork};
@@ -45,6 +45,7 @@ use cidr_io::memory::Memory;
 use cidr_lists::formats::{LineFormat, Style};
 use cidr_lists::forms::{Kind, RowForm};
 use cidr_lists::lines::HostBits;
+use cidr_lists::records::ListForm;
 use std::alloc::{AllocError, Global};
 
 /// A command and its arguments.
@@ -107,10 +108,12 @@ pub enum AtFault {
 /// How lists are read.
 #[derive(Clone, Copy, Drop)]
 pub struct Reading {
-    /// What is done with a set bit after the prefix of a network.
-    pub host_bits: HostBits,
+    /// What their lines are, and what is done with a set bit after the prefix of a network.
+    pub list_form: ListForm,
     /// What is done at a line in error.
     pub at_fault: AtFault,
+    /// Whether the first line of a table is a header.
+    pub table_header: bool,
 }
 
 /// Whether a file is the standard input.
@@ -199,6 +202,34 @@ impl<'a> Command<'a> {
             | Command::Single(_)
             | Command::Help(_)
             | Command::Version => {}
+        }
+        Ok(names)
+    }
+
+    /// The tables that it names, where each has a header.
+    pub fn tables<M: Memory>(
+        &self,
+        memory: &mut M,
+        header: bool,
+    ) -> Result<Vec<&'a str>, AllocError>
+        ensures names { IfOk result (λ names. texts names.items ≡ headed_tables (request_of self.now) header) }
+        ensures refused { OnErr result (M.refused memory.new ≡ true) }
+    {
+        let mut names = Vec::new(memory.alloc());
+        if !header {
+            return Ok(names);
+        }
+        match self {
+            Command::Same(_, old, new) => {
+                memory.push(&mut names, *old)?;
+                memory.push(&mut names, *new)?;
+            }
+            Command::Look(_, _, _, table, _)
+            | Command::Compile(_, table, _)
+            | Command::Smallest(_, _, table) => {
+                memory.push(&mut names, *table)?;
+            }
+            _ => {}
         }
         Ok(names)
     }
@@ -316,12 +347,20 @@ fn fault_way(keeps: bool, skips: bool) -> AtFault
     }
 }
 
-/// How lists are read by these options.
-pub fn reading_of(options: &[&str]) -> Reading
-    ensures { result ≡ reading_of (texts options.now) }
+/// How networks are read by these options.
+pub fn bits_of(options: &[&str]) -> HostBits
+    ensures { result ≡ bits_of (texts options.now) }
+{
+    HostBits::by(has(options, "--host-bits"), has(options, "--masks"))
+}
+
+/// How lists of this form are read by these options.
+pub fn reading_of(list_form: ListForm, options: &[&str]) -> Reading
+    ensures { result ≡ reading_of list_form (texts options.now) }
 {
     Reading {
-        host_bits: HostBits::by(has(options, "--host-bits"), has(options, "--masks")),
+        list_form,
         at_fault: fault_way(has(options, "-k"), has(options, "--skip-bad")),
+        table_header: has(options, "--table-header"),
     }
 }

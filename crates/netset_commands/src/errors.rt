@@ -61,6 +61,8 @@ pub enum Misfit {
     WithDiff,
     /// There is no form of tables of this name.
     NoForm,
+    /// There is no form of lists of this name.
+    NoListForm,
     /// It is to part fields, and not one byte.
     NotOneByte,
     /// It is an option that does not go with `--form`.

@@ -4,6 +4,7 @@ pub mod begun;
 pub mod entries;
 pub mod files;
 pub mod good;
+pub mod headed;
 pub mod keeping;
 pub mod lists;
 pub mod numbers;

@@ -12,11 +12,11 @@ ghost use Rattle.cidr_lists.specs.Formats.{style_in};
 ghost use Rattle.netset_commands.specs.Sets.{Prints};
 ghost use Rattle.cidr_lists.specs.Sets.{networks_of};
 ghost use Rattle.netset_commands.specs.declared.errors.CommandError.{CommandError};
-ghost use Rattle.netset_commands.specs.Program.{AnswersRequest, IntoFound, IsCaused, IsNotSaved, IsReadTwice, IsWrong, KeepsGoing, Runs, RunsFound, RunsGood, contents_by};
+ghost use Rattle.netset_commands.specs.Program.{AnswersRequest, IntoFound, IsCaused, IsNotSaved, IsReadTwice, IsWrong, KeepsGoing, Runs, RunsFound, RunsGood, contents_in, RunsRequest, contents_of};
 ghost use Rattle.netset_commands.specs.Typed.{AnswersTyped};
 
 use crate::commands::acl::acl;
-use crate::commands::arguments::{Parts, command_of, line_parts, target_of};
+use crate::commands::arguments::{Parts, command_of, line_parts, reading_in, target_of};
 use crate::commands::changes::diff;
 use crate::commands::check::check;
 use crate::commands::class::class;
@@ -36,10 +36,11 @@ use crate::commands::smallest::smallest;
 use crate::commands::split::split;
 use crate::commands::table::Verb;
 use crate::commands::which::{address_of, which};
-use crate::commands::{AtFault, Command, Reading, name_input_twice, reading_of};
+use crate::commands::{AtFault, Command, Reading, name_input_twice};
 use crate::errors::{ArgumentError, CommandError, FileError, UsageError};
 use crate::input::files::{Files, ReadBy, Sources};
 use crate::input::good::GoodLists;
+use crate::input::headed::Headed;
 use crate::input::keeping::{Kept, Loaded, load};
 use crate::input::several::read_several;
 use crate::output::answers::{Verdict, by_output};
@@ -221,7 +222,7 @@ fn answer_good<'a, M: Memory, F: Sources, O: Output, E: Sink>(
     let good = GoodLists {
         lists,
         sources,
-        host_bits: sources.host_bits(),
+        list_form: sources.list_form(),
     };
     let answered = answer(memory, &good, &mut Sealed, command, out);
     report(&answered, out.is_closed(), err).max(2)
@@ -281,6 +282,34 @@ fn read_twice<'a>() -> CommandError<'a>
     CommandError::Argument("-", ArgumentError::ReadTwice)
 }
 
+/// Answers a command whose lists are read this way from these files, reports and returns the exit status.
+fn answer_read<'a, M: Memory, F: Files, D: Folder, O: Output, E: Sink>(
+    memory: &mut M,
+    files: &F,
+    folder: &mut D,
+    reading: Reading,
+    command: Command<'a>,
+    out: &mut O,
+    err: &mut E,
+) -> u8
+    ensures runs { RunsRequest reading.at_fault (contents_in reading.list_form (F.contents files.now)) (record { memory = M.refused memory.new; folder = D.refused folder.new })
+        (request_of command.entry) (O.closed out.new) (O.Sink.state out.old) (O.Sink.state out.new) (E.state err.old) (E.state err.new) result }
+    ensures leaves { LeavesBy (contents_in reading.list_form (F.contents files.now)) (request_of command.entry) (D.saved folder.old) (D.saved folder.new) result }
+{
+    let sources = ReadBy {
+        files,
+        list_form: reading.list_form,
+    };
+    match reading.at_fault {
+        AtFault::Stop => {
+            let answered = answer(memory, &sources, folder, command, out);
+            report(&answered, out.is_closed(), err)
+        }
+        AtFault::Tell => keep_going(memory, &sources, folder, false, command, out, err),
+        AtFault::Skip => keep_going(memory, &sources, folder, true, command, out, err),
+    }
+}
+
 /// Answers a command whose lists are read this way, reports and returns the exit status.
 fn answer_once<'a, M: Memory, F: Files, D: Folder, O: Output, E: Sink>(
     memory: &mut M,
@@ -301,18 +330,14 @@ fn answer_once<'a, M: Memory, F: Files, D: Folder, O: Output, E: Sink>(
     if name_input_twice(names.as_slice()) {
         return report(&Err(read_twice()), false, err);
     }
-    let sources = ReadBy {
-        files,
-        host_bits: reading.host_bits,
+    let Ok(tables) = command.tables(memory, reading.table_header) else {
+        return report(&Err(CommandError::NoMemory), false, err);
     };
-    match reading.at_fault {
-        AtFault::Stop => {
-            let answered = answer(memory, &sources, folder, command, out);
-            report(&answered, out.is_closed(), err)
-        }
-        AtFault::Tell => keep_going(memory, &sources, folder, false, command, out, err),
-        AtFault::Skip => keep_going(memory, &sources, folder, true, command, out, err),
-    }
+    let headed = Headed {
+        files,
+        tables: tables.as_slice(),
+    };
+    answer_read(memory, &headed, folder, reading, command, out, err)
 }
 
 /// The error of a file that can't be written.
@@ -335,7 +360,7 @@ fn answer_into<'a, M: Memory, F: Files, D: Folder, E: Sink>(
 ) -> u8
     ensures runs { IntoFound name.now reading (F.contents files.now) (record { memory = M.refused memory.new; folder = D.refused folder.new })
         (request_of command.entry) (E.state err.old) (E.state err.new) result }
-    ensures leaves { LeavesTo (Some name.now) (contents_by reading.host_bits (F.contents files.now)) (request_of command.entry)
+    ensures leaves { LeavesTo (Some name.now) (contents_of reading (request_of command.entry) (F.contents files.now)) (request_of command.entry)
         (D.saved folder.old) (D.saved folder.new) result }
 {
     let mut held = Held::new(memory.alloc());
@@ -390,10 +415,12 @@ fn answer_parts<M: Memory, F: Files, D: Folder, O: Output, E: Sink>(
 {
     match command_of(verb, parts) {
         Ok(command) => match target_of(verb, parts) {
-            Ok(target) => {
-                let reading = reading_of(parts.options.as_slice());
-                answer_to(memory, files, folder, reading, target, command, out, err)
-            }
+            Ok(target) => match reading_in(verb, parts) {
+                Ok(reading) => {
+                    answer_to(memory, files, folder, reading, target, command, out, err)
+                }
+                Err(misuse) => report_misuse(&misuse, err),
+            },
             Err(misuse) => report_misuse(&misuse, err),
         },
         Err(misuse) => report_misuse(&misuse, err),

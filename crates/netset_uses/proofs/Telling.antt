@@ -31,6 +31,7 @@ use Rattle.cidr_lists.specs.declared.formats.LineFormat.TheVariants.{Json, Plain
 use Rattle.cidr_lists.specs.declared.lines.HostBits.{HostBits}
 use Rattle.cidr_lists.specs.declared.forms.Kind.TheVariants.{Networks}
 use Rattle.cidr_lists.specs.declared.lines.HostBits.TheVariants.{Refused}
+use Rattle.cidr_lists.specs.declared.records.ListForm.TheVariants.{Networks as OfNetworks}
 use Rattle.netset_commands.specs.Causes.{Refusals}
 use Rattle.netset_commands.specs.Commands.{Acl, Diff, HoldsOf, IsDiff, IsMadeOf, Lists, Look, Match, ReadsInputTwice, reading_of}
 use Rattle.netset_commands.specs.Look.{IsLook}
@@ -155,7 +156,7 @@ pub merge_told : (contents : List ℕ → Option (List ℕ)) (list : List ℕ) (
 merge_told contents list run told short (answered, (refused, closed, runs)) two =
     let done = subst (λ (k : ℕ). Runs (Some merge_words) contents refused closed (holding []) (holding run.out.items) (holding []) (holding run.err.items) k) two runs in
     list_failed contents (codes "list") list refused.memory run told short
-    (lists_fail merge_words contents refused closed (holding []) (holding run.out.items) (holding []) (holding run.err.items) (reading_of [])
+    (lists_fail merge_words contents refused closed (holding []) (holding run.out.items) (holding []) (holding run.err.items) (reading_of (OfNetworks Refused) [])
     Merge (codes "list" ∷ [])
     (typed_asks merge_words [] (Lists Merge (codes "list" ∷ [])) (refl, refl, refl, refl, refl)) once refl in_words done)
 
@@ -191,7 +192,7 @@ good_printed contents list run told (answered, (refused, closed, runs)) two some
     let done = subst (λ (k : ℕ). Runs (Some good_words) contents refused closed (holding []) (holding run.out.items) (holding []) (holding run.err.items) k) two runs in
     let (lines, answer, read, told_lines, good, made, whole, says) =
     lists_skip Merge (codes "list" ∷ []) refused closed (holding []) (holding run.out.items) (holding []) (holding run.err.items) (printed_more run.out.items some)
-    good_words contents (reading_of (codes "--skip-bad" ∷ []))
+    good_words contents (reading_of (OfNetworks Refused) (codes "--skip-bad" ∷ []))
     (typed_asks good_words (codes "--skip-bad" ∷ []) (Lists Merge (codes "list" ∷ [])) (refl, refl, refl, refl, refl)) refl done in
     let (only, is, fine) = good (codes "list") text known in (
       subst (AreTellings Networks (codes "list" ∷ []) (text ∷ [])) (sym (all_told run.err.items lines says)) (told_lines (text ∷ []) (known, tt)),

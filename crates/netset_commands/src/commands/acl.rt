@@ -60,7 +60,11 @@ fn read_rules<'a, M: Memory, F: Sources>(
 {
     let begun = begin_file(sources, file)?;
     let bytes = read_whole(memory, file, begun)?;
-    match Rules::of_text(memory.alloc(), sources.host_bits(), bytes.as_slice()) {
+    match Rules::of_text(
+        memory.alloc(),
+        sources.list_form().host_bits(),
+        bytes.as_slice(),
+    ) {
         Ok(rules) => Ok(rules),
         Err(e) => Err(unread(memory, file, e)),
     }

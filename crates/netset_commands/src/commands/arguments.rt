@@ -1,14 +1,13 @@
 //! The words of a command line as options and operands, and the command that they are.
 ghost use Rattle.std.specs.Prelude.{◌≡◌, ◌<◌, [], Ok, Err, Bool, true, false, length, drop, MatchOption, MatchResult, option_map, slice_get, unwrap_or};
 ghost use Rattle.std.specs.List.{after_first, before_first};
-ghost use Rattle.netset_commands.specs.Arguments.{asks_help, choice_by, choice_in, chosen_style, compile_request, extent_by, extra_operand, form_in, free_request, fresh, full_name, help_request, is_equals, is_option, is_plain, is_topic, letter_parts, line_parts, lists_request, long_parts, layout_by, layout_in, look_by, look_request, made_request, match_by, match_request, missing_operand, misuse_text, may_keep, named_format, named_layout, named_verb, no_option, no_parts, operand_or, part_request, parted_layout, parts_from, question_by, same_request, short_option, short_parts, smallest_request, some_style, split_request, style_in_values, style_of, taken_value, takes, target_by, target_in, topic_parts, value_of, verb_of, verb_request, word_parts, acl_request, chosen_line_format, compared_in, diff_request, line_format_in, named_line_format, not_given, permitted_in, shadowed_in, without_value};
+ghost use Rattle.netset_commands.specs.Arguments.{asks_help, choice_by, choice_in, chosen_style, compile_request, extent_by, extra_operand, form_in, free_request, fresh, full_name, help_request, is_equals, is_option, is_plain, is_topic, letter_parts, line_parts, lists_request, long_parts, layout_by, layout_in, list_form_in, named_list_form, look_by, look_request, made_request, match_by, match_request, missing_operand, misuse_text, may_keep, named_format, named_layout, named_verb, no_option, no_parts, operand_or, part_request, parted_layout, parts_from, question_by, reading_in, same_request, short_option, short_parts, smallest_request, some_style, split_request, style_in_values, style_of, taken_value, takes, target_by, target_in, topic_parts, value_of, verb_of, verb_request, word_parts, acl_request, chosen_line_format, compared_in, diff_request, line_format_in, named_line_format, not_given, permitted_in, shadowed_in, without_value};
 ghost use Rattle.netset_commands.specs.Command.{AddsParts, IsUsageError, choice_of, extent_of, given, misuse_line, given_parts, question_of, request_of};
 ghost use Rattle.netset_commands.specs.Matching.{is_word};
 ghost use Rattle.netset_commands.specs.Table.{name_of, takes_value, texts};
-ghost use Rattle.netset_commands.specs.declared.errors.Misfit.TheVariants.{NotPlain, Skipping};
+ghost use Rattle.netset_commands.specs.declared.errors.Misfit.TheVariants.{NotPlain, Skipping, WithForm};
 ghost use Rattle.cidr_lists.specs.Formats.{style_in};
 
-use crate::commands::Command;
 use crate::commands::acl::Question;
 use crate::commands::free::Extent;
 use crate::commands::matching::has;
@@ -18,12 +17,14 @@ use crate::commands::single::Single;
 use crate::commands::table::{
     Verb, commands, most_of, name_of, needed_of, options_of, takes_value,
 };
+use crate::commands::{Command, Reading, bits_of, reading_of};
 use crate::errors::{Misfit, Misuse, UsageError};
 use cidr::Family;
 use cidr_io::memory::Memory;
 use cidr_lists::columns::Separator;
 use cidr_lists::formats::{Format, LineFormat, Style, format_of};
 use cidr_lists::forms::{RowForm, RowLayout};
+use cidr_lists::records::ListForm;
 use std::alloc::Global;
 
 /// What the next word behind a command is.
@@ -873,6 +874,66 @@ fn named_layout<'a>(command: Verb, name: &'a str) -> Result<RowLayout, Misuse<'a
         why: Misfit::NoForm,
         command: name_of(command),
     })
+}
+
+/// The form of lists of a name, with which go no options that tell how networks are read.
+fn named_list_form<'a>(
+    command: Verb,
+    options: &[&'a str],
+    name: &'a str,
+) -> Result<ListForm, Misuse<'a>>
+    ensures { MatchResult result (λ form. named_list_form command (texts options.now) name.now ≡ Ok form)
+        (λ misuse. named_list_form command (texts options.now) name.now ≡ Err (misuse_line misuse)) }
+{
+    if name != "rir" {
+        return Err(Misuse {
+            word: name,
+            why: Misfit::NoListForm,
+            command: name_of(command),
+        });
+    }
+    if has(options, "--host-bits") {
+        return Err(not_with_form(command, "--host-bits"));
+    }
+    if has(options, "--masks") {
+        return Err(not_with_form(command, "--masks"));
+    }
+    Ok(ListForm::Rir)
+}
+
+/// The error of an option that does not go with `--form`.
+fn not_with_form<'a>(command: Verb, option: &'static str) -> Misuse<'a>
+    ensures { misuse_line result ≡ misuse_text option.now WithForm (name_of command) }
+{
+    Misuse {
+        word: option,
+        why: Misfit::WithForm,
+        command: name_of(command),
+    }
+}
+
+/// The form of the lists that a command reads.
+fn list_form_in<'a>(command: Verb, parts: &'a Parts<'a>) -> Result<ListForm, Misuse<'a>>
+    ensures { MatchResult result (λ form. list_form_in command (given_parts parts.now) ≡ Ok form)
+        (λ misuse. list_form_in command (given_parts parts.now) ≡ Err (misuse_line misuse)) }
+{
+    let options = parts.options.as_slice();
+    if asks_help(options) || takes_value(command, "--table-separator") {
+        return Ok(ListForm::Networks(bits_of(options)));
+    }
+    match value_of(command, "--form", parts.values.as_slice())? {
+        Some(name) => named_list_form(command, options, name),
+        None => Ok(ListForm::Networks(bits_of(options))),
+    }
+}
+
+/// How a command reads lists.
+pub fn reading_in<'a>(command: Verb, parts: &'a Parts<'a>) -> Result<Reading, Misuse<'a>>
+    ensures { MatchResult result (λ reading. reading_in command (given_parts parts.now) ≡ Ok reading)
+        (λ misuse. reading_in command (given_parts parts.now) ≡ Err (misuse_line misuse)) }
+{
+    let form = list_form_in(command, parts)?;
+    Ok(reading_of(form, parts.options.as_slice()))
 }
 
 /// The layout of rows of fields with a byte between them.

@@ -7,8 +7,8 @@ ghost use Rattle.netset_commands.specs.Table.{about_of, help_text, note_of};
 
 use crate::commands::matching::has;
 use crate::commands::table::{
-    FORMAT, FORMS, HOST_BITS, KEEP_GOING, LISTS, OPTIONS, OUTPUT, SKIP_BAD, Verb, about_of,
-    commands, options_of, takes_value,
+    FORMAT, FORMS, HOST_BITS, KEEP_GOING, LISTS, OPTIONS, OUTPUT, SKIP_BAD, TABLE_SEPARATOR, Verb,
+    about_of, commands, options_of, takes_value,
 };
 use crate::output::report::{push_texts, write_line};
 use cidr_io::block::Block;
@@ -37,7 +37,15 @@ fn push_page<S: Sink>(block: &mut Block, out: &mut S) -> Result<(), OutputFailed
         block,
         out,
         &[
-            OPTIONS, HOST_BITS, KEEP_GOING, SKIP_BAD, FORMS, FORMAT, OUTPUT, LISTS,
+            OPTIONS,
+            HOST_BITS,
+            KEEP_GOING,
+            SKIP_BAD,
+            FORMS,
+            TABLE_SEPARATOR,
+            FORMAT,
+            OUTPUT,
+            LISTS,
         ],
     )
 }
@@ -79,6 +87,7 @@ pub fn write_help<S: Sink>(topic: Option<Verb>, out: &mut S) -> Result<(), Outpu
                 note_of(command, "-k", KEEP_GOING),
                 note_of(command, "--skip-bad", SKIP_BAD),
                 note_of(command, "--form", FORMS),
+                note_of(command, "--table-separator", TABLE_SEPARATOR),
                 note_of(command, "--prefix", FORMAT),
                 note_of(command, "-o", OUTPUT),
             ],

@@ -138,7 +138,10 @@ pub const SKIP_BAD: &str =
     "--skip-bad              each line of a list in error is told, and the answer is that of the other\n                        lines; the status is 2 then, or 3; it goes neither with -k nor with -o\n";
 
 pub const FORMS: &str =
-    "--form NAME             how the rows of a table are read: pfx2as, an address, its prefix length\n                        and the value, as CAIDA has them; routes and routes6, as ip route\n                        prints those of IPv4 and of IPv6, and default is all addresses\n--table-separator C     byte C stands between the network of a row and its value, as in CSV\n                        without quotes, and not white space\n";
+    "--form NAME             how lines are read: those of a list by rir, the records in which the\n                        Internet registries publish what they have delegated; the rows of a\n                        table by pfx2as, an address, its prefix length and the value, as CAIDA\n                        has them, or by routes or routes6, as ip route prints those of IPv4\n                        and of IPv6, and default is all addresses\n";
+
+pub const TABLE_SEPARATOR: &str =
+    "--table-separator C     byte C stands between the network of a row and its value, as in CSV\n                        without quotes, and not white space\n--table-header          the first line of a table is a header, whatever it says; not for a file of\n                        look-ups, which has none\n";
 
 pub const FORMAT: &str =
     "--format NAME           how the networks are written: plain, json, nft, ipset, iptables,\n                        cisco, juniper or bird\n--prefix TEXT, --suffix TEXT\n                        with the format plain, what stands in front of a network and behind\n";
@@ -151,7 +154,7 @@ pub const OPTIONS: &str =
     "\nOptions stand anywhere behind the command; those of one letter may be joined, as -vc:\n";
 
 pub const LISTS: &str =
-    "-h, --help              what this page says of the command\n--                      what is behind it are no options\n--host-bits and --masks are for commands that read lists, but check and which, -k for all that read\nlists but acl, --skip-bad for these but compile; --format, --prefix and --suffix are for merge,\nnets, minus, and, not, acl, free and split, -o for these, ranges, count, diff, same, smallest,\nreverse and mask, --form and --table-separator for look, compile, same and smallest.\n\nA line of a list is a network, an address or a range FIRST-LAST, and may end in a comment\nfrom # or ; on. The file - is the standard input, which is also read where no file is named.\nStatus: 0 done, 1 none, a difference or findings, 2 usage, a wrong argument, a file that\ncannot be read or a line in error, 3 output or memory.\n";
+    "-h, --help              what this page says of the command\n--                      what is behind it are no options\n--host-bits and --masks are for commands that read lists, but check and which, -k for all that read\nlists but acl, --skip-bad for these but compile; --format, --prefix and --suffix are for merge,\nnets, minus, and, not, acl, free and split, -o for these, ranges, count, diff, same, smallest,\nreverse and mask, --form for all with --host-bits but acl, --table-separator and --table-header for\nlook, compile, same and smallest.\n\nA line of a list is a network, an address or a range FIRST-LAST, and may end in a comment\nfrom # or ; on. The file - is the standard input, which is also read where no file is named.\nStatus: 0 done, 1 none, a difference or findings, 2 usage, a wrong argument, a file that\ncannot be read or a line in error, 3 output or memory.\n";
 
 /// The commands, in their order on the page.
 pub fn commands() -> &'static [Verb]
@@ -198,12 +201,29 @@ pub fn options_of(command: Verb) -> &'static [&'static str]
     ensures { texts result.now ≡ (row_of command).options }
 {
     match command {
-        Verb::Lists(_) | Verb::Diff | Verb::Same | Verb::Describe(_) | Verb::Split => {
+        Verb::Lists(_) | Verb::Diff | Verb::Describe(_) | Verb::Split => {
             &["--host-bits", "--masks", "-k", "--skip-bad", "-h", "--help"]
         }
-        Verb::Compile => &["--host-bits", "--masks", "-k", "-h", "--help"],
+        Verb::Same => &[
+            "--table-header",
+            "--host-bits",
+            "--masks",
+            "-k",
+            "--skip-bad",
+            "-h",
+            "--help",
+        ],
+        Verb::Compile => &[
+            "--table-header",
+            "--host-bits",
+            "--masks",
+            "-k",
+            "-h",
+            "--help",
+        ],
         Verb::Smallest => &[
             "--holes",
+            "--table-header",
             "--host-bits",
             "--masks",
             "-k",
@@ -226,6 +246,7 @@ pub fn options_of(command: Verb) -> &'static [&'static str]
             "--any",
             "--header",
             "--keep",
+            "--table-header",
             "--host-bits",
             "--masks",
             "-k",
@@ -251,21 +272,25 @@ pub fn options_of(command: Verb) -> &'static [&'static str]
 }
 
 /// The options of a command that have a value: the network of `not --in`, how networks and look-ups are written, how many networks
-/// `free --count` tells, the access list of `acl --diff`, the field that `match` and `look` read, how `look`, `compile`,
-/// `same` and `smallest` read the rows of a table, and where the answer is written.
+/// `free --count` tells, the access list of `acl --diff`, the field that `match` and `look` read, how lists and the rows of
+/// tables are read, and where the answer is written.
 fn values_of(command: Verb) -> &'static [&'static str]
     ensures { texts result.now ≡ (row_of command).values }
 {
     match command {
-        Verb::Lists(Operation::Not) => &["--in", "--format", "--prefix", "--suffix", "-o"],
-        Verb::Lists(Operation::Ranges) | Verb::Lists(Operation::Count) | Verb::Describe(_) => {
-            &["-o"]
+        Verb::Lists(Operation::Not) => {
+            &["--in", "--form", "--format", "--prefix", "--suffix", "-o"]
         }
-        Verb::Diff => &["--format", "-o"],
-        Verb::Lists(_) | Verb::Split => &["--format", "--prefix", "--suffix", "-o"],
-        Verb::Free => &["--count", "--format", "--prefix", "--suffix", "-o"],
+        Verb::Lists(Operation::Ranges) | Verb::Lists(Operation::Count) | Verb::Describe(_) => {
+            &["--form", "-o"]
+        }
+        Verb::Diff => &["--form", "--format", "-o"],
+        Verb::Lists(_) | Verb::Split => &["--form", "--format", "--prefix", "--suffix", "-o"],
+        Verb::Free => &[
+            "--count", "--form", "--format", "--prefix", "--suffix", "-o",
+        ],
         Verb::Acl => &["--diff", "--format", "--prefix", "--suffix", "-o"],
-        Verb::Match => &["--field", "--separator"],
+        Verb::Match => &["--field", "--separator", "--form"],
         Verb::Look => &[
             "--field",
             "--separator",

@@ -2,14 +2,14 @@
 ghost use Rattle.std.specs.Prelude.{◌≡◌, ℕ, List, Option, Some, None, IfErr, IfOk, IfSome};
 ghost use Rattle.netset_commands.specs.Keeping.{IsGivenBy};
 ghost use Rattle.cidr_lists.specs.Lists.{Text};
-ghost use Rattle.netset_commands.specs.Program.{contents_by};
+ghost use Rattle.netset_commands.specs.Program.{contents_in};
 
 use crate::errors::Reason;
 use crate::input::begun::Given;
 use crate::input::keeping::Said;
 use crate::output::terminal::{Progress, Watched};
 use cidr_io::source::Source;
-use cidr_lists::lines::HostBits;
+use cidr_lists::records::ListForm;
 use std::fs::OpenFile;
 use std::io::{Eprint, ErrorKind, Input, Read};
 use std::rt::Clock;
@@ -44,8 +44,8 @@ pub trait Sources {
         ensures none { IfErr result (λ _. contents self.now name.now ≡ None) };
 
     /// What is done with a set bit after the prefix of a network.
-    fn host_bits(&self) -> HostBits
-        ensures { (name : List ℕ) (text : Text) → contents self.now name ≡ Some text → text.host_bits ≡ result };
+    fn list_form(&self) -> ListForm
+        ensures { (name : List ℕ) (text : Text) → contents self.now name ≡ Some text → text.form ≡ result };
 
     /// What the lines of the file of this name say, if they are read already and none is in error, or its bytes, if they are
     /// and it begins as a file of look-ups.
@@ -57,20 +57,20 @@ pub trait Sources {
 #[derive(Clone, Copy)]
 pub struct ReadBy<'a, F: Files> {
     pub files: &'a F,
-    pub host_bits: HostBits,
+    pub list_form: ListForm,
 }
 
 impl<F: Files> Sources for ReadBy<'_, F> {
     type Reader = F::Reader;
 
-    ghost contents = { λ s. contents_by s.host_bits (F.contents s.files.now) };
+    ghost contents = { λ s. contents_in s.list_form (F.contents s.files.now) };
 
     fn open(&self, name: &str) -> Result<F::Reader, Reason> {
         self.files.open(name)
     }
 
-    fn host_bits(&self) -> HostBits {
-        self.host_bits
+    fn list_form(&self) -> ListForm {
+        self.list_form
     }
 
     fn kept(&self, _name: &str) -> Option<&Given<Said>> {

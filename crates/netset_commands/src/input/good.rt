@@ -6,7 +6,7 @@ use crate::input::begun::Given;
 use crate::input::files::Sources;
 use crate::input::keeping::{Kept, Said, list_named};
 use cidr_io::source::Source;
-use cidr_lists::lines::HostBits;
+use cidr_lists::records::ListForm;
 
 /// A list in memory, or a file that is no list.
 #[derive(Drop)]
@@ -33,13 +33,13 @@ impl<S: Source + Drop> Source for GoodReader<'_, S> {
 pub struct GoodLists<'a, F: Sources> {
     pub lists: &'a [Kept<'a>],
     pub sources: &'a F,
-    pub host_bits: HostBits,
+    pub list_form: ListForm,
 }
 
 impl<'a, F: Sources> Sources for GoodLists<'a, F> {
     type Reader = GoodReader<'a, F::Reader>;
 
-    ghost contents = { λ s. good_files s.host_bits s.lists.now (F.contents s.sources.now) };
+    ghost contents = { λ s. good_files s.list_form s.lists.now (F.contents s.sources.now) };
 
     fn open(&self, name: &str) -> Result<Self::Reader, Reason> {
         let lists = self.lists;
@@ -52,8 +52,8 @@ impl<'a, F: Sources> Sources for GoodLists<'a, F> {
         }
     }
 
-    fn host_bits(&self) -> HostBits {
-        self.host_bits
+    fn list_form(&self) -> ListForm {
+        self.list_form
     }
 
     fn kept(&self, _name: &str) -> Option<&Given<Said>> {

@@ -17,8 +17,8 @@ use cidr_io::sink::Sink;
 use cidr_io::source::Source;
 use cidr_lists::entries::{Entry, Place};
 use cidr_lists::forms::{Kind, RowForm};
-use cidr_lists::lines::HostBits;
 use cidr_lists::lists::Lists;
+use cidr_lists::records::ListForm;
 use cidr_lists::rows::Rows;
 use std::alloc::{AllocError, Global};
 use std::marker::Model;
@@ -49,20 +49,20 @@ impl Said {
     fn add_line<M: Memory>(
         &mut self,
         memory: &mut M,
-        host_bits: HostBits,
+        list_form: ListForm,
         number: u64,
         line: &[u8],
     ) -> Result<(), ReadError>
-        ensures adds { AddsBy host_bits line.now number self.old self.new result }
+        ensures adds { AddsBy list_form line.now number self.old self.new result }
         ensures cause { IfErr result (ReadCause ⊥ (M.refused memory.new)) }
     {
         match self {
-            Said::Networks(lists) => lists::add_line(memory, host_bits, number, line, lists),
+            Said::Networks(lists) => lists::add_line(memory, list_form, number, line, lists),
             Said::Hosts(hosts) => {
                 entries::add_line(memory, Place { file: "", number }, line, hosts)
             }
             Said::Rows(form, rows) => {
-                rows::add_line(memory, *form, host_bits, number, line, rows)
+                rows::add_line(memory, *form, list_form, number, line, rows)
             }
         }
     }
@@ -71,18 +71,18 @@ impl Said {
 /// Adds what a line says, or tells its error; tells whether it is in error.
 fn keep_line<M: Memory, E: Sink>(
     memory: &mut M,
-    host_bits: HostBits,
+    list_form: ListForm,
     place: Place<'_>,
     line: &[u8],
     said: &mut Said,
     block: &mut Block,
     err: &mut E,
 ) -> Result<bool, ReadError>
-    ensures keeps { KeepsLine host_bits place.entry.file.now place.entry.number line.now said.old said.new
+    ensures keeps { KeepsLine list_form place.entry.file.now place.entry.number line.now said.old said.new
         (E.state err.old) block.old (E.state err.new) block.new result }
     ensures cause { IfErr result (ReadCause ⊥ (M.refused memory.new)) }
 {
-    match said.add_line(memory, host_bits, place.number, line) {
+    match said.add_line(memory, list_form, place.number, line) {
         Ok(()) => Ok(false),
         Err(ReadError::Line(_, e)) => {
             say_fault(block, err, place.file, place.number, &e);
@@ -140,14 +140,14 @@ pub struct Heard {
 fn keep_lines<M: Memory, S: Source + Drop, E: Sink>(
     memory: &mut M,
     kind: Kind,
-    host_bits: HostBits,
+    list_form: ListForm,
     file: &str,
     skips: bool,
     reader: &mut LineReader<S>,
     block: &mut Block,
     err: &mut E,
 ) -> Result<Heard, ReadError>
-    ensures keeps { KeepsListLines kind host_bits file.now skips reader.old.left
+    ensures keeps { KeepsListLines kind list_form file.now skips reader.old.left
         (E.state err.old) block.old (E.state err.new) block.new result }
     ensures cause { IfErr result (ReadCause (TextFails reader.old.left) (M.refused memory.new)) }
 {
@@ -159,7 +159,7 @@ fn keep_lines<M: Memory, S: Source + Drop, E: Sink>(
         let line = reader.line();
         let len = begin_line(memory, skips, line, &mut text)?;
         let place = Place { file, number };
-        let is_bad = keep_line(memory, host_bits, place, line, &mut said, block, err)?;
+        let is_bad = keep_line(memory, list_form, place, line, &mut said, block, err)?;
         end_line(is_bad, len, &mut text);
         found |= is_bad;
         if !has_more {
@@ -238,7 +238,7 @@ fn keep_list<'a, M: Memory, F: Sources, E: Sink>(
     let kept = keep_lines(
         memory,
         kind,
-        sources.host_bits(),
+        sources.list_form(),
         file,
         skips,
         &mut reader,
@@ -302,8 +302,8 @@ impl<F: Sources> Sources for Loaded<'_, F> {
         self.sources.open(name)
     }
 
-    fn host_bits(&self) -> HostBits {
-        self.sources.host_bits()
+    fn list_form(&self) -> ListForm {
+        self.sources.list_form()
     }
 
     fn kept(&self, name: &str) -> Option<&Given<Said>> {

@@ -1,7 +1,7 @@
 //! Reading lists of networks.
 ghost use Rattle.std.specs.Prelude.{[], IfErr, IfSome};
 ghost use Rattle.netset_commands.specs.Causes.{ReadCause, TextFails};
-ghost use Rattle.cidr_lists.specs.Lists.{text_by};
+ghost use Rattle.cidr_lists.specs.Lists.{text_in};
 ghost use Rattle.netset_commands.specs.Reading.{AddsLine, ReadsList};
 
 use crate::errors::ReadError;
@@ -9,24 +9,24 @@ use cidr_io::lines::{LineReader, is_too_long};
 use cidr_io::memory::Memory;
 use cidr_io::source::Source;
 use cidr_lists::errors::LineError;
-use cidr_lists::lines::{HostBits, content_of};
 use cidr_lists::lists::Lists;
+use cidr_lists::records::{ListForm, content_in};
 
 /// Adds the networks that a line says.
 pub fn add_line<M: Memory>(
     memory: &mut M,
-    host_bits: HostBits,
+    list_form: ListForm,
     number: u64,
     line: &[u8],
     lists: &mut Lists,
 ) -> Result<(), ReadError>
-    ensures adds { AddsLine host_bits line.now number lists.old lists.new result }
+    ensures adds { AddsLine list_form line.now number lists.old lists.new result }
     ensures cause { IfErr result (ReadCause ⊥ (M.refused memory.new)) }
 {
     if is_too_long(line) {
         return Err(ReadError::Line(number, LineError::TooLong));
     }
-    match content_of(host_bits, line) {
+    match content_in(list_form, line) {
         Ok(content) => {
             let pushed = lists.push_content(memory.alloc(), &content);
             memory.watch(pushed)?;
@@ -39,17 +39,17 @@ pub fn add_line<M: Memory>(
 /// Reads a list to its end or to its first line in error, and adds its networks.
 fn read_lines<M: Memory, S: Source + Drop>(
     memory: &mut M,
-    host_bits: HostBits,
+    list_form: ListForm,
     reader: &mut LineReader<S>,
     lists: &mut Lists,
 ) -> Result<(), ReadError>
     ensures reads { IfSome reader.old.left
-        (λ bytes. ReadsList (text_by host_bits bytes) lists.old lists.new result) }
+        (λ bytes. ReadsList (text_in list_form bytes) lists.old lists.new result) }
     ensures cause { IfErr result (ReadCause (TextFails reader.old.left) (M.refused memory.new)) }
 {
     for number in 1..u64::MAX {
         let has_more = reader.read_line(memory)?;
-        add_line(memory, host_bits, number, reader.line(), lists)?;
+        add_line(memory, list_form, number, reader.line(), lists)?;
         if !has_more {
             return Ok(());
         }
@@ -60,13 +60,13 @@ fn read_lines<M: Memory, S: Source + Drop>(
 /// Reads a list in blocks, to its end or to its first line in error, and adds its networks.
 pub fn read_list<M: Memory, S: Source + Drop>(
     memory: &mut M,
-    host_bits: HostBits,
+    list_form: ListForm,
     source: S,
     lists: &mut Lists,
 ) -> Result<(), ReadError>
-    ensures reads { IfSome (S.left source) (λ bytes. ReadsList (text_by host_bits bytes) lists.old lists.new result) }
+    ensures reads { IfSome (S.left source) (λ bytes. ReadsList (text_in list_form bytes) lists.old lists.new result) }
     ensures cause { IfErr result (ReadCause (TextFails (S.left source)) (M.refused memory.new)) }
 {
     let mut reader = LineReader::new(memory, source)?;
-    read_lines(memory, host_bits, &mut reader, lists)
+    read_lines(memory, list_form, &mut reader, lists)
 }

@@ -37,7 +37,7 @@ fn add_opened<'a, M: Memory, F: Sources>(
         Ok(reader) => reader,
         Err(why) => return Err(CommandError::Input(file, why)),
     };
-    match read_list(memory, sources.host_bits(), reader, lists) {
+    match read_list(memory, sources.list_form(), reader, lists) {
         Ok(()) => Ok(()),
         Err(ReadError::Line(number, e)) => Err(CommandError::Line(file, number, e)),
         Err(ReadError::Input) => Err(CommandError::Input(file, Reason::Unknown)),
@@ -94,7 +94,7 @@ fn read_given<'a, M: Memory, F: Sources>(
         return Ok(Given::Stored(bytes));
     }
     let mut lists = Lists::new(memory.alloc());
-    match read_list(memory, sources.host_bits(), begun, &mut lists) {
+    match read_list(memory, sources.list_form(), begun, &mut lists) {
         Ok(()) => Ok(Given::Lines(Sets::of_lists(lists))),
         Err(e) => Err(unread(file, e)),
     }

@@ -228,7 +228,7 @@ fn read_opened<'a, M: Memory, F: Sources>(
         Ok(reader) => reader,
         Err(why) => return Err(CommandError::Input(file, why)),
     };
-    match read_rows(memory, form, sources.host_bits(), reader) {
+    match read_rows(memory, form, sources.list_form(), reader) {
         Ok(rows) => Ok(rows),
         Err(e) => Err(unread(file, e)),
     }
@@ -249,7 +249,7 @@ fn read_given<'a, M: Memory, F: Sources>(
         let bytes = read_whole(memory, file, begun)?;
         return Ok(Given::Stored(bytes));
     }
-    match read_rows(memory, form, sources.host_bits(), begun) {
+    match read_rows(memory, form, sources.list_form(), begun) {
         Ok(rows) => Ok(Given::Lines(rows)),
         Err(e) => Err(unread(file, e)),
     }

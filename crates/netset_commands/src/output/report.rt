@@ -264,6 +264,9 @@ fn misfit_text(why: Misfit) -> ArrayString<128>
         Misfit::NoForm => text.push_str(
             ": no such form, but pfx2as, routes and routes6, see: netset help ",
         ),
+        Misfit::NoListForm => {
+            text.push_str(": no such form of lists, but rir, see: netset help ");
+        }
         Misfit::NotOneByte => text.push_str(": more or less than one byte, see: netset help "),
         Misfit::WithForm => text.push_str(": not with --form, see: netset help "),
         Misfit::WithJson => text.push_str(": not with the format json, see: netset help "),

@@ -21,12 +21,12 @@ returns-in_err-bytes-clause-cause g c =
 
 pub returns-in-Ok-clause-reads : goal.returns-in-Ok-clause-reads
 returns-in-Ok-clause-reads g c =
-    rules_told (g.F.Sources.contents c.args.sources.now c.args.file.now) _ c.in_ok-bytes.bytes.items c.host_bits.result
+    rules_told (g.F.Sources.contents c.args.sources.now c.args.file.now) _ c.in_ok-bytes.bytes.items c.list_form.result
     (opens_begun _ (g.F.Sources.contents c.args.sources.now c.args.file.now) c.in_ok-begun.begun c.in_ok-begun.ensures.told) c.in_ok-bytes.ensures.bytes
-    (c.host_bits.ensures c.args.file.now) c.in-Ok.rules (rw c.as_slice.ensures.value at c.in-Ok.ensures)
+    (c.list_form.ensures c.args.file.now) c.in-Ok.rules (rw (c.as_slice.ensures.value, c.host_bits.ensures) at c.in-Ok.ensures)
 
 pub returns-clause-reads : goal.returns-clause-reads
 returns-clause-reads g c =
-    rw c.unread.ensures.result (rules_untold (g.F.Sources.contents c.args.sources.now c.args.file.now) _ c.in_ok-bytes.bytes.items c.host_bits.result
+    rw c.unread.ensures.result (rules_untold (g.F.Sources.contents c.args.sources.now c.args.file.now) _ c.in_ok-bytes.bytes.items c.list_form.result
     (opens_begun _ (g.F.Sources.contents c.args.sources.now c.args.file.now) c.in_ok-begun.begun c.in_ok-begun.ensures.told) c.in_ok-bytes.ensures.bytes
-    (c.host_bits.ensures c.args.file.now) c.args.file c.in-Err.e (rw c.as_slice.ensures.value at c.in-Err.ensures))
+    (c.list_form.ensures c.args.file.now) c.args.file c.in-Err.e (rw (c.as_slice.ensures.value, c.host_bits.ensures) at c.in-Err.ensures))

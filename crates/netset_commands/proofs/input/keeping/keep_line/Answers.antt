@@ -10,8 +10,8 @@ pub returns-in-Err-Line-clause-keeps : goal.returns-in-Err-Line-clause-keeps
 returns-in-Err-Line-clause-keeps g c =
     let adds = (rw c.in-Err-Line.field-0-is at c.in-Err-Line.ensures.adds) in (
       c.in-Err-Line.e,
-      same_kind c.args.host_bits c.args.line.now c.args.place.number c.args.said.now c.add_line.new.self (Err (Line _ c.in-Err-Line.e)) adds,
-      line_faulty c.args.host_bits c.args.line.now c.args.place.number c.args.said.now c.add_line.new.self _ c.in-Err-Line.e adds,
+      same_kind c.args.list_form c.args.line.now c.args.place.number c.args.said.now c.add_line.new.self (Err (Line _ c.in-Err-Line.e)) adds,
+      line_faulty c.args.list_form c.args.line.now c.args.place.number c.args.said.now c.add_line.new.self _ c.in-Err-Line.e adds,
       c.say_fault.ensures,
     )
 

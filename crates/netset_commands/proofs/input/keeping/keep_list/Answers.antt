@@ -37,24 +37,24 @@ returns-then-is_stored-clause-keeps g c =
 
 pub returns-in-Ok-kept-clause-keeps : goal.returns-in-Ok-kept-clause-keeps
 returns-in-Ok-kept-clause-keeps g c =
-    list_kept c.args.takes_file (g.F.Sources.contents c.args.sources.now c.args.file.now) c.in-Ok.reader.left c.args.kind c.host_bits.result c.args.skips (g.E.Sink.state c.args.err.now)
+    list_kept c.args.takes_file (g.F.Sources.contents c.args.sources.now c.args.file.now) c.in-Ok.reader.left c.args.kind c.list_form.result c.args.skips (g.E.Sink.state c.args.err.now)
     (g.E.Sink.state c.keep_lines-kept.new.err) (g.E.Sink.state c.end.new.out) c.new-block.result c.keep_lines-kept.new.block
     (λ text at takes. elim c.else-takes_file.branch [
       | else-takes_file-via-then-takes_file+else-is_stored w ↦ begins_as _ (g.F.Sources.contents c.args.sources.now c.args.file.now) c.in_ok-begun.begun c.in_ok-begun.ensures.told w.is_stored.result w.is_stored.ensures false w.if-is_stored.false text at
       | else-takes_file-via-else-takes_file w ↦ absurd (true≢false (sym takes ∙ w.if-takes_file.false))
     ])
-    (λ text at. c.in-Ok.ensures.left ∙ opens_begun _ (g.F.Sources.contents c.args.sources.now c.args.file.now) c.in_ok-begun.begun c.in_ok-begun.ensures.told text at) (c.host_bits.ensures c.args.file.now) c.new-block.ensures c.end.ensures
+    (λ text at. c.in-Ok.ensures.left ∙ opens_begun _ (g.F.Sources.contents c.args.sources.now c.args.file.now) c.in_ok-begun.begun c.in_ok-begun.ensures.told text at) (c.list_form.ensures c.args.file.now) c.new-block.ensures c.end.ensures
     c.args.file c.in-Ok-kept.heard c.in-Ok-kept.ensures.keeps
 
 pub returns-clause-keeps : goal.returns-clause-keeps
 returns-clause-keeps g c =
-    rw c.unread.ensures (list_cut c.args.takes_file (g.F.Sources.contents c.args.sources.now c.args.file.now) c.in-Ok.reader.left c.args.kind c.host_bits.result c.args.skips (g.E.Sink.state c.args.err.now)
+    rw c.unread.ensures (list_cut c.args.takes_file (g.F.Sources.contents c.args.sources.now c.args.file.now) c.in-Ok.reader.left c.args.kind c.list_form.result c.args.skips (g.E.Sink.state c.args.err.now)
     (g.E.Sink.state c.keep_lines-kept.new.err) (g.E.Sink.state c.end.new.out) c.new-block.result c.keep_lines-kept.new.block
     (λ text at takes. elim c.else-takes_file.branch [
       | else-takes_file-via-then-takes_file+else-is_stored w ↦ begins_as _ (g.F.Sources.contents c.args.sources.now c.args.file.now) c.in_ok-begun.begun c.in_ok-begun.ensures.told w.is_stored.result w.is_stored.ensures false w.if-is_stored.false text at
       | else-takes_file-via-else-takes_file w ↦ absurd (true≢false (sym takes ∙ w.if-takes_file.false))
     ])
-    (λ text at. c.in-Ok.ensures.left ∙ opens_begun _ (g.F.Sources.contents c.args.sources.now c.args.file.now) c.in_ok-begun.begun c.in_ok-begun.ensures.told text at) (c.host_bits.ensures c.args.file.now) c.new-block.ensures c.end.ensures
+    (λ text at. c.in-Ok.ensures.left ∙ opens_begun _ (g.F.Sources.contents c.args.sources.now c.args.file.now) c.in_ok-begun.begun c.in_ok-begun.ensures.told text at) (c.list_form.ensures c.args.file.now) c.new-block.ensures c.end.ensures
     c.args.file c.in-Err.e c.in-Err.ensures.keeps)
 
 pub returns-clause-cause : goal.returns-clause-cause

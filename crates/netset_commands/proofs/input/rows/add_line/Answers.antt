@@ -16,7 +16,7 @@ returns-in-Ok-None-clause-adds g c = (
 pub returns-in_ok-watch-in-Ok-Some-clause-adds : goal.returns-in_ok-watch-in-Ok-Some-clause-adds
 returns-in_ok-watch-in-Ok-Some-clause-adds g c = (
   Some (c.in-Ok-Some.network, c.in-Ok-Some.value.now),
-  (fits c.args.line.now c.is_too_long.result c.is_too_long.ensures c.if-is_too_long.false, rw c.in-Ok-Some.field-0-is at c.in-Ok-Some.ensures),
+  (fits c.args.line.now c.is_too_long.result c.is_too_long.ensures c.if-is_too_long.false, rw (c.in-Ok-Some.field-0-is, c.host_bits.ensures) at c.in-Ok-Some.ensures),
   (rw (sym c.in_ok-watch-in-Ok-Some.ensures.made) at c.push-pushed.ensures),
 )
 
@@ -27,4 +27,4 @@ returns-in_err-watch-in-Ok-Some-clause-cause g c =
 
 pub returns-in-Err-clause-adds : goal.returns-in-Err-clause-adds
 returns-in-Err-clause-adds g c =
-    (refl, inr (fits c.args.line.now c.is_too_long.result c.is_too_long.ensures c.if-is_too_long.false, c.in-Err.ensures))
+    (refl, inr (fits c.args.line.now c.is_too_long.result c.is_too_long.ensures c.if-is_too_long.false, rw c.host_bits.ensures at c.in-Err.ensures))

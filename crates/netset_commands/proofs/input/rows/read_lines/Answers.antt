@@ -6,31 +6,31 @@ use Rattle.netset_commands.proofs.input.rows.read_lines.Goals as goal
 
 pub loop-number-init : goal.loop-number-init
 loop-number-init g c =
-    rows_started c.args.form c.args.host_bits c.args.reader.now.left c.new-rows.result (none_stored c.new-rows.result c.new-rows.ensures.v4 c.new-rows.ensures.v6)
+    rows_started c.args.form c.args.list_form c.args.reader.now.left c.new-rows.result (none_stored c.new-rows.result c.new-rows.ensures.v4 c.new-rows.ensures.v6)
 
 pub returns-in_err-has_more-clause-reads : goal.returns-in_err-has_more-clause-reads
 returns-in_err-has_more-clause-reads g c =
     let (y, is, same) = err_from_is_err_and c.from_residual.result c.from_residual.ensures.1 in
-    rows_stopped c.args.form c.args.host_bits c.args.reader.now.left _ _ _ is same (reading_stopped c.in_err-has_more.field-0.0)
+    rows_stopped c.args.form c.args.list_form c.args.reader.now.left _ _ _ is same (reading_stopped c.in_err-has_more.field-0.0)
 
 pub returns-in_err-add_line-clause-reads : goal.returns-in_err-add_line-clause-reads
 returns-in_err-add_line-clause-reads g c =
     let (y, is, same) = err_from_is_err_and c.from_residual-in_err-add_line.result c.from_residual-in_err-add_line.ensures.1 in
-    rows_failed c.args.form c.args.host_bits c.args.reader.now.left c.loop-number.reader.left c.read_line.new.self.left
+    rows_failed c.args.form c.args.list_form c.args.reader.now.left c.loop-number.reader.left c.read_line.new.self.left
     c.loop-number.rows c.loop-number.number c.read_line.new.self.line c.in_ok-has_more.has_more _ _ _ is same
     c.loop-number.invariant c.in_ok-has_more.ensures.line (rw c.line.ensures at c.in_err-add_line.ensures.adds)
 
 pub returns-then-not-has_more-clause-reads : goal.returns-then-not-has_more-clause-reads
 returns-then-not-has_more-clause-reads g c =
     let (said, says, adds) = c.in_ok-add_line.ensures.adds in
-    rows_finished c.args.form c.args.host_bits c.args.reader.now.left c.loop-number.reader.left c.read_line.new.self.left
+    rows_finished c.args.form c.args.list_form c.args.reader.now.left c.loop-number.reader.left c.read_line.new.self.left
     c.loop-number.rows c.add_line.new.rows c.loop-number.number c.read_line.new.self.line c.in_ok-has_more.has_more said
     c.if-not-has_more.true c.loop-number.invariant c.in_ok-has_more.ensures.line (rw c.line.ensures at says) adds
 
 pub loop-number-preserved : goal.loop-number-preserved
 loop-number-preserved g c =
     let (said, says, adds) = c.in_ok-add_line.ensures.adds in
-    rows_stepped c.args.form c.args.host_bits c.args.reader.now.left c.loop-number.reader.left c.read_line.new.self.left
+    rows_stepped c.args.form c.args.list_form c.args.reader.now.left c.loop-number.reader.left c.read_line.new.self.left
     c.loop-number.rows c.add_line.new.rows c.loop-number.number c.read_line.new.self.line c.in_ok-has_more.has_more said
     c.if-not-has_more.false c.loop-number.invariant c.in_ok-has_more.ensures.line (rw c.line.ensures at says) adds
 
@@ -38,7 +38,7 @@ pub returns-in_err-has_more-clause-cause : goal.returns-in_err-has_more-clause-c
 returns-in_err-has_more-clause-cause g c =
     let (y, is, same) = err_from_is_err_and c.from_residual.result c.from_residual.ensures.1 in
     rw (is, same) (no_line_cause c.args.reader.now.left c.loop-number.reader.left (g.M.Memory.refused c.read_line.new.memory) c.in_err-has_more.field-0.0
-    (rows_known c.args.form c.args.host_bits c.args.reader.now.left c.loop-number.reader.left c.loop-number.rows c.loop-number.number c.loop-number.invariant)
+    (rows_known c.args.form c.args.list_form c.args.reader.now.left c.loop-number.reader.left c.loop-number.rows c.loop-number.number c.loop-number.invariant)
     c.in_err-has_more.ensures.failed c.in_err-has_more.ensures.refused)
 
 pub returns-in_err-add_line-clause-cause : goal.returns-in_err-add_line-clause-cause
@@ -48,5 +48,5 @@ returns-in_err-add_line-clause-cause g c =
 
 pub returns-clause-cause : goal.returns-clause-cause
 returns-clause-cause g c =
-    rows_used c.args.form c.args.host_bits c.args.reader.now.left c.loop-number.reader.left c.loop-number.rows c.loop-number.number c.loop-number.invariant
+    rows_used c.args.form c.args.list_form c.args.reader.now.left c.loop-number.reader.left c.loop-number.rows c.loop-number.number c.loop-number.invariant
     c.loop-number-test.false

@@ -10,8 +10,8 @@ returns-in-Err-clause-cause g c = not_opened (g.F.Sources.contents c.args.source
 pub returns-in-Err-Line-clause-adds : goal.returns-in-Err-Line-clause-adds
 returns-in-Err-Line-clause-adds g c = (
   refl,
-  list_read (g.F.Sources.contents c.args.sources.now c.args.file.now) _ c.host_bits.result c.args.lists.now c.read_list.new.lists
-      (Err (Line c.in-Err-Line.number c.in-Err-Line.e)) c.in-Ok.ensures.left (c.host_bits.ensures c.args.file.now)
+  list_read (g.F.Sources.contents c.args.sources.now c.args.file.now) _ c.list_form.result c.args.lists.now c.read_list.new.lists
+      (Err (Line c.in-Err-Line.number c.in-Err-Line.e)) c.in-Ok.ensures.left (c.list_form.ensures c.args.file.now)
       (rw c.in-Err-Line.field-0-is at c.in-Err-Line.ensures.reads),
 )
 

@@ -21,15 +21,15 @@ pub returns-in-Ok-clause-gives : goal.returns-in-Ok-clause-gives
 returns-in-Ok-clause-gives g c =
     file_set (g.F.Sources.contents c.args.sources.now c.args.file.now) c.args.file.now c.new-lists.result c.read_list.new.lists c.of_lists.result
     c.new-lists.ensures.v4 c.new-lists.ensures.v6
-    (list_read (g.F.Sources.contents c.args.sources.now c.args.file.now) _ c.host_bits.result c.new-lists.result c.read_list.new.lists (Ok tt)
-    (opens_begun _ (g.F.Sources.contents c.args.sources.now c.args.file.now) c.in_ok-begun.begun c.in_ok-begun.ensures.told) (c.host_bits.ensures c.args.file.now)
+    (list_read (g.F.Sources.contents c.args.sources.now c.args.file.now) _ c.list_form.result c.new-lists.result c.read_list.new.lists (Ok tt)
+    (opens_begun _ (g.F.Sources.contents c.args.sources.now c.args.file.now) c.in_ok-begun.begun c.in_ok-begun.ensures.told) (c.list_form.ensures c.args.file.now)
     c.in-Ok.ensures.reads) c.of_lists.ensures
 
 pub returns-clause-gives : goal.returns-clause-gives
 returns-clause-gives g c =
-    rw c.unread.ensures (no_list_lines (g.F.Sources.contents c.args.sources.now c.args.file.now) _ c.host_bits.result c.args.file c.new-lists.result c.read_list.new.lists
+    rw c.unread.ensures (no_list_lines (g.F.Sources.contents c.args.sources.now c.args.file.now) _ c.list_form.result c.args.file c.new-lists.result c.read_list.new.lists
     c.in-Err.e (opens_begun _ (g.F.Sources.contents c.args.sources.now c.args.file.now) c.in_ok-begun.begun c.in_ok-begun.ensures.told)
-    (c.host_bits.ensures c.args.file.now) c.in-Err.ensures.reads
+    (c.list_form.ensures c.args.file.now) c.in-Err.ensures.reads
     (begins_as _ (g.F.Sources.contents c.args.sources.now c.args.file.now) c.in_ok-begun.begun c.in_ok-begun.ensures.told c.is_stored.result c.is_stored.ensures false
     c.if-is_stored.false))
 

@@ -18,8 +18,8 @@ returns-then-is_stored-clause-gives g c =
 
 pub returns-in-Ok-clause-gives : goal.returns-in-Ok-clause-gives
 returns-in-Ok-clause-gives g c =
-    rows_read c.args.form (g.F.Sources.contents c.args.sources.now c.args.file.now) _ c.host_bits.result c.args.file.now c.in-Ok.rows
-    (opens_begun _ (g.F.Sources.contents c.args.sources.now c.args.file.now) c.in_ok-begun.begun c.in_ok-begun.ensures.told) (c.host_bits.ensures c.args.file.now)
+    rows_read c.args.form (g.F.Sources.contents c.args.sources.now c.args.file.now) _ c.list_form.result c.args.file.now c.in-Ok.rows
+    (opens_begun _ (g.F.Sources.contents c.args.sources.now c.args.file.now) c.in_ok-begun.begun c.in_ok-begun.ensures.told) (c.list_form.ensures c.args.file.now)
     c.in-Ok.ensures.reads
 
 pub returns-in-Err-clause-gives : goal.returns-in-Err-clause-gives
@@ -27,8 +27,8 @@ returns-in-Err-clause-gives g c =
     rw c.unread.ensures (no_lines c.args.form (g.F.Sources.contents c.args.sources.now c.args.file.now) c.args.file c.in-Err.e
     (begins_as _ (g.F.Sources.contents c.args.sources.now c.args.file.now) c.in_ok-begun.begun c.in_ok-begun.ensures.told c.is_stored.result c.is_stored.ensures false
     c.if-is_stored.false)
-    (table_unread c.args.form (g.F.Sources.contents c.args.sources.now c.args.file.now) _ c.host_bits.result c.args.file c.in-Err.e
-    (opens_begun _ (g.F.Sources.contents c.args.sources.now c.args.file.now) c.in_ok-begun.begun c.in_ok-begun.ensures.told) (c.host_bits.ensures c.args.file.now)
+    (table_unread c.args.form (g.F.Sources.contents c.args.sources.now c.args.file.now) _ c.list_form.result c.args.file c.in-Err.e
+    (opens_begun _ (g.F.Sources.contents c.args.sources.now c.args.file.now) c.in_ok-begun.begun c.in_ok-begun.ensures.told) (c.list_form.ensures c.args.file.now)
     c.in-Err.ensures.reads))
 
 pub returns-in-Err-clause-cause : goal.returns-in-Err-clause-cause

@@ -7,13 +7,13 @@ returns-in-Err-clause-cause g c = not_opened (g.F.Sources.contents c.args.source
 
 pub returns-in-Ok-read_rows-clause-reads : goal.returns-in-Ok-read_rows-clause-reads
 returns-in-Ok-read_rows-clause-reads g c =
-    rows_read c.args.form (g.F.Sources.contents c.args.sources.now c.args.file.now) _ c.host_bits.result c.args.file.now c.in-Ok-read_rows.rows
-    c.in-Ok.ensures.left (c.host_bits.ensures c.args.file.now) c.in-Ok-read_rows.ensures.reads
+    rows_read c.args.form (g.F.Sources.contents c.args.sources.now c.args.file.now) _ c.list_form.result c.args.file.now c.in-Ok-read_rows.rows
+    c.in-Ok.ensures.left (c.list_form.ensures c.args.file.now) c.in-Ok-read_rows.ensures.reads
 
 pub returns-in-Err-read_rows-clause-reads : goal.returns-in-Err-read_rows-clause-reads
 returns-in-Err-read_rows-clause-reads g c =
-    rw c.unread.ensures (table_unread c.args.form (g.F.Sources.contents c.args.sources.now c.args.file.now) _ c.host_bits.result c.args.file c.in-Err-read_rows.e
-    c.in-Ok.ensures.left (c.host_bits.ensures c.args.file.now) c.in-Err-read_rows.ensures.reads)
+    rw c.unread.ensures (table_unread c.args.form (g.F.Sources.contents c.args.sources.now c.args.file.now) _ c.list_form.result c.args.file c.in-Err-read_rows.e
+    c.in-Ok.ensures.left (c.list_form.ensures c.args.file.now) c.in-Err-read_rows.ensures.reads)
 
 pub returns-in-Err-read_rows-clause-cause : goal.returns-in-Err-read_rows-clause-cause
 returns-in-Err-read_rows-clause-cause g c =
