@@ -58,12 +58,12 @@ fn shown_network(text: &str, network: &IpCidr) -> Shown
         "length ",
         Buffer::new().format(network.network_length()),
     );
-    push_line(&mut shown, "family ", family_name(network.family()));
+    push_line(&mut shown, "family ", variant_name(network.family()));
     shown
 }
 
-/// The name of a family.
-fn family_name(family: Family) -> &'static str
+/// The name of the variant of a family.
+fn variant_name(family: Family) -> &'static str
     ensures name { result.now ≡ show_family family }
     ensures len { length result.now ≡ 4 }
 {

@@ -22,6 +22,6 @@ returns c =
       c.mask.ensures,
       c.format.ensures.text,
       c.network_length.ensures.value,
-      c.family_name.ensures.name,
+      c.variant_name.ensures.name,
       c.family.ensures,
     ) (lines_appended _ _ _ _ _ _)
