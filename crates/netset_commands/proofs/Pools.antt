@@ -14,14 +14,14 @@ use Rattle.cidr_lists.specs.Sets.{IsInSets, networks_of}
 use Rattle.cidr_lists.specs.declared.sets.Sets.{Sets}
 use Rattle.cidr_lists.proofs.SetSteps.{set_same}
 use Rattle.cidr_sets.specs.model.Sets.{IsSetOf}
-use Rattle.netset_commands.specs.Answering.{AreRead, HasAddresses, ReadsListed, ReadsOperand, SplitsList, SplitsNetwork, TellsFree}
+use Rattle.netset_commands.specs.Answering.{AreRead, HasAddresses, ReadsListed, ReadsOperand, SplitsList, SplitsNetwork, TellsFree, split_text}
 use Rattle.netset_commands.specs.Combining.{IsMade}
 use Rattle.cidr_lists.specs.Texts.{SaysAddress}
 use Rattle.netset_commands.specs.Commands.{AreTold, Free, IsFree, OfLists, Split}
 use Rattle.netset_commands.specs.Free.{Extent, Count, IsBadCount, IsBadFree, IsBadLength, IsMost, inside_of}
 use Rattle.netset_commands.specs.Operands.{IsNoNetworkText, OfOperand}
 use Rattle.netset_commands.specs.Program.{AnswersRequest, IsBadArgument}
-use Rattle.netset_commands.specs.Single.{HasNone, IsNumber, split_text}
+use Rattle.netset_commands.specs.Single.{HasNone, IsNumber}
 use Rattle.netset_commands.specs.declared.commands.operations.Operation.TheVariants.{Minus}
 use Rattle.netset_commands.specs.Causes.{Cause}
 use Rattle.netset_commands.specs.declared.errors.ArgumentError.{ArgumentError}

@@ -3,9 +3,11 @@ use Rattle.std.specs.Prelude.{◌≡◌, ◌≢◌, ◌⊎◌, ℕ, ◌≤◌, B
 use Rattle.std.specs.List.{AllZip}
 use Rattle.cidr.specs.declared.cidr.combined.IpCidr.{IpCidr}
 use Rattle.cidr.specs.declared.family.Family.{Family}
+use Rattle.cidr.specs.either.IpNetwork.{network_family, network_prefix}
+use Rattle.cidr_ext.specs.model.Subnets.{subnets_of}
 use Rattle.cidr_sets.specs.model.Sets.{IsSetOf}
 use Rattle.cidr_lists.specs.Changes.{merged}
-use Rattle.cidr_lists.specs.Formats.{Style, printed_by}
+use Rattle.cidr_lists.specs.Formats.{Style, printed_by, printed_walk}
 use Rattle.cidr_lists.specs.Lists.{Text, ListSays, IsFirstError, networks_in}
 use Rattle.cidr_lists.specs.Reading.{Grows}
 use Rattle.cidr_lists.specs.Sets.{networks_of}
@@ -17,7 +19,7 @@ use Rattle.cidr_io.specs.Writing.{State, Answered}
 use Rattle.cidr_io.specs.declared.sink.OutputFailed.{OutputFailed}
 use Rattle.netset_commands.specs.Describing.{told_of}
 use Rattle.netset_commands.specs.Free.{IsBadLength, IsFreeText}
-use Rattle.netset_commands.specs.Single.{HasNone, IsNumber, split_text}
+use Rattle.netset_commands.specs.Single.{HasNone, IsNumber}
 use Rattle.netset_commands.specs.Operands.{IsUnlisted, IsUnreadOperand, OfList, OfOperand}
 use Rattle.netset_commands.specs.declared.commands.describe.Description.{Description}
 use Rattle.netset_commands.specs.declared.output.answers.Verdict.{Verdict}
@@ -118,7 +120,11 @@ abbrev pub TellsFree : Option Style → (Family → List (List Bool)) → ℕ �
 TellsFree style sets n most old new r = (answer : List ℕ) × (verdict : Verdict) × (written : Result (Unit {0}) OutputFailed)
     × IsFreeText style sets n most answer verdict × Answered old new answer written × (r ≡ by_output verdict written)
 
--- the networks inside a network were told, or the length is none of theirs
+-- the networks of n bits inside a network, ascending
+abbrev pub split_text : Option Style → IpCidr → ℕ → List ℕ
+split_text style network n = printed_walk style (subnets_of (network_family network) (network_prefix network) n)
+
+-- they were told, or the length is none of theirs
 abbrev pub SplitsNetwork : Option Style → IpCidr → List ℕ → State → State → Result Verdict CommandError → Type 0
 SplitsNetwork style network len old new r = ((new ≡ old) × (e : CommandError) × (r ≡ Err e) × IsBadArgument (HasNoSubnets network len) e)
     ⊎ ((n : ℕ) × IsNumber len n × ¬ (HasNone network n) × (written : Result (Unit {0}) OutputFailed)

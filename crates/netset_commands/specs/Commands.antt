@@ -14,7 +14,9 @@ use Rattle.netset_commands.specs.Findings.{IsCheck, IsClean}
 use Rattle.netset_commands.specs.Free.{Extent, IsFreeText, IsMost, all_told}
 use Rattle.netset_commands.specs.Look.{IsLook}
 use Rattle.cidr_lists.specs.Lists.{Text, ListSays, line_networks, networks_in, way_of}
-use Rattle.cidr_lists.specs.Formats.{Style, IsPrintBy}
+use Rattle.cidr.specs.either.IpNetwork.{network_family, network_prefix}
+use Rattle.cidr_ext.specs.model.Subnets.{subnets_of}
+use Rattle.cidr_lists.specs.Formats.{Style, IsPrintBy, printed_walk}
 use Rattle.cidr_lists.specs.Rules.{Question, IsRulesAnswer, compared_with, faults_in}
 use Rattle.cidr_lists.specs.Changes.{AreChanges, printed_changes}
 use Rattle.cidr_lists.specs.LookUps.{telling_by}
@@ -30,6 +32,7 @@ use Rattle.cidr.specs.declared.addr.ip.IpAddr.{IpAddr}
 use Rattle.netset_commands.specs.declared.commands.describe.Description.{Description}
 use Rattle.netset_commands.specs.declared.commands.describe.Description.TheVariants.{Zones, Masks}
 use Rattle.netset_commands.specs.declared.commands.table.Verb.{Verb}
+use Rattle.netset_commands.specs.declared.program.TheConstants.{VERSION}
 use Rattle.netset_commands.specs.declared.commands.AtFault.{AtFault}
 use Rattle.netset_commands.specs.declared.commands.AtFault.TheVariants.{Stop, Tell, Skip}
 use Rattle.netset_commands.specs.declared.commands.Reading.{Reading}
@@ -45,7 +48,7 @@ use Rattle.netset_commands.specs.declared.commands.operations.Operation.TheVaria
 use Rattle.cidr_lists.specs.Sets.{IsPrinted}
 use Rattle.cidr_lists.specs.Texts.{SaysAddress}
 use Rattle.netset_commands.specs.Same.{IsSame}
-use Rattle.netset_commands.specs.Single.{SingleRequest, HasNone, IsNumber, IsSingleAnswer, split_text}
+use Rattle.netset_commands.specs.Single.{SingleRequest, HasNone, IsNumber, IsSingleAnswer}
 use Rattle.netset_commands.specs.declared.output.answers.Verdict.{Verdict}
 use Rattle.netset_commands.specs.declared.output.answers.Verdict.TheVariants.{Yes}
 use Rattle.cidr_lists.specs.declared.changes.Sign.{Sign}
@@ -185,7 +188,7 @@ IsFree style n most said answer verdict = (sets : Family → List (List Bool))
 -- the networks of n bits inside a network, or inside the networks of a list
 abbrev pub IsSplitInto : (List ℕ → Option Text) → Option Style → List ℕ → ℕ → List ℕ → Verdict → Type 0
 IsSplitInto contents style operand n answer verdict =
-    ((network : IpCidr) × IsIpNetworkText operand network × ¬ (HasNone network n) × (answer ≡ split_text style network n) × (verdict ≡ Yes))
+    ((network : IpCidr) × IsIpNetworkText operand network × ¬ (HasNone network n) × (answer ≡ printed_walk style (subnets_of (network_family network) (network_prefix network) n)) × (verdict ≡ Yes))
     ⊎ (IsNoNetworkText operand × (n ≤ 128) × OfList (contents operand) (λ said. IsFree style n None (said ∷ []) answer verdict))
 
 -- what is told of each network of the shortest list that has the addresses of lines
@@ -206,10 +209,6 @@ IsInRow table family a = Covers (keys_of (table family)) a
 abbrev pub HoldsOf : Text → ((Family → List Bool → Type 0) → Type 0) → Type 0
 HoldsOf text P = ((said : List (List IpCidr)) × ListSays text said × P (SaysAddress said))
     ⊎ ((table : Family → List (List Bool × List ℕ)) × HasTable table text.bytes × P (IsInRow table))
-
--- what `--version` writes: the version, and the line that `rt version` prints of the kit that proves it
-abbrev pub version_text : List ℕ
-version_text = codes "netset 0.1.0\nrattle-kit-13f logic dac8208d650f15bf\n"
 
 -- what a request is answered with, and whether the answer is none or no, from what is told of the files
 abbrev pub IsAnswer : (List ℕ → Option Text) → Request → List ℕ → Verdict → Type 0
@@ -243,4 +242,4 @@ IsAnswer contents (Describe what operand) answer verdict = IsDescription content
 IsAnswer contents (Class operand) answer verdict = IsClassOf contents operand answer verdict
 IsAnswer contents (Single request) answer verdict = IsSingleAnswer request answer verdict
 IsAnswer contents (Help topic) answer verdict = (answer ≡ help_text topic) × (verdict ≡ Yes)
-IsAnswer contents Version answer verdict = (answer ≡ version_text) × (verdict ≡ Yes)
+IsAnswer contents Version answer verdict = (answer ≡ VERSION.now) × (verdict ≡ Yes)

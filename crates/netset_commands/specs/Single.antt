@@ -1,5 +1,5 @@
 -- The commands on one host or network, their arguments, and what each answers.
-use Rattle.std.specs.Prelude.{◌≡◌, ℕ, ◌-◌, ◌^◌, ◌<◌, ◌≤◌, ◌⊎◌, Bool, List, [], length, Option}
+use Rattle.std.specs.Prelude.{◌≡◌, ℕ, ◌-◌, ◌^◌, ◌<◌, ◌≤◌, ◌⊎◌, Bool, List, [], length}
 use Rattle.std.specs.Str.Parse.{IsNumeral, digits_value, without_leading_plus}
 use Rattle.cidr.specs.either.IpAddress.{address_family, plain_bits}
 use Rattle.cidr.specs.either.IpHost.{host_address, host_network}
@@ -11,10 +11,8 @@ use Rattle.cidr.specs.declared.addr.ip.IpAddr.{IpAddr}
 use Rattle.cidr.specs.declared.cidr.combined.IpCidr.{IpCidr}
 use Rattle.cidr.specs.declared.inet.combined.IpInet.{IpInet}
 use Rattle.cidr_ext.specs.model.Inside.{IsAddressAt}
-use Rattle.cidr_ext.specs.model.Subnets.{subnets_of}
 use Rattle.cidr_ext.specs.texts.TextFaults.{IsFaultOf}
 use Rattle.cidr_lists.specs.Descriptions.{IsHostLines}
-use Rattle.cidr_lists.specs.Formats.{Style, printed_walk}
 use Rattle.cidr_lists.specs.Printing.{line}
 use Rattle.netset_commands.specs.declared.output.answers.Verdict.{Verdict}
 use Rattle.netset_commands.specs.declared.output.answers.Verdict.TheVariants.{Yes, No}
@@ -33,10 +31,6 @@ IsNumber text n = IsNumeral 10 (without_leading_plus text) × (n ≡ digits_valu
 -- no network of n bits is inside this one
 abbrev pub HasNone : IpCidr → ℕ → Type 0
 HasNone network n = (n < length (network_prefix network)) ⊎ (width_of (network_family network) < n)
-
--- the networks of n bits inside a network, ascending
-abbrev pub split_text : Option Style → IpCidr → ℕ → List ℕ
-split_text style network n = printed_walk style (subnets_of (network_family network) (network_prefix network) n)
 
 -- the address at index i of a network as a line, or nothing where the network has no more addresses than that
 abbrev pub IsNthText : IpCidr → ℕ → List ℕ → Verdict → Type 0

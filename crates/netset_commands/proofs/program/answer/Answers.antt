@@ -1,7 +1,7 @@
 use Rattle.std.proofs.Common.{inr, refl}
 use Rattle.netset_commands.specs.Causes.{FileMayFail}
 use Rattle.netset_commands.specs.Command.{single_request}
-use Rattle.netset_commands.specs.Commands.{version_text}
+use Rattle.netset_commands.specs.declared.program.TheConstants.{VERSION}
 use Rattle.netset_commands.specs.Table.{help_text}
 use Rattle.netset_commands.specs.declared.output.answers.Verdict.TheVariants.{Yes}
 use Rattle.netset_commands.proofs.Causes.{output_cause, single_cause}
@@ -67,7 +67,7 @@ returns-in-Help-clause-answers g c =
 
 pub returns-in-Version-clause-answers : goal.returns-in-Version-clause-answers
 returns-in-Version-clause-answers g c =
-    rw c.in-Version.is (inr (version_text, Yes, c.write_text.result, (refl, refl), c.write_text.ensures, c.by_output-in-Version.ensures))
+    rw c.in-Version.is (inr (VERSION.now, Yes, c.write_text.result, (refl, refl), c.write_text.ensures, c.by_output-in-Version.ensures))
 
 pub returns-in-Lists-clause-cause : goal.returns-in-Lists-clause-cause
 returns-in-Lists-clause-cause g c = rw c.in-Lists.is c.lists.ensures.cause
