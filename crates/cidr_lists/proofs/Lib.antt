@@ -23,6 +23,7 @@ pub mod ReadBack
 pub mod Registered
 pub mod Resolved
 pub mod RecordLines
+pub mod RowSplits
 pub mod RuleTexts
 pub mod SaidWidths
 pub mod Shadows

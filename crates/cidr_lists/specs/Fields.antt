@@ -91,12 +91,6 @@ HasNoFields separator line = (text : List ℕ) × IsTrimAscii line text × (befo
 abbrev pub HasFields : Separator → List ℕ → Type 0
 HasFields separator line = (text : List ℕ) × IsTrimAscii line text × (before_first (begins_comment separator) text ≢ [])
 
--- the first field of a line that has some, and the rest of it, both without white space at both ends: a # or ; in them is a byte
--- like any other
-abbrev pub IsRowSplit : Separator → List ℕ → List ℕ → List ℕ → Type 0
-IsRowSplit separator line first rest = HasFields separator line
-    × IsTrimAscii (field_at separator 0 line) first × IsTrimAscii (behind_field separator line) rest
-
 -- the line has no fields, or the field of the column is this network
 abbrev pub FieldSays : Column → List ℕ → Option IpCidr → Type 0
 FieldSays column line None = HasNoFields column.separator line

@@ -1,8 +1,8 @@
--- How a row of a table has a network and its value: as two fields; as the files of routes and origins that CAIDA publishes
+-- How a row of a table has a network and its value: as fields; as the files of routes and origins that CAIDA publishes
 -- ("Routeviews Prefix-to-AS mappings", pfx2as); or as `ip route` of iproute2 prints routes (ip-route(8)).
-use Rattle.std.specs.Prelude.{◌≡◌, ◌≢◌, ◌⊎◌, ◌==◌, ℕ, ◌<◌, Bool, true, false, if◌then◌else◌, List, [], ◌∷◌, ◌++◌, codes, length, slice_index_or, ◌+◌, IsUtf8, Option, Some, None}
+use Rattle.std.specs.Prelude.{◌≡◌, ◌≢◌, ◌⊎◌, ◌==◌, ℕ, ◌^◌, ◌<◌, Bool, true, false, if◌then◌else◌, List, [], ◌∷◌, ◌++◌, codes, length, slice_index_or, ◌+◌, IsUtf8, Option, Some, None}
 use Rattle.std.specs.List.{All}
-use Rattle.std.specs.Str.{bytes_eq}
+use Rattle.std.specs.Str.{bytes_eq, IsTrimAscii}
 use Rattle.cidr.specs.either.IpAddress.{IsIpText}
 use Rattle.cidr.specs.texts.NetworkText.{slash}
 use Rattle.cidr.specs.texts.PrintedAddress.{ip_text}
@@ -12,7 +12,7 @@ use Rattle.cidr.specs.declared.family.Family.{Family}
 use Rattle.cidr.specs.declared.family.Family.TheVariants.{Ipv4, Ipv6}
 use Rattle.cidr_io.specs.Shown.{byte_excerpt}
 use Rattle.cidr_lists.specs.ListLines.{IsBadLineBy, IsNetworkBy, IsTooLong}
-use Rattle.cidr_lists.specs.Fields.{AreFirstAndRest, HasNoFields, IsNoAddressField, IsNoNetworkField, IsRowSplit}
+use Rattle.cidr_lists.specs.Fields.{AreFirstAndRest, HasFields, HasNoFields, IsNoAddressField, IsNoNetworkField, behind_field, field_at}
 use Rattle.cidr_lists.specs.declared.columns.Separator.{Separator}
 use Rattle.cidr_lists.specs.declared.columns.Separator.TheVariants.{WhiteSpace}
 use Rattle.cidr_lists.specs.declared.errors.LineError.{LineError}
@@ -21,14 +21,26 @@ use Rattle.cidr_lists.specs.declared.formats.LineFormat.{LineFormat}
 use Rattle.cidr_lists.specs.declared.formats.LineFormat.TheVariants.{Plain, Json}
 use Rattle.cidr_lists.specs.declared.forms.RowForm.{RowForm}
 use Rattle.cidr_lists.specs.declared.forms.RowLayout.{RowLayout}
-use Rattle.cidr_lists.specs.declared.forms.RowLayout.TheVariants.{Fields, Pfx2as, Routes}
+use Rattle.cidr_lists.specs.declared.forms.RowLayout.TheVariants.{Fields, Columns, Pfx2as, Routes}
 use Rattle.cidr_lists.specs.declared.lines.HostBits.{HostBits}
 
--- what parts the first field of a row from the rest
+-- what parts the fields of a row
 abbrev pub separator_of : RowLayout → Separator
 separator_of (Fields separator) = separator
-separator_of Pfx2as = WhiteSpace
-separator_of (Routes family) = WhiteSpace
+separator_of (Columns columns) = columns.separator
+separator_of layout = WhiteSpace
+
+-- its fields have numbers of 64 bits, from 1 on
+abbrev pub HasNumbers : RowLayout → Type 0
+HasNumbers (Columns columns) = (columns.network + 1 < 2 ^ 64) × (columns.value + 1 < 2 ^ 64)
+HasNumbers layout = Unit {0}
+
+-- the fields of a row that are its network and its value, or else its first field and the rest of it, without white space at both
+-- ends: a # or ; in them is a byte like any other
+abbrev pub IsRowSplit : RowLayout → List ℕ → List ℕ → List ℕ → Type 0
+IsRowSplit (Columns columns) line first rest =
+    IsTrimAscii (field_at columns.separator columns.network line) first × IsTrimAscii (field_at columns.separator columns.value line) rest
+IsRowSplit layout line first rest = IsTrimAscii (field_at (separator_of layout) 0 line) first × IsTrimAscii (behind_field (separator_of layout) line) rest
 
 -- ---- the text of a network
 -- of a route: `default` is the network of all addresses
@@ -44,12 +56,12 @@ abbrev pub with_length : IpAddr → List ℕ → List ℕ
 with_length address len = ip_text address ++ slash ∷ len
 
 -- ---- a row
--- a network and its value, by the first field of a row and the rest of it
+-- a network and its value, by these parts of a row
 abbrev pub PartsSay : RowLayout → HostBits → List ℕ → List ℕ → IpCidr → List ℕ → Type 0
-PartsSay (Fields separator) bits first rest network value = IsNetworkBy bits first network × (value ≡ rest)
 PartsSay Pfx2as bits first rest network value = (address : IpAddr) × (len : List ℕ) × IsIpText first address × AreFirstAndRest rest len value
     × IsNetworkBy bits (with_length address len) network
 PartsSay (Routes family) bits first rest network value = IsNetworkBy bits (route_text family first) network × (value ≡ rest)
+PartsSay layout bits first rest network value = IsNetworkBy bits first network × (value ≡ rest)
 
 -- a value can be told in this format: a string of JSON is UTF-8
 abbrev pub Fits : LineFormat → List ℕ → Type 0
@@ -63,7 +75,7 @@ AreFit format rows = All (λ (row : List Bool × List ℕ). Fits format row.1) r
 -- the line says nothing, being blank or a comment, or a network and its value
 abbrev pub RowFieldsSay : RowForm → HostBits → List ℕ → Option (IpCidr × List ℕ) → Type 0
 RowFieldsSay form bits line None = HasNoFields (separator_of form.layout) line
-RowFieldsSay form bits line (Some (network, value)) = (first rest : List ℕ) × IsRowSplit (separator_of form.layout) line first rest
+RowFieldsSay form bits line (Some (network, value)) = HasFields (separator_of form.layout) line × (first rest : List ℕ) × IsRowSplit form.layout line first rest
     × PartsSay form.layout bits first rest network value × Fits form.values value
 
 -- the same of a line that is not too long
@@ -76,10 +88,11 @@ abbrev pub begins_quoted : List ℕ → Bool
 begins_quoted [] = false
 begins_quoted (byte ∷ bytes) = byte == 34
 
--- the first field is quoted, or else it is no network
+-- the field of the network is missing or empty, or quoted, or else it is no network
 abbrev pub IsBadCell : HostBits → List ℕ → LineError → Type 0
+IsBadCell bits first NoField = first ≡ []
 IsBadCell bits first (Quoted text) = (begins_quoted first ≡ true) × (text.bytes ≡ byte_excerpt first)
-IsBadCell bits first e = (begins_quoted first ≡ false) × IsNoNetworkField bits first e
+IsBadCell bits first e = (first ≢ []) × (begins_quoted first ≡ false) × IsNoNetworkField bits first e
 
 -- the field of the length behind an address is missing; or it is longer than any length or mask; or the two are no network
 abbrev pub IsBadLength : HostBits → IpAddr → List ℕ → LineError → Type 0
@@ -87,12 +100,12 @@ IsBadLength bits address len NoField = len ≡ []
 IsBadLength bits address len (NoLength text) = (45 < length len) × (text.bytes ≡ byte_excerpt len)
 IsBadLength bits address len e = (len ≢ []) × IsNoNetworkField bits (with_length address len) e
 
--- the row is in error by its first field, or else by the next one
+-- the row is in error by the field of its network, or else by the next one
 abbrev pub IsBadParts : RowLayout → HostBits → List ℕ → List ℕ → LineError → Type 0
-IsBadParts (Fields separator) bits first rest e = IsBadCell bits first e
 IsBadParts Pfx2as bits first rest e = IsNoAddressField first e
     ⊎ ((address : IpAddr) × (len value : List ℕ) × IsIpText first address × AreFirstAndRest rest len value × IsBadLength bits address len e)
 IsBadParts (Routes family) bits first rest e = IsNoNetworkField bits (route_text family first) e
+IsBadParts layout bits first rest e = IsBadCell bits first e
 
 -- or it has a network, and its value can't be told in this format
 abbrev pub IsUnfit : LineFormat → List ℕ → LineError → Type 0
@@ -108,7 +121,7 @@ abbrev pub HasUnfitValue : RowForm → HostBits → List ℕ → List ℕ → Li
 HasUnfitValue form bits first rest e = (network : IpCidr) × (value : List ℕ) × PartsSay form.layout bits first rest network value × IsUnfit form.values value e
 
 abbrev pub HasRowError : RowForm → HostBits → List ℕ → LineError → Type 0
-HasRowError form bits line e = (first rest : List ℕ) × IsRowSplit (separator_of form.layout) line first rest
+HasRowError form bits line e = HasFields (separator_of form.layout) line × (first rest : List ℕ) × IsRowSplit form.layout line first rest
     × (IsBadParts form.layout bits first rest e ⊎ HasUnfitValue form bits first rest e)
 
 abbrev pub IsBadRow : RowForm → HostBits → List ℕ → LineError → Type 0

@@ -99,11 +99,8 @@ joint_of (Field column) = joint_by column.separator
 joint_of Anywhere = 32
 
 -- a line without the carriage returns at its end, which CRLF leaves there
-abbrev pub is_return : ℕ → Bool
-is_return byte = byte == 13
-
 abbrev pub without_returns : List ℕ → List ℕ
-without_returns line = take (length line - suffix_len is_return line) line
+without_returns line = take (length line - suffix_len (λ byte. byte == 13) line) line
 
 -- and these
 abbrev pub returns_of : List ℕ → List ℕ

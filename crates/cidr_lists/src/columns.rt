@@ -3,9 +3,10 @@ ghost use Rattle.std.specs.Prelude.{◌≡◌, ◌≤◌, ◌==◌, [], length, 
 ghost use Rattle.std.specs.Bool.{Decides};
 ghost use Rattle.std.specs.Char.{is_ascii_whitespace};
 ghost use Rattle.std.specs.List.{before_first, position_or_len};
+ghost use Rattle.std.specs.Str.{IsTrimAscii};
 ghost use Rattle.cidr.specs.either.IpAddress.{IsIpText};
 ghost use Rattle.cidr_lists.specs.Lists.{IsField, IsFirstField, IsNetworkBy};
-ghost use Rattle.cidr_lists.specs.Fields.{AreFirstAndRest, HasNoFields, IsFieldOf, IsNoAddressField, IsNoNetworkField, IsRowSplit, IsSplit, ReadsAddress, begin_of, begins_comment, behind_field, field_at, separates};
+ghost use Rattle.cidr_lists.specs.Fields.{AreFirstAndRest, HasFields, HasNoFields, IsFieldOf, IsNoAddressField, IsNoNetworkField, IsSplit, ReadsAddress, begin_of, begins_comment, behind_field, field_at, separates};
 
 use crate::errors::{BadText, LineError};
 use crate::lines::{HostBits, is_comment_sign, network_of, without_comment};
@@ -189,7 +190,8 @@ pub(crate) fn is_no_row(separator: Separator, text: &[u8]) -> bool
 /// `#` and `;`: of `10.0.0.0/8 west # 2` it is `west # 2`, and with `Separator::Byte(b',')` it is `AS1,west` of
 /// `10.0.0.0/8,AS1,west`.
 pub fn split_row(separator: Separator, line: &[u8]) -> Option<(&[u8], &[u8])>
-    ensures { MatchOption result (HasNoFields separator line.now) (λ parts. IsRowSplit separator line.now parts.0.now parts.1.now) }
+    ensures { MatchOption result (HasNoFields separator line.now) (λ parts. HasFields separator line.now
+        × IsTrimAscii (field_at separator 0 line.now) parts.0.now × IsTrimAscii (behind_field separator line.now) parts.1.now) }
 {
     if is_no_row(separator, line.trim_ascii()) {
         return None;

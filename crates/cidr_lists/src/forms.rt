@@ -1,10 +1,13 @@
 //! What the lines of lists and tables are, and the row of a table that a line says.
-ghost use Rattle.std.specs.Prelude.{◌≡◌, ◌≤◌, ◌+◌, ◌++◌, MatchResult, length, option_map};
-ghost use Rattle.cidr_lists.specs.Forms.{Fits, HasRowError, IsBadCell, IsBadLength, IsBadParts, IsUnfit, PartsSay, RowFieldsSay, begins_quoted, default_text, route_text, separator_of, with_length};
+ghost use Rattle.std.specs.Prelude.{◌≡◌, ◌≤◌, ◌+◌, ◌++◌, MatchOption, MatchResult, length, option_map};
+ghost use Rattle.cidr_lists.specs.Fields.{HasFields, HasNoFields};
+ghost use Rattle.cidr_lists.specs.Forms.{Fits, HasRowError, IsBadCell, IsBadLength, IsBadParts, IsRowSplit, IsUnfit, PartsSay, RowFieldsSay, begins_quoted, default_text, route_text, separator_of, with_length};
 ghost use Rattle.cidr_lists.specs.Lists.{IsNetworkBy};
-ghost use Rattle.cidr_lists.specs.declared.forms.RowLayout.TheVariants.{Pfx2as};
+ghost use Rattle.cidr_lists.specs.declared.forms.RowLayout.TheVariants.{Columns, Pfx2as};
 
-use crate::columns::{Separator, address_in, network_in, parts_of, split_row};
+use crate::columns::{
+    Column, Separator, address_in, field_at, is_no_row, network_in, parts_of, split_row,
+};
 use crate::errors::LineError;
 use crate::formats::LineFormat;
 use crate::lines::HostBits;
@@ -12,12 +15,26 @@ use arrayvec::ArrayVec;
 use cidr::{Family, IpAddr, IpCidr};
 use cidr_io::shown::byte_excerpt;
 
+/// Which fields of a row are its network and its value.
+#[derive(Clone, Copy, Debug, Drop, PartialEq)]
+pub struct RowColumns {
+    /// What parts the fields.
+    pub separator: Separator,
+    /// The place of the network, from 0 on.
+    pub network: u64,
+    /// The place of the value, from 0 on. A row of fewer fields has an empty value.
+    pub value: u64,
+}
+
 /// How a row of a table has its network and its value.
 #[derive(Clone, Copy, Debug, Drop, PartialEq)]
 pub enum RowLayout {
     /// The first field is the network, and the rest of the line is the value: `10.0.0.0/8 west`, or with a comma
     /// `10.0.0.0/8,AS1,west`. A field in quotes is not read.
     Fields(Separator),
+    /// Two fields are the network and the value: `DE,west,10.0.0.0/8` has a network at place 2 and a value at place 0 or 1.
+    /// A field in quotes is not read as a network.
+    Columns(RowColumns),
     /// As the files of CAIDA that map prefixes to autonomous systems (pfx2as) have it: an address, its prefix length and
     /// the value, with white space between them, as `192.0.2.0 24 64500`.
     Pfx2as,
@@ -46,13 +63,35 @@ pub enum Kind {
     Rows(RowForm),
 }
 
-/// What parts the first field of a row from the rest.
-fn separator_of(layout: RowLayout) -> Separator
-    ensures { result ≡ separator_of layout }
+/// The fields of a row that are its network and its value; `None` for a line that is blank or a comment.
+fn fields_of(columns: RowColumns, line: &[u8]) -> Option<(&[u8], &[u8])>
+    ensures { MatchOption result (HasNoFields columns.separator line.now)
+        (λ parts. HasFields columns.separator line.now × IsRowSplit (Columns columns) line.now parts.0.now parts.1.now) }
+{
+    let separator = columns.separator;
+    if is_no_row(separator, line.trim_ascii()) {
+        return None;
+    }
+    let network = Column {
+        place: columns.network,
+        separator,
+    };
+    let value = Column {
+        place: columns.value,
+        separator,
+    };
+    Some((field_at(network, line), field_at(value, line)))
+}
+
+/// The parts of a row that say its network and its value; `None` for a line that is blank or a comment.
+fn split_by(layout: RowLayout, line: &[u8]) -> Option<(&[u8], &[u8])>
+    ensures { MatchOption result (HasNoFields (separator_of layout) line.now)
+        (λ parts. HasFields (separator_of layout) line.now × IsRowSplit layout line.now parts.0.now parts.1.now) }
 {
     match layout {
-        RowLayout::Fields(separator) => separator,
-        RowLayout::Pfx2as | RowLayout::Routes(_) => Separator::WhiteSpace,
+        RowLayout::Columns(columns) => fields_of(columns, line),
+        RowLayout::Fields(separator) => split_row(separator, line),
+        RowLayout::Pfx2as | RowLayout::Routes(_) => split_row(Separator::WhiteSpace, line),
     }
 }
 
@@ -87,10 +126,13 @@ fn begins_quoted(field: &[u8]) -> bool
     }
 }
 
-/// The network that a first field is.
+/// The network that a field is.
 fn cell_network(host_bits: HostBits, first: &[u8]) -> Result<IpCidr, LineError>
     ensures { MatchResult result (IsNetworkBy host_bits first.now) (IsBadCell host_bits first.now) }
 {
+    if first.is_empty() {
+        return Err(LineError::NoField);
+    }
     if begins_quoted(first) {
         return Err(LineError::Quoted(byte_excerpt(first)));
     }
@@ -165,7 +207,7 @@ fn prefix_row<'a>(
     }
 }
 
-/// The row of a first field and the rest of the line.
+/// The row of these parts.
 fn row_in<'a>(
     layout: RowLayout,
     host_bits: HostBits,
@@ -176,7 +218,7 @@ fn row_in<'a>(
         (IsBadParts layout host_bits first.now rest.now) }
 {
     match layout {
-        RowLayout::Fields(_) => match cell_network(host_bits, first) {
+        RowLayout::Fields(_) | RowLayout::Columns(_) => match cell_network(host_bits, first) {
             Ok(network) => Ok((network, rest)),
             Err(e) => Err(e),
         },
@@ -205,9 +247,10 @@ pub fn check_value(format: LineFormat, value: &[u8]) -> Result<(), LineError>
 /// `;`, unless this parts fields. Only a whole line is a comment, so that a value may have any bytes. A line of more than
 /// 1 MiB is for the caller to find.
 ///
-/// The errors are `Quoted`, for `RowLayout::Fields`; then, for `RowLayout::Pfx2as`, `NotUtf8` or `NoAddress` of the first
-/// field, `NoField` where no length stands behind it, and `NoLength` of one of more than 45 bytes; then `NotUtf8` and
-/// `NoNetwork` of the network; and then, for `LineFormat::Json`, `NotUtf8` of the value. It takes time in the length of the
+/// The errors are, for `RowLayout::Fields` and `RowLayout::Columns`, `NoField` where the field of the network is missing or
+/// empty, and `Quoted`; then, for `RowLayout::Pfx2as`, `NotUtf8` or `NoAddress` of the first field, `NoField` where no length
+/// stands behind it, and `NoLength` of one of more than 45 bytes; then `NotUtf8` and `NoNetwork` of the network; and then, for
+/// `LineFormat::Json`, `NotUtf8` of the value. It takes time in the length of the
 /// line and allocates nothing.
 pub fn row_of(
     form: RowForm,
@@ -217,7 +260,7 @@ pub fn row_of(
     ensures { MatchResult result (λ said. RowFieldsSay form host_bits line.now (option_map (λ row. (row.0, row.1.now)) said))
         (HasRowError form host_bits line.now) }
 {
-    let Some((first, rest)) = split_row(separator_of(form.layout), line) else {
+    let Some((first, rest)) = split_by(form.layout, line) else {
         return Ok(None);
     };
     let row = match row_in(form.layout, host_bits, first, rest) {

@@ -881,8 +881,8 @@ rows_of_forms() {
     run 2 '' $'-:2: 10.0.0.0/8 west: couldn\'t parse length in network: invalid length text\n' '\n10.0.0.0/8 west' look --table-separator , - address
     run 2 '' "-:1: \"10.0.0.0/8\": $quoted"$'\n' '"10.0.0.0/8",west' look --table-separator , - address
     run 2 '' "-:1: \"10.0.0.0/8\": $quoted"$'\n' '"10.0.0.0/8" west' look - address
-    run 2 '' "-:1: : $network"$'\n' ',west' look --table-separator , - address
-    run 2 '' "-:1: : $network"$'\n' ';10.0.0.0/8' look --table-separator ';' - address
+    run 2 '' "-:1: $none"$'\n' ',west' look --table-separator , - address
+    run 2 '' "-:1: $none"$'\n' ';10.0.0.0/8' look --table-separator ';' - address
     run 2 '' $'-:1: \\xff: not UTF-8\n' '\xff,west' look --table-separator , - address
     run 2 $'10.0.0.1 10.0.0.0/8 west\n' "-:2: x: $network"$'\n' '10.0.0.0/8,west\nx,east' look --skip-bad --table-separator , - address
     run 2 '' "-:2: x: $network"$'\n'"-:3: \"::/0\": $quoted"$'\n' '10.0.0.0/8,west\nx,east\n"::/0",all' look -k --table-separator , - address
@@ -892,6 +892,36 @@ rows_of_forms() {
     run 2 '' $',,: more or less than one byte, see: netset help look\n' '' look --table-separator ,, missing
     run 2 '' $': more or less than one byte, see: netset help compile\n' '' compile --table-separator= missing out
     run 2 '' $'\u00e9: more or less than one byte, see: netset help look\n' '' look --table-separator $'\u00e9' missing
+    # two fields by their numbers
+    run 0 $'10.0.0.1 10.0.0.0/8 west\n' '' 'west,10.0.0.0/8,x' look --table-separator , --table-fields 2,1 - address
+    run 0 $'10.0.0.1 10.0.0.0/8 a b\n' '' ' x , 10.0.0.0/8 , a b \r\n# a,b\n' look --table-fields=2,3 --table-separator , - address
+    run 0 $'10.0.0.1 10.0.0.0/8 west\n' '' '  a\twest 10.0.0.0/8 x' look --table-fields 3,2 - address
+    run 0 $'10.0.0.1 10.0.0.0/8\n' '' 'west,10.0.0.0/8' look --table-separator , --table-fields 2,3 - address
+    run 0 $'10.0.0.1 10.0.0.0/8 10.0.0.0/8\n' '' '10.0.0.0/8 west' look --table-fields 1,1 - address
+    run 0 $'10.0.0.1 10.0.0.0/8 west\n' '' 'west 10.0.0.0/8' look --table-fields +2,01 - address
+    run 0 $'10.0.0.1 10.0.0.0/8\n' '' '10.0.0.0/8 west' look --table-fields 1,18446744073709551615 - address
+    run 0 $'10.0.0.1 10.0.0.0/8 west\n' '' 'west,10.0.0.7 255.0.0.0' look --masks --host-bits --table-separator , --table-fields 2,1 - address
+    run 0 $'10.0.0.1 10.0.0.0/8 west\n' '' 'site net\nwest 10.0.0.0/8' look --table-header --table-fields 2,1 - address
+    run 0 $'a 10.0.0.1 10.0.0.0/8 west\n' '' 'a 10.0.0.1' look --keep --field 2 --table-separator '|' --table-fields 1,2 parted
+    run 2 '' $'-:1: \\xff: not UTF-8\n' '\xff 10.0.0.0/8' look --format json --table-fields 2,1 - address
+    run 2 '' "-:2: $none"$'\n' 'west,10.0.0.0/8\nwest' look --table-separator , --table-fields 2,1 - address
+    run 2 '' "-:1: $none"$'\n' 'west, ,10.0.0.0/8' look --table-separator , --table-fields 2,1 - address
+    run 2 '' "-:1: $none"$'\n' '10.0.0.0/8 west' look --table-fields 18446744073709551615,1 - address
+    run 2 '' "-:1: \"10.0.0.0/8\": $quoted"$'\n' 'west,"10.0.0.0/8"' look --table-separator , --table-fields 2,1 - address
+    run 2 '' "-:1: west: $network"$'\n' 'west 10.0.0.0/8' look --table-fields 1,2 - address
+    run 0 '' '' 'west,10.0.0.0/8' compile --table-separator , --table-fields 2,1 - compiled_fields
+    run 0 $'10.0.0.1 10.0.0.0/8 west\n' '' '10.0.0.1' look --table-fields 2,1 compiled_fields
+    run 0 '' '' 'west 10.0.0.0/8 x' same --table-fields 2,1 - placed
+    run 1 $'-10.0.0.0/8 east\n+10.0.0.0/8 west\n' '' 'east 10.0.0.0/8' same --table-fields 2,1 - placed
+    run 0 $'10.0.0.0/8 a\n' '' 'a 10.0.0.0/9 x\na 10.128.0.0/9 y' smallest --table-fields 2,1 -
+    local numbers
+    for numbers in '' , 2 2, ,1 0,1 1,0 2,1,3 a,1 2,a '2, 1' -2,1 18446744073709551616,1 1,18446744073709551616; do
+        run 2 '' "$numbers: not the numbers of two fields, see: netset help look"$'\n' '' look --table-fields="$numbers" missing
+    done
+    run 2 '' $',,: more or less than one byte, see: netset help same\n' '' same --table-separator ,, --table-fields 0,1 missing missing
+    run 2 '' $'--table-fields: not with --form, see: netset help look\n' '' look --table-fields 2,1 --form routes missing
+    run 2 '' $'--table-separator: not with --form, see: netset help look\n' '' look --table-fields 2,1 --form routes --table-separator , missing
+    run 2 '' $'--table-fields: no such option, see: netset help match\n' '' match --table-fields 2,1 missing
     # an address and its prefix length
     run 0 $'10.0.0.1 10.0.0.0/8 64500_64501\n2001:db8::1 2001:db8::/32 64502\n' '' '10.0.0.1\n2001:db8::1' look --form pfx2as origins
     run 0 $'10.0.0.1 10.0.0.0/8\n' '' ' 10.0.0.0  8 \r\n# x\n' look --form pfx2as - address
@@ -1909,6 +1939,7 @@ rows_without_memory() {
     refuse 'at 10.0.0.1\nat 11.0.0.1' look --keep --any one
     refuse 'ip,n\n10.0.0.1,a' look --header --keep --field 1 --separator , owners
     refuse '10.0.0.1\n11.0.0.1' look --format json --table-separator '|' parted
+    refuse '10.0.0.1\n11.0.0.1' look --table-fields 2,1 placed
     refuse '10.0.0.1\n11.0.0.1' look --format json one
     refuse '10.0.0.1\n11.0.0.1' match one
     refuse 'a,10.0.0.1\nb,11.0.0.1' match --field 2 --separator , one
@@ -1941,6 +1972,7 @@ printf '10.0.0.1 a\n11.0.0.1 b\n10.2.0.0/16 c\n' >"$room/seen"
 printf ' a b 10.0.0.1\nc\td  11.0.0.1 e\nf g 10.2.0.0/16 h\n' >"$room/spaced"
 printf '2026-11-26,192.0.2.70,GET /\n' >"$room/kept_csv"
 printf '10.0.0.0/8|west\n' >"$room/parted"
+printf 'west 10.0.0.0/8\n' >"$room/placed"
 printf 'net name\n10.0.0.0/8 west\n' >"$room/headed"
 printf '10.0.0.0\t8\t64500_64501\n2001:db8::\t32\t64502\n' >"$room/origins"
 printf 'default dev eth0\n' >"$room/defaults"

@@ -57,3 +57,4 @@ pub mod Left
 pub mod Revalued
 pub mod FewestRows
 pub mod FewestTold
+pub mod FieldNumbers

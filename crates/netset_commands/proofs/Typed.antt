@@ -1,10 +1,12 @@
 -- Requests as they are typed are read as these requests.
-use Rattle.std.proofs.Common.{◌≡◌, ◌⊎◌, refl, sym, ◌∙◌, ap, subst, inl, inr, ℕ, Bool, true, false, if◌then◌else◌, ◌||◌, ◌&&◌, List, [], ◌∷◌, ◌++◌, codes, slice_get, append-nil, Option, Some, None, Result, Ok}
+use Rattle.std.proofs.Common.{◌≡◌, ◌⊎◌, refl, sym, ◌∙◌, ap, subst, inl, inr, ℕ, ◌+◌, ◌^◌, ◌<◌, decimal, Bool, true, false, if◌then◌else◌, ◌||◌, ◌&&◌, List, [], ◌∷◌, ◌++◌, codes, slice_get, append-nil, Option, Some, None, Result, Ok}
 use Rattle.std.specs.List.{list_all, list_any}
 use Rattle.std.proofs.lemmas.Bool.{true≢false}
 use Rattle.cidr.specs.declared.family.Family.TheVariants.{Ipv4, Ipv6}
+use Rattle.cidr_lists.specs.Forms.{HasNumbers}
 use Rattle.cidr_lists.specs.Formats.{IsBare, Style, format_name, line_style}
 use Rattle.cidr_lists.specs.Rules.{Question, Permitted, Shadowed, Compared}
+use Rattle.cidr_lists.specs.declared.columns.Separator.{Separator}
 use Rattle.cidr_lists.specs.declared.columns.Separator.TheVariants.{WhiteSpace, Byte}
 use Rattle.cidr_lists.specs.declared.formats.LineFormat.TheVariants as by_line
 use Rattle.cidr_lists.specs.declared.formats.LineFormat.{LineFormat}
@@ -12,7 +14,7 @@ use Rattle.cidr_lists.specs.declared.forms.RowForm.{RowForm}
 use Rattle.cidr_lists.specs.declared.forms.RowLayout.{RowLayout}
 use Rattle.cidr_lists.specs.declared.records.ListForm.{ListForm}
 use Rattle.cidr_lists.specs.declared.records.ListForm.TheVariants.{Networks}
-use Rattle.cidr_lists.specs.declared.forms.RowLayout.TheVariants.{Fields, Pfx2as, Routes}
+use Rattle.cidr_lists.specs.declared.forms.RowLayout.TheVariants.{Fields, Columns, Pfx2as, Routes}
 use Rattle.netset_commands.specs.Arguments.{Parts, and_then, question_by, asks_help, choice_by, choice_in, counted_request, extent_by, extra_operand, form_in, is_option, joined_arguments, line_request, list_form_by, list_form_in, lists_request, look_by, match_by, may_keep, named_verb, only_operand, only_options, only_value, operand_or, part_request, parts_from, read_request, reading_in, reads_tables, style_in_values, takes, target_by, value_behind, value_of, verb_request, word_parts}
 use Rattle.netset_commands.specs.Commands.{Request, Lists, Styled, NotIn, Diff, Same, Free, Acl, Split, Check, Which, Match, MatchEach, Look, Compile, Smallest, Describe, Class, Single, Help, Version, bits_of, input_name, reading_of}
 use Rattle.netset_commands.specs.Free.{Extent, First, Count, All}
@@ -20,7 +22,7 @@ use Rattle.netset_commands.specs.Matching.{has, is_word}
 use Rattle.netset_commands.specs.Picking.{Choice, FirstField, FieldOf}
 use Rattle.netset_commands.specs.Single.{Show, Nth}
 use Rattle.netset_commands.specs.Table.{commands, name_of, row_of, takes_value}
-use Rattle.netset_commands.specs.Typed.{AreTyped, GoesWith, IsTyped, choice_words, layout_words, style_words}
+use Rattle.netset_commands.specs.Typed.{AreTyped, GoesWith, IsTyped, choice_words, layout_words, separator_words, style_words}
 use Rattle.netset_commands.specs.declared.commands.arguments.Next.{Next}
 use Rattle.netset_commands.specs.declared.commands.arguments.Next.TheVariants.{Any, Value}
 use Rattle.netset_commands.specs.declared.commands.describe.Description.TheVariants.{Zones, Masks}
@@ -30,6 +32,7 @@ use Rattle.netset_commands.specs.declared.commands.operations.Operation.TheVaria
 use Rattle.netset_commands.specs.declared.commands.table.Verb.{Verb}
 use Rattle.netset_commands.specs.declared.commands.table.Verb.TheVariants as verb
 use Rattle.netset_commands.proofs.Arguments.{same_text}
+use Rattle.netset_commands.proofs.FieldNumbers.{fields_typed}
 use Rattle.netset_commands.proofs.Parts.{and_first, and_second, before_value, if_false, long_word, operand_word}
 use Rattle.netset_commands.proofs.Running.{read_one}
 use Rattle.netset_commands.proofs.Telling.{none_of}
@@ -116,12 +119,27 @@ only_choice command choice operands has none =
 abbrev HasForms : Verb → Type 0
 HasForms command = (word_parts command Any (codes "--form") ≡ Ok (only_value (codes "--form"), Value))
     × (word_parts command Any (codes "--table-separator") ≡ Ok (only_value (codes "--table-separator"), Value))
+    × (word_parts command Any (codes "--table-fields") ≡ Ok (only_value (codes "--table-fields"), Value))
+
+-- the words that tell two fields
+abbrev columns_words : Separator → List ℕ → List (List ℕ)
+columns_words separator numbers = separator_words separator ++ codes "--table-fields" ∷ numbers ∷ []
+
+behind_columns : (command : Verb) (separator : Separator) (numbers : List ℕ) (valued operands : List (List ℕ)) → HasForms command
+    → parts_from command (valued ++ operands) Any ≡ Ok (parts_with [] valued operands)
+    → parts_from command ((columns_words separator numbers ++ valued) ++ operands) Any ≡ Ok (parts_with [] (columns_words separator numbers ++ valued) operands)
+behind_columns command WhiteSpace numbers valued operands has is = behind_values command (codes "--table-fields") numbers valued operands has.2 is
+behind_columns command (Byte c) numbers valued operands has is =
+    behind_values command (codes "--table-separator") (c ∷ []) (codes "--table-fields" ∷ numbers ∷ valued) operands has.1
+    (behind_values command (codes "--table-fields") numbers valued operands has.2 is)
 
 behind_layout : (command : Verb) (layout : RowLayout) (valued operands : List (List ℕ)) → HasForms command
     → parts_from command (valued ++ operands) Any ≡ Ok (parts_with [] valued operands)
     → parts_from command ((layout_words layout ++ valued) ++ operands) Any ≡ Ok (parts_with [] (layout_words layout ++ valued) operands)
 behind_layout command (Fields WhiteSpace) valued operands has is = is
 behind_layout command (Fields (Byte c)) valued operands has is = behind_values command (codes "--table-separator") (c ∷ []) valued operands has.1 is
+behind_layout command (Columns columns) valued operands has is =
+    behind_columns command columns.separator (decimal (columns.network + 1) ++ 44 ∷ decimal (columns.value + 1)) valued operands has is
 behind_layout command Pfx2as valued operands has is = behind_values command (codes "--form") (codes "pfx2as") valued operands has.0 is
 behind_layout command (Routes Ipv4) valued operands has is = behind_values command (codes "--form") (codes "routes") valued operands has.0 is
 behind_layout command (Routes Ipv6) valued operands has is = behind_values command (codes "--form") (codes "routes6") valued operands has.0 is
@@ -301,27 +319,49 @@ choice_asks command (FieldOf number (Some separator)) options operands goes = ap
 abbrev form_values : RowLayout → LineFormat → List (List ℕ)
 form_values layout format = layout_words layout ++ style_words (line_style format)
 
-form_told : (command : Verb) (layout : RowLayout) (format : LineFormat) → form_in command (form_values layout format) ≡ Ok (record { layout = layout; values = format })
-form_told command (Fields WhiteSpace) by_line.Plain = refl
-form_told command (Fields WhiteSpace) by_line.Json = refl
-form_told command (Fields (Byte c)) by_line.Plain = refl
-form_told command (Fields (Byte c)) by_line.Json = refl
-form_told command Pfx2as by_line.Plain = refl
-form_told command Pfx2as by_line.Json = refl
-form_told command (Routes Ipv4) by_line.Plain = refl
-form_told command (Routes Ipv4) by_line.Json = refl
-form_told command (Routes Ipv6) by_line.Plain = refl
-form_told command (Routes Ipv6) by_line.Json = refl
+-- by two fields
+columns_told : (command : Verb) (separator : Separator) (network value : ℕ) (format : LineFormat) → network + 1 < 2 ^ 64 → value + 1 < 2 ^ 64
+    → form_in command (form_values (Columns (record { separator = separator; network = network; value = value })) format)
+    ≡ Ok (record { layout = Columns (record { separator = separator; network = network; value = value }); values = format })
+columns_told command WhiteSpace network value by_line.Plain first second =
+    ap (λ (r : Result RowLayout (List ℕ)). and_then r (λ layout. Ok (record { layout = layout; values = by_line.Plain })))
+    (fields_typed command WhiteSpace network value first second)
+columns_told command WhiteSpace network value by_line.Json first second =
+    ap (λ (r : Result RowLayout (List ℕ)). and_then r (λ layout. Ok (record { layout = layout; values = by_line.Json })))
+    (fields_typed command WhiteSpace network value first second)
+columns_told command (Byte c) network value by_line.Plain first second =
+    ap (λ (r : Result RowLayout (List ℕ)). and_then r (λ layout. Ok (record { layout = layout; values = by_line.Plain })))
+    (fields_typed command (Byte c) network value first second)
+columns_told command (Byte c) network value by_line.Json first second =
+    ap (λ (r : Result RowLayout (List ℕ)). and_then r (λ layout. Ok (record { layout = layout; values = by_line.Json })))
+    (fields_typed command (Byte c) network value first second)
 
-layout_told : (command : Verb) (layout : RowLayout) → form_in command (layout_words layout) ≡ Ok (record { layout = layout; values = by_line.Plain })
-layout_told command (Fields WhiteSpace) = refl
-layout_told command (Fields (Byte c)) = refl
-layout_told command Pfx2as = refl
-layout_told command (Routes Ipv4) = refl
-layout_told command (Routes Ipv6) = refl
+form_told : (command : Verb) (layout : RowLayout) (format : LineFormat) → HasNumbers layout → form_in command (form_values layout format) ≡ Ok (record { layout = layout; values = format })
+form_told command (Fields WhiteSpace) by_line.Plain numbers = refl
+form_told command (Fields WhiteSpace) by_line.Json numbers = refl
+form_told command (Fields (Byte c)) by_line.Plain numbers = refl
+form_told command (Fields (Byte c)) by_line.Json numbers = refl
+form_told command Pfx2as by_line.Plain numbers = refl
+form_told command Pfx2as by_line.Json numbers = refl
+form_told command (Routes Ipv4) by_line.Plain numbers = refl
+form_told command (Routes Ipv4) by_line.Json numbers = refl
+form_told command (Routes Ipv6) by_line.Plain numbers = refl
+form_told command (Routes Ipv6) by_line.Json numbers = refl
+form_told command (Columns columns) format numbers = columns_told command columns.separator columns.network columns.value format numbers.0 numbers.1
+
+layout_told : (command : Verb) (layout : RowLayout) → HasNumbers layout → form_in command (layout_words layout) ≡ Ok (record { layout = layout; values = by_line.Plain })
+layout_told command layout numbers = ap (form_in command) (sym (append-nil (layout_words layout))) ∙ form_told command layout by_line.Plain numbers
 
 -- no other value is told by it
-no_file_in : (command : Verb) (layout : RowLayout) (format : LineFormat) → value_of command (codes "-o") (form_values layout format) ≡ Ok None
+no_file_in_at : (command : Verb) (separator : Separator) (numbers : List ℕ) (format : LineFormat)
+    → value_of command (codes "-o") (columns_words separator numbers ++ style_words (line_style format)) ≡ Ok None
+no_file_in_at command WhiteSpace numbers by_line.Plain = refl
+no_file_in_at command WhiteSpace numbers by_line.Json = refl
+no_file_in_at command (Byte c) numbers by_line.Plain = refl
+no_file_in_at command (Byte c) numbers by_line.Json = refl
+
+no_file_in : (command : Verb) (layout : RowLayout) (format : LineFormat)
+    → value_of command (codes "-o") (form_values layout format) ≡ Ok None
 no_file_in command (Fields WhiteSpace) by_line.Plain = refl
 no_file_in command (Fields WhiteSpace) by_line.Json = refl
 no_file_in command (Fields (Byte c)) by_line.Plain = refl
@@ -332,13 +372,18 @@ no_file_in command (Routes Ipv4) by_line.Plain = refl
 no_file_in command (Routes Ipv4) by_line.Json = refl
 no_file_in command (Routes Ipv6) by_line.Plain = refl
 no_file_in command (Routes Ipv6) by_line.Json = refl
+no_file_in command (Columns columns) format =
+    no_file_in_at command columns.separator (decimal (columns.network + 1) ++ 44 ∷ decimal (columns.value + 1)) format
 
 no_file_of : (command : Verb) (layout : RowLayout) → value_of command (codes "-o") (layout_words layout) ≡ Ok None
-no_file_of command (Fields WhiteSpace) = refl
-no_file_of command (Fields (Byte c)) = refl
-no_file_of command Pfx2as = refl
-no_file_of command (Routes Ipv4) = refl
-no_file_of command (Routes Ipv6) = refl
+no_file_of command layout = ap (value_of command (codes "-o")) (sym (append-nil (layout_words layout))) ∙ no_file_in command layout by_line.Plain
+
+no_field_in_at : (command : Verb) (separator : Separator) (numbers : List ℕ) (format : LineFormat) (found : Option (List ℕ))
+    → value_behind command (codes "--field") found (columns_words separator numbers ++ style_words (line_style format)) ≡ Ok found
+no_field_in_at command WhiteSpace numbers by_line.Plain found = refl
+no_field_in_at command WhiteSpace numbers by_line.Json found = refl
+no_field_in_at command (Byte c) numbers by_line.Plain found = refl
+no_field_in_at command (Byte c) numbers by_line.Json found = refl
 
 no_field_in : (command : Verb) (layout : RowLayout) (format : LineFormat) (found : Option (List ℕ))
     → value_behind command (codes "--field") found (form_values layout format) ≡ Ok found
@@ -352,6 +397,15 @@ no_field_in command (Routes Ipv4) by_line.Plain found = refl
 no_field_in command (Routes Ipv4) by_line.Json found = refl
 no_field_in command (Routes Ipv6) by_line.Plain found = refl
 no_field_in command (Routes Ipv6) by_line.Json found = refl
+no_field_in command (Columns columns) format found =
+    no_field_in_at command columns.separator (decimal (columns.network + 1) ++ 44 ∷ decimal (columns.value + 1)) format found
+
+no_separator_in_at : (command : Verb) (separator : Separator) (numbers : List ℕ) (format : LineFormat) (found : Option (List ℕ))
+    → value_behind command (codes "--separator") found (columns_words separator numbers ++ style_words (line_style format)) ≡ Ok found
+no_separator_in_at command WhiteSpace numbers by_line.Plain found = refl
+no_separator_in_at command WhiteSpace numbers by_line.Json found = refl
+no_separator_in_at command (Byte c) numbers by_line.Plain found = refl
+no_separator_in_at command (Byte c) numbers by_line.Json found = refl
 
 no_separator_in : (command : Verb) (layout : RowLayout) (format : LineFormat) (found : Option (List ℕ))
     → value_behind command (codes "--separator") found (form_values layout format) ≡ Ok found
@@ -365,15 +419,17 @@ no_separator_in command (Routes Ipv4) by_line.Plain found = refl
 no_separator_in command (Routes Ipv4) by_line.Json found = refl
 no_separator_in command (Routes Ipv6) by_line.Plain found = refl
 no_separator_in command (Routes Ipv6) by_line.Json found = refl
+no_separator_in command (Columns columns) format found =
+    no_separator_in_at command columns.separator (decimal (columns.network + 1) ++ 44 ∷ decimal (columns.value + 1)) format found
 
 -- both, of `look`
 abbrev look_values : Choice → RowForm → List (List ℕ)
 look_values choice form = choice_words choice ++ form_values form.layout form.values
 
-look_form : (choice : Choice) (form : RowForm) → form_in verb.Look (look_values choice form) ≡ Ok form
-look_form FirstField form = form_told verb.Look form.layout form.values
-look_form (FieldOf number None) form = form_told verb.Look form.layout form.values
-look_form (FieldOf number (Some separator)) form = form_told verb.Look form.layout form.values
+look_form : (choice : Choice) (form : RowForm) → HasNumbers form.layout → form_in verb.Look (look_values choice form) ≡ Ok form
+look_form FirstField form numbers = form_told verb.Look form.layout form.values numbers
+look_form (FieldOf number None) form numbers = form_told verb.Look form.layout form.values numbers
+look_form (FieldOf number (Some separator)) form numbers = form_told verb.Look form.layout form.values numbers
 
 look_file : (choice : Choice) (form : RowForm) → value_of verb.Look (codes "-o") (look_values choice form) ≡ Ok None
 look_file FirstField form = no_file_in verb.Look form.layout form.values
@@ -484,17 +540,17 @@ module _ (words options : List (List ℕ)) where
       ∙ ap (λ (k : Request). Ok k) made)
 
   look_asks : (choice : Choice) (form : RowForm) (operands : List (List ℕ)) (request : Request) → GoesWith choice options
-      → (form.values ≡ by_line.Json → has (codes "--keep") options ≡ false)
+      → (form.values ≡ by_line.Json → has (codes "--keep") options ≡ false) → HasNumbers form.layout
       → AreTyped verb.Look options (look_values choice form) operands words → extra_operand verb.Look operands ≡ None
       → Look choice form options (operand_or operands 0 []) (operand_or operands 1 input_name) ≡ request → Asks request
-  look_asks choice form operands request goes keeps (is, all, no_page, none, enough) fits made =
+  look_asks choice form operands request goes keeps numbers (is, all, no_page, none, enough) fits made =
       let values = look_values choice form in
       let parts = parts_with options values operands in
       line_asks verb.Look values values operands (is, all, no_page, none, enough)
       (behind_choice verb.Look choice (form_values form.layout form.values) operands (refl, refl)
-      (behind_layout verb.Look form.layout (style_words (line_style form.values)) operands (refl, refl) (behind_format form.values operands none))) fits (look_file choice form, inl refl) request
+      (behind_layout verb.Look form.layout (style_words (line_style form.values)) operands (refl, refl, refl) (behind_format form.values operands none))) fits (look_file choice form, inl refl) request
       (ap (λ (r : Result Choice (List ℕ)). and_then r (λ one. and_then (form_in verb.Look values) (λ f. look_by one f parts))) (look_choice choice form options operands goes)
-      ∙ (ap (λ (r : Result RowForm (List ℕ)). and_then r (λ f. look_by choice f parts)) (look_form choice form)
+      ∙ (ap (λ (r : Result RowForm (List ℕ)). and_then r (λ f. look_by choice f parts)) (look_form choice form numbers)
       ∙ (ap (λ (r : Result (Unit {0}) (List ℕ)). and_then r (λ _. Ok (Look choice form options (operand_or operands 0 []) (operand_or operands 1 input_name))))
       (keeps_told form.values (has (codes "--keep") options) keeps)
       ∙ ap (λ (k : Request). Ok k) made)))
@@ -567,26 +623,26 @@ module _ (words options : List (List ℕ)) where
   typed_asks (MatchEach choice given list (first ∷ second ∷ files)) (same, goes, typed) =
       match_asks choice (list ∷ first ∷ second ∷ files) (MatchEach choice given list (first ∷ second ∷ files)) goes typed
       (ap (λ (k : List (List ℕ)). MatchEach choice k list (first ∷ second ∷ files)) (sym same))
-  typed_asks (Look choice form given table file) (same, goes, keeps, inl typed) =
-      look_asks choice form (table ∷ file ∷ []) (Look choice form given table file) goes keeps typed refl (ap (λ (k : List (List ℕ)). Look choice form k table file) (sym same))
-  typed_asks (Look choice form given table file) (same, goes, keeps, inr (input, typed)) =
-      look_asks choice form (table ∷ []) (Look choice form given table file) goes keeps typed refl
+  typed_asks (Look choice form given table file) (same, goes, keeps, numbers, inl typed) =
+      look_asks choice form (table ∷ file ∷ []) (Look choice form given table file) goes keeps numbers typed refl (ap (λ (k : List (List ℕ)). Look choice form k table file) (sym same))
+  typed_asks (Look choice form given table file) (same, goes, keeps, numbers, inr (input, typed)) =
+      look_asks choice form (table ∷ []) (Look choice form given table file) goes keeps numbers typed refl
       (ap (λ (k : List (List ℕ)). Look choice form k table input_name) (sym same) ∙ ap (λ (k : List ℕ). Look choice form given table k) (sym input))
-  typed_asks (Compile form table name) (plain, (is, all, no_page, none, enough)) =
+  typed_asks (Compile form table name) (plain, numbers, (is, all, no_page, none, enough)) =
       line_asks verb.Compile (layout_words form.layout) (layout_words form.layout) (table ∷ name ∷ []) (is, all, no_page, none, enough)
-      (only_layout verb.Compile form.layout (table ∷ name ∷ []) (refl, refl) none) refl (no_file_of verb.Compile form.layout, inl refl) (Compile form table name)
-      (ap (λ (r : Result RowForm (List ℕ)). and_then r (λ f. Ok (Compile f table name))) (layout_told verb.Compile form.layout)
+      (only_layout verb.Compile form.layout (table ∷ name ∷ []) (refl, refl, refl) none) refl (no_file_of verb.Compile form.layout, inl refl) (Compile form table name)
+      (ap (λ (r : Result RowForm (List ℕ)). and_then r (λ f. Ok (Compile f table name))) (layout_told verb.Compile form.layout numbers)
       ∙ ap (λ (format : LineFormat). Ok (Compile (record { layout = form.layout; values = format }) table name)) (sym plain))
-  typed_asks (Same form old new) (plain, (is, all, no_page, none, enough)) =
+  typed_asks (Same form old new) (plain, numbers, (is, all, no_page, none, enough)) =
       line_asks verb.Same (layout_words form.layout) (layout_words form.layout) (old ∷ new ∷ []) (is, all, no_page, none, enough)
-      (only_layout verb.Same form.layout (old ∷ new ∷ []) (refl, refl) none) refl (no_file_of verb.Same form.layout, inl refl) (Same form old new)
-      (ap (λ (r : Result RowForm (List ℕ)). and_then r (λ f. Ok (Same f old new))) (layout_told verb.Same form.layout)
+      (only_layout verb.Same form.layout (old ∷ new ∷ []) (refl, refl, refl) none) refl (no_file_of verb.Same form.layout, inl refl) (Same form old new)
+      (ap (λ (r : Result RowForm (List ℕ)). and_then r (λ f. Ok (Same f old new))) (layout_told verb.Same form.layout numbers)
       ∙ ap (λ (format : LineFormat). Ok (Same (record { layout = form.layout; values = format }) old new)) (sym plain))
-  typed_asks (Smallest holes form table) (given, plain, (is, all, no_page, none, enough)) =
+  typed_asks (Smallest holes form table) (given, plain, numbers, (is, all, no_page, none, enough)) =
       let given_holes : Bool = has (codes "--holes") options in
       line_asks verb.Smallest (layout_words form.layout) (layout_words form.layout) (table ∷ []) (is, all, no_page, none, enough)
-      (only_layout verb.Smallest form.layout (table ∷ []) (refl, refl) none) refl (no_file_of verb.Smallest form.layout, inl refl) (Smallest holes form table)
-      (ap (λ (r : Result RowForm (List ℕ)). and_then r (λ f. Ok (Smallest given_holes f table))) (layout_told verb.Smallest form.layout)
+      (only_layout verb.Smallest form.layout (table ∷ []) (refl, refl, refl) none) refl (no_file_of verb.Smallest form.layout, inl refl) (Smallest holes form table)
+      (ap (λ (r : Result RowForm (List ℕ)). and_then r (λ f. Ok (Smallest given_holes f table))) (layout_told verb.Smallest form.layout numbers)
       ∙ (ap (λ (format : LineFormat). Ok (Smallest given_holes (record { layout = form.layout; values = format }) table)) (sym plain)
       ∙ ap (λ (b : Bool). Ok (Smallest b form table)) given))
   typed_asks (Describe what operand) typed = plain_asks (verb.Describe what) (operand ∷ []) (Describe what operand) typed refl refl

@@ -1,17 +1,20 @@
 -- The words of a command line as options and operands, and the request that they are. Options are those of POSIX.1-2024,
 -- XBD 12.2, guidelines 4 to 6 and 10, and long ones, which begin with --; they may also stand behind operands.
-use Rattle.std.specs.Prelude.{ℕ, ◌==◌, nat_eq, nat_lt, Bool, true, false, not, if◌then◌else◌, ◌&&◌, ◌||◌, List, [], ◌∷◌, ◌++◌, length, drop, map, codes, Option, Some, None, Result, Ok, Err, slice_get, slice_index, ok_or, unwrap_or, option_and_then}
+use Rattle.std.specs.Prelude.{ℕ, ◌-◌, ◌^◌, ◌==◌, nat_eq, nat_lt, Bool, true, false, not, if◌then◌else◌, ◌&&◌, ◌||◌, List, [], ◌∷◌, ◌++◌, length, drop, map, codes, Option, Some, None, Result, Ok, Err, slice_get, slice_index, ok_or, unwrap_or, option_and_then}
+use Rattle.std.specs.Char.{digit_value}
 use Rattle.std.specs.List.{after_first, before_first, find, list_all, starts_with}
+use Rattle.std.specs.Str.Parse.{digits_value, without_leading_plus}
 use Rattle.cidr_io.specs.Shown.{excerpt}
 use Rattle.cidr_lists.specs.Formats.{Style, bare, format_of}
 use Rattle.cidr_lists.specs.Rules.{Question, Permitted, Shadowed, Compared}
 use Rattle.cidr.specs.declared.family.Family.TheVariants.{Ipv4, Ipv6}
+use Rattle.cidr_lists.specs.declared.columns.Separator.{Separator}
 use Rattle.cidr_lists.specs.declared.columns.Separator.TheVariants.{WhiteSpace, Byte}
 use Rattle.cidr_lists.specs.declared.forms.RowForm.{RowForm}
 use Rattle.cidr_lists.specs.declared.records.ListForm.{ListForm}
 use Rattle.cidr_lists.specs.declared.records.ListForm.TheVariants.{Networks, Rir}
 use Rattle.cidr_lists.specs.declared.forms.RowLayout.{RowLayout}
-use Rattle.cidr_lists.specs.declared.forms.RowLayout.TheVariants.{Fields, Pfx2as, Routes}
+use Rattle.cidr_lists.specs.declared.forms.RowLayout.TheVariants.{Fields, Columns, Pfx2as, Routes}
 use Rattle.cidr_lists.specs.declared.formats.Format.{Format}
 use Rattle.cidr_lists.specs.declared.formats.Format.TheVariants as format
 use Rattle.cidr_lists.specs.declared.formats.LineFormat.{LineFormat}
@@ -29,7 +32,7 @@ use Rattle.netset_commands.specs.declared.commands.operations.Operation.{Operati
 use Rattle.netset_commands.specs.declared.commands.table.Verb.{Verb}
 use Rattle.netset_commands.specs.declared.commands.table.Verb.TheVariants as verb
 use Rattle.netset_commands.specs.declared.errors.Misfit.{Misfit}
-use Rattle.netset_commands.specs.declared.errors.Misfit.TheVariants.{Unnamed, NoCommand, NoOption, Missing, Extra, NoFormat, NotPlain, NoField, Anywhere, Skipping, NoLineFormat, WithShadowed, WithDiff, NoForm, NoListForm, NotOneByte, WithForm, WithJson}
+use Rattle.netset_commands.specs.declared.errors.Misfit.TheVariants.{Unnamed, NoCommand, NoOption, Missing, Extra, NoFormat, NotPlain, NoField, Anywhere, Skipping, NoLineFormat, WithShadowed, WithDiff, NoForm, NoListForm, NotOneByte, NoFields, WithForm, WithJson}
 
 -- ---- the line of a word that is wrong
 abbrev pub misfit_text : Misfit → List ℕ
@@ -49,6 +52,7 @@ misfit_text WithDiff = codes ": not with --diff, see: netset help "
 misfit_text NoForm = codes ": no such form, but pfx2as, routes and routes6, see: netset help "
 misfit_text NoListForm = codes ": no such form of lists, but rir, see: netset help "
 misfit_text NotOneByte = codes ": more or less than one byte, see: netset help "
+misfit_text NoFields = codes ": not the numbers of two fields, see: netset help "
 misfit_text WithForm = codes ": not with --form, see: netset help "
 misfit_text WithJson = codes ": not with the format json, see: netset help "
 
@@ -337,21 +341,45 @@ named_layout command name = if is_word (codes "pfx2as") name then Ok Pfx2as
     else if is_word (codes "routes6") name then Ok (Routes Ipv6)
     else Err (misuse_text name NoForm (name_of command))
 
--- that of fields with a byte between them
-abbrev pub parted_layout : Verb → List ℕ → Result RowLayout (List ℕ)
-parted_layout command (byte ∷ []) = Ok (Fields (Byte byte))
-parted_layout command text = Err (misuse_text text NotOneByte (name_of command))
+-- what parts the fields of rows: one byte, or white space
+abbrev pub separator_by : Verb → Option (List ℕ) → Result Separator (List ℕ)
+separator_by command None = Ok WhiteSpace
+separator_by command (Some (byte ∷ [])) = Ok (Byte byte)
+separator_by command (Some text) = Err (misuse_text text NotOneByte (name_of command))
 
--- how the rows of a table are laid out, by the values of --form and --table-separator: one of these at most
-abbrev pub layout_by : Verb → Option (List ℕ) → Option (List ℕ) → Result RowLayout (List ℕ)
-layout_by command None None = Ok (Fields WhiteSpace)
-layout_by command None (Some separator) = parted_layout command separator
-layout_by command (Some name) None = named_layout command name
-layout_by command (Some name) (Some separator) = Err (misuse_text (codes "--table-separator") WithForm (name_of command))
+-- the place of a field, from 0 on, by its number, from 1 on
+abbrev pub numbered : List ℕ → Option ℕ
+numbered digits = if list_all (λ c. nat_lt (digit_value c) 10) digits && nat_lt 0 (digits_value 10 digits) && nat_lt (digits_value 10 digits) (2 ^ 64)
+    then Some (digits_value 10 digits - 1) else None
+
+abbrev pub place_by : List ℕ → Option ℕ
+place_by number = numbered (without_leading_plus number)
+
+-- that of fields of which two are told
+abbrev pub columns_by : Verb → Separator → List ℕ → Option ℕ → Option ℕ → Result RowLayout (List ℕ)
+columns_by command separator numbers (Some network) (Some value) = Ok (Columns (record { separator = separator; network = network; value = value }))
+columns_by command separator numbers network value = Err (misuse_text numbers NoFields (name_of command))
+
+-- by their numbers, with a comma between them; or else that of a network and the rest
+abbrev pub is_comma : ℕ → Bool
+is_comma byte = byte == 44
+
+abbrev pub fields_by : Verb → Separator → Option (List ℕ) → Result RowLayout (List ℕ)
+fields_by command separator None = Ok (Fields separator)
+fields_by command separator (Some numbers) =
+    columns_by command separator numbers (place_by (before_first is_comma numbers)) (place_by (after_first is_comma numbers))
+
+-- how the rows of a table are laid out, by the values of --form, --table-separator and --table-fields: the first with none of these
+abbrev pub layout_by : Verb → Option (List ℕ) → Option (List ℕ) → Option (List ℕ) → Result RowLayout (List ℕ)
+layout_by command None separator numbers = and_then (separator_by command separator) (λ parted. fields_by command parted numbers)
+layout_by command (Some name) None None = named_layout command name
+layout_by command (Some name) (Some separator) numbers = Err (misuse_text (codes "--table-separator") WithForm (name_of command))
+layout_by command (Some name) None (Some numbers) = Err (misuse_text (codes "--table-fields") WithForm (name_of command))
 
 abbrev pub layout_in : Verb → List (List ℕ) → Result RowLayout (List ℕ)
 layout_in command values = and_then (value_of command (codes "--form") values)
-    (λ name. and_then (value_of command (codes "--table-separator") values) (λ separator. layout_by command name separator))
+    (λ name. and_then (value_of command (codes "--table-separator") values)
+    (λ separator. and_then (value_of command (codes "--table-fields") values) (λ numbers. layout_by command name separator numbers)))
 
 -- how they are read, whose values are told in the format that is asked for
 abbrev pub form_in : Verb → List (List ℕ) → Result RowForm (List ℕ)

@@ -1,15 +1,17 @@
 -- Requests as they are mostly typed, and what a run of one has written that ends with status 0 or 1: its answer, and nothing
 -- else.
-use Rattle.std.specs.Prelude.{◌≡◌, ◌⊎◌, ◌&&◌, ◌||◌, ℕ, true, false, List, [], ◌∷◌, ◌++◌, codes, Option, Some, None}
+use Rattle.std.specs.Prelude.{◌≡◌, ◌⊎◌, ◌&&◌, ◌||◌, ℕ, ◌+◌, decimal, true, false, List, [], ◌∷◌, ◌++◌, codes, Option, Some, None}
 use Rattle.std.specs.List.{flat_map, list_all, list_any}
 use Rattle.cidr.specs.declared.family.Family.TheVariants.{Ipv4, Ipv6}
 use Rattle.cidr_io.specs.Writing.{State, Whole, Tells}
 use Rattle.cidr_lists.specs.Lists.{Text}
+use Rattle.cidr_lists.specs.declared.columns.Separator.{Separator}
 use Rattle.cidr_lists.specs.declared.columns.Separator.TheVariants.{WhiteSpace, Byte}
 use Rattle.cidr_lists.specs.declared.formats.LineFormat.TheVariants.{Plain, Json}
 use Rattle.cidr_lists.specs.declared.forms.RowLayout.{RowLayout}
-use Rattle.cidr_lists.specs.declared.forms.RowLayout.TheVariants.{Fields, Pfx2as, Routes}
+use Rattle.cidr_lists.specs.declared.forms.RowLayout.TheVariants.{Fields, Columns, Pfx2as, Routes}
 use Rattle.cidr_lists.specs.declared.records.ListForm.TheVariants.{Networks}
+use Rattle.cidr_lists.specs.Forms.{HasNumbers}
 use Rattle.cidr_lists.specs.Formats.{IsBare, Style, format_name, line_style}
 use Rattle.cidr_lists.specs.Rules.{compared_with, is_shadowed, style_asked}
 use Rattle.netset_commands.specs.Arguments.{asks_help, is_option, missing_operand, takes}
@@ -46,10 +48,14 @@ abbrev pub GoesWith : Choice → List (List ℕ) → Type 0
 GoesWith FirstField options = Unit {0}
 GoesWith (FieldOf number separator) options = has (codes "--any") options ≡ false
 
--- the option of `look`, `compile`, `same` and `smallest` that tells how the rows of a table are laid out, with its value
+-- the options of `look`, `compile`, `same` and `smallest` that tell how the rows of a table are laid out, with their values
+abbrev pub separator_words : Separator → List (List ℕ)
+separator_words WhiteSpace = []
+separator_words (Byte separator) = codes "--table-separator" ∷ (separator ∷ []) ∷ []
+
 abbrev pub layout_words : RowLayout → List (List ℕ)
-layout_words (Fields WhiteSpace) = []
-layout_words (Fields (Byte separator)) = codes "--table-separator" ∷ (separator ∷ []) ∷ []
+layout_words (Fields separator) = separator_words separator
+layout_words (Columns columns) = separator_words columns.separator ++ codes "--table-fields" ∷ (decimal (columns.network + 1) ++ 44 ∷ decimal (columns.value + 1)) ∷ []
 layout_words Pfx2as = codes "--form" ∷ codes "pfx2as" ∷ []
 layout_words (Routes Ipv4) = codes "--form" ∷ codes "routes" ∷ []
 layout_words (Routes Ipv6) = codes "--form" ∷ codes "routes6" ∷ []
@@ -66,7 +72,7 @@ IsTyped words options (Styled style operation files) = IsBare (Some style) × (t
     × AreTyped (verb.Lists operation) options (style_words (Some style)) files words
 IsTyped words options (NotIn style net files) = IsBare style × AreTyped (verb.Lists Not) options (codes "--in" ∷ net ∷ style_words style) files words
 IsTyped words options (Diff format old new) = AreTyped verb.Diff options (style_words (line_style format)) (old ∷ new ∷ []) words
-IsTyped words options (Same form old new) = (form.values ≡ Plain) × AreTyped verb.Same options (layout_words form.layout) (old ∷ new ∷ []) words
+IsTyped words options (Same form old new) = (form.values ≡ Plain) × HasNumbers form.layout × AreTyped verb.Same options (layout_words form.layout) (old ∷ new ∷ []) words
 IsTyped words options (Free style First pool len used) = IsBare style × (has (codes "--all") options ≡ false) × AreTyped verb.Free options (style_words style) (pool ∷ len ∷ used) words
 IsTyped words options (Free style (Count count) pool len used) = IsBare style
     × (has (codes "--all") options ≡ false) × AreTyped verb.Free options (codes "--count" ∷ count ∷ style_words style) (pool ∷ len ∷ used) words
@@ -82,9 +88,9 @@ IsTyped words options (MatchEach choice given list (first ∷ second ∷ files))
     × AreTyped verb.Match options (choice_words choice) (list ∷ first ∷ second ∷ files) words
 IsTyped words options (MatchEach choice given list files) = ⊥
 IsTyped words options (Look choice form given table file) = (given ≡ options) × GoesWith choice options × (form.values ≡ Json → has (codes "--keep") options ≡ false)
-    × AreTypedFor verb.Look options (choice_words choice ++ (layout_words form.layout ++ style_words (line_style form.values))) table file words
-IsTyped words options (Compile form table name) = (form.values ≡ Plain) × AreTyped verb.Compile options (layout_words form.layout) (table ∷ name ∷ []) words
-IsTyped words options (Smallest holes form table) = (has (codes "--holes") options ≡ holes) × (form.values ≡ Plain) × AreTyped verb.Smallest options (layout_words form.layout) (table ∷ []) words
+    × HasNumbers form.layout × AreTypedFor verb.Look options (choice_words choice ++ (layout_words form.layout ++ style_words (line_style form.values))) table file words
+IsTyped words options (Compile form table name) = (form.values ≡ Plain) × HasNumbers form.layout × AreTyped verb.Compile options (layout_words form.layout) (table ∷ name ∷ []) words
+IsTyped words options (Smallest holes form table) = (has (codes "--holes") options ≡ holes) × (form.values ≡ Plain) × HasNumbers form.layout × AreTyped verb.Smallest options (layout_words form.layout) (table ∷ []) words
 IsTyped words options (Describe what operand) = AreTyped (verb.Describe what) options [] (operand ∷ []) words
 IsTyped words options (Class operand) = AreTyped verb.Class options [] (operand ∷ []) words
 IsTyped words options (Single (Show host)) = AreTyped verb.Show options [] (host ∷ []) words

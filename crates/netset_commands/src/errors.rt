@@ -65,6 +65,8 @@ pub enum Misfit {
     NoListForm,
     /// It is to part fields, and not one byte.
     NotOneByte,
+    /// It is to be the numbers of two fields with a comma between them.
+    NoFields,
     /// It is an option that does not go with `--form`.
     WithForm,
     /// It is an option that does not go with the format `json`.

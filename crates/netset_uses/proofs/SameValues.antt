@@ -99,7 +99,7 @@ pub same_printed : (words : List (List ℕ)) (contents : List ℕ → Option (Li
 same_printed words contents old new None same first second h = tt
 same_printed words contents old new (Some run) same first second h = λ ended.
     let (answered, runs) = subst (λ (k : List (List ℕ)). HasRun k contents run) same h in
-    let (answer, is, whole, quiet) = answered same_words [] (Same (by_words Plain) (codes "old") (codes "new")) Yes refl (refl, (refl, refl, refl, refl, refl)) ended in
+    let (answer, is, whole, quiet) = answered same_words [] (Same (by_words Plain) (codes "old") (codes "new")) Yes refl (refl, tt, (refl, refl, refl, refl, refl)) ended in
     printed_by (GiveSameValues (text_by Refused old) (text_by Refused new)) run answer
     (told_same (text_by Refused old) (text_by Refused new) answer
     (is (text_by Refused old) (text_by Refused new) (told_text contents (codes "old") old first) (told_text contents (codes "new") new second))) whole quiet

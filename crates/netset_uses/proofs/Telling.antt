@@ -233,11 +233,11 @@ module _ (telling : Telling) (format : LineFormat) (named : List (List ℕ)) (co
 
 -- neither needs more of its options
 pub look_typed : IsTyped (codes "look" ∷ codes "table" ∷ codes "file" ∷ []) [] (Look FirstField (by_words Plain) [] (codes "table") (codes "file"))
-look_typed = (refl, tt, λ _. refl, inl (refl, refl, refl, refl, refl))
+look_typed = (refl, tt, λ _. refl, tt, inl (refl, refl, refl, refl, refl))
 
 pub json_look_typed : IsTyped (codes "look" ∷ codes "--format" ∷ codes "json" ∷ codes "table" ∷ codes "file" ∷ []) []
     (Look FirstField (by_words Json) [] (codes "table") (codes "file"))
-json_look_typed = (refl, tt, λ _. refl, inl (refl, refl, refl, refl, refl))
+json_look_typed = (refl, tt, λ _. refl, tt, inl (refl, refl, refl, refl, refl))
 
 -- ---- diff
 abbrev pub diff_words : List (List ℕ)

@@ -1,7 +1,7 @@
 //! The words of a command line as options and operands, and the command that they are.
 ghost use Rattle.std.specs.Prelude.{◌≡◌, ◌<◌, [], Ok, Err, Bool, true, false, length, drop, MatchOption, MatchResult, option_map, slice_get, unwrap_or};
 ghost use Rattle.std.specs.List.{after_first, before_first};
-ghost use Rattle.netset_commands.specs.Arguments.{asks_help, choice_by, choice_in, chosen_style, compile_request, extent_by, extra_operand, form_in, free_request, fresh, full_name, help_request, is_equals, is_option, is_plain, is_topic, letter_parts, line_parts, lists_request, long_parts, layout_by, layout_in, list_form_in, named_list_form, look_by, look_request, made_request, match_by, match_request, missing_operand, misuse_text, may_keep, named_format, named_layout, named_verb, no_option, no_parts, operand_or, part_request, parted_layout, parts_from, question_by, reading_in, same_request, short_option, short_parts, smallest_request, some_style, split_request, style_in_values, style_of, taken_value, takes, target_by, target_in, topic_parts, value_of, verb_of, verb_request, word_parts, acl_request, chosen_line_format, compared_in, diff_request, line_format_in, named_line_format, not_given, permitted_in, shadowed_in, without_value};
+ghost use Rattle.netset_commands.specs.Arguments.{asks_help, choice_by, choice_in, chosen_style, compile_request, extent_by, extra_operand, form_in, free_request, fresh, full_name, help_request, is_equals, is_option, is_plain, is_topic, letter_parts, line_parts, lists_request, long_parts, layout_by, layout_in, separator_by, fields_by, place_by, is_comma, list_form_in, named_list_form, look_by, look_request, made_request, match_by, match_request, missing_operand, misuse_text, may_keep, named_format, named_layout, named_verb, no_option, no_parts, operand_or, part_request, parts_from, question_by, reading_in, same_request, short_option, short_parts, smallest_request, some_style, split_request, style_in_values, style_of, taken_value, takes, target_by, target_in, topic_parts, value_of, verb_of, verb_request, word_parts, acl_request, chosen_line_format, compared_in, diff_request, line_format_in, named_line_format, not_given, permitted_in, shadowed_in, without_value};
 ghost use Rattle.netset_commands.specs.Command.{AddsParts, IsUsageError, choice_of, extent_of, given, misuse_line, given_parts, question_of, request_of};
 ghost use Rattle.netset_commands.specs.Matching.{is_word};
 ghost use Rattle.netset_commands.specs.Table.{name_of, takes_value, texts};
@@ -12,7 +12,7 @@ use crate::commands::acl::Question;
 use crate::commands::free::Extent;
 use crate::commands::matching::has;
 use crate::commands::operations::Operation;
-use crate::commands::picking::Choice;
+use crate::commands::picking::{Choice, place_of};
 use crate::commands::single::Single;
 use crate::commands::table::{
     Verb, commands, most_of, name_of, needed_of, options_of, takes_value,
@@ -23,7 +23,7 @@ use cidr::Family;
 use cidr_io::memory::Memory;
 use cidr_lists::columns::Separator;
 use cidr_lists::formats::{Format, LineFormat, Style, format_of};
-use cidr_lists::forms::{RowForm, RowLayout};
+use cidr_lists::forms::{RowColumns, RowForm, RowLayout};
 use cidr_lists::records::ListForm;
 use std::alloc::Global;
 
@@ -936,39 +936,114 @@ pub fn reading_in<'a>(command: Verb, parts: &'a Parts<'a>) -> Result<Reading, Mi
     Ok(reading_of(form, parts.options.as_slice()))
 }
 
-/// The layout of rows of fields with a byte between them.
-fn parted_layout<'a>(command: Verb, separator: &'a str) -> Result<RowLayout, Misuse<'a>>
-    ensures { MatchResult result (λ layout. parted_layout command separator.now ≡ Ok layout)
-        (λ misuse. parted_layout command separator.now ≡ Err (misuse_line misuse)) }
+/// What parts the fields of rows.
+fn separator_by<'a>(command: Verb, separator: Option<&'a str>) -> Result<Separator, Misuse<'a>>
+    ensures { MatchResult result (λ parted. separator_by command (given separator.entry) ≡ Ok parted)
+        (λ misuse. separator_by command (given separator.entry) ≡ Err (misuse_line misuse)) }
 {
-    match separator.as_bytes() {
-        [byte] => Ok(RowLayout::Fields(Separator::Byte(*byte))),
+    let Some(text) = separator else {
+        return Ok(Separator::WhiteSpace);
+    };
+    match text.as_bytes() {
+        [byte] => Ok(Separator::Byte(*byte)),
         _ => Err(Misuse {
-            word: separator,
+            word: text,
             why: Misfit::NotOneByte,
             command: name_of(command),
         }),
     }
 }
 
-/// How the rows of a table are laid out, by the values of `--form` and `--table-separator`.
+/// The numbers of two fields with a comma between them.
+fn split_numbers(numbers: &str) -> (&str, &str)
+    ensures network { result.0.now ≡ before_first is_comma numbers.now }
+    ensures value { result.1.now ≡ after_first is_comma numbers.now }
+{
+    match numbers.split_once(',') {
+        Some(parts) => parts,
+        None => (numbers, ""),
+    }
+}
+
+/// The place, from 0 on, of the field of a number.
+fn place_by(number: &str) -> Option<u64>
+    ensures { result ≡ place_by number.now }
+{
+    place_of(number)
+}
+
+/// The layout of rows of fields of which two are told by their numbers.
+fn columns_by<'a>(
+    command: Verb,
+    separator: Separator,
+    numbers: &'a str,
+) -> Result<RowLayout, Misuse<'a>>
+    ensures { MatchResult result (λ layout. fields_by command separator (Some numbers.now) ≡ Ok layout)
+        (λ misuse. fields_by command separator (Some numbers.now) ≡ Err (misuse_line misuse)) }
+{
+    let (network, value) = split_numbers(numbers);
+    match (place_by(network), place_by(value)) {
+        (Some(network), Some(value)) => Ok(RowLayout::Columns(RowColumns {
+            separator,
+            network,
+            value,
+        })),
+        _ => Err(Misuse {
+            word: numbers,
+            why: Misfit::NoFields,
+            command: name_of(command),
+        }),
+    }
+}
+
+/// The layout of rows of fields.
+fn fields_by<'a>(
+    command: Verb,
+    separator: Separator,
+    numbers: Option<&'a str>,
+) -> Result<RowLayout, Misuse<'a>>
+    ensures { MatchResult result (λ layout. fields_by command separator (given numbers.entry) ≡ Ok layout)
+        (λ misuse. fields_by command separator (given numbers.entry) ≡ Err (misuse_line misuse)) }
+{
+    match numbers {
+        None => Ok(RowLayout::Fields(separator)),
+        Some(numbers) => columns_by(command, separator, numbers),
+    }
+}
+
+/// The layout of rows in a form of this name, with which goes neither of the other two options.
+fn form_by<'a>(
+    command: Verb,
+    name: &'a str,
+    separator: Option<&'a str>,
+    numbers: Option<&'a str>,
+) -> Result<RowLayout, Misuse<'a>>
+    ensures { MatchResult result (λ layout. layout_by command (Some name.now) (given separator.entry) (given numbers.entry) ≡ Ok layout)
+        (λ misuse. layout_by command (Some name.now) (given separator.entry) (given numbers.entry) ≡ Err (misuse_line misuse)) }
+{
+    match (separator, numbers) {
+        (None, None) => named_layout(command, name),
+        (Some(_), _) => Err(not_with_form(command, "--table-separator")),
+        (None, Some(_)) => Err(not_with_form(command, "--table-fields")),
+    }
+}
+
+/// How the rows of a table are laid out, by the values of `--form`, `--table-separator` and `--table-fields`.
 fn layout_by<'a>(
     command: Verb,
     name: Option<&'a str>,
     separator: Option<&'a str>,
+    numbers: Option<&'a str>,
 ) -> Result<RowLayout, Misuse<'a>>
-    ensures { MatchResult result (λ layout. layout_by command (given name.entry) (given separator.entry) ≡ Ok layout)
-        (λ misuse. layout_by command (given name.entry) (given separator.entry) ≡ Err (misuse_line misuse)) }
+    ensures { MatchResult result (λ layout. layout_by command (given name.entry) (given separator.entry) (given numbers.entry) ≡ Ok layout)
+        (λ misuse. layout_by command (given name.entry) (given separator.entry) (given numbers.entry) ≡ Err (misuse_line misuse)) }
 {
-    match (name, separator) {
-        (None, None) => Ok(RowLayout::Fields(Separator::WhiteSpace)),
-        (None, Some(separator)) => parted_layout(command, separator),
-        (Some(name), None) => named_layout(command, name),
-        (Some(_), Some(_)) => Err(Misuse {
-            word: "--table-separator",
-            why: Misfit::WithForm,
-            command: name_of(command),
-        }),
+    match name {
+        Some(name) => form_by(command, name, separator, numbers),
+        None => {
+            let separator = separator_by(command, separator)?;
+            fields_by(command, separator, numbers)
+        }
     }
 }
 
@@ -979,7 +1054,8 @@ fn layout_in<'a>(command: Verb, values: &[&'a str]) -> Result<RowLayout, Misuse<
 {
     let name = value_of(command, "--form", values)?;
     let separator = value_of(command, "--table-separator", values)?;
-    layout_by(command, name, separator)
+    let numbers = value_of(command, "--table-fields", values)?;
+    layout_by(command, name, separator, numbers)
 }
 
 /// How the rows of a table are read, whose values are told in the format that is asked for.

@@ -19,7 +19,7 @@ pub enum Choice<'a> {
 }
 
 /// The place, from 0 on, of the field of a number.
-fn place_of(number: &str) -> Option<u64>
+pub fn place_of(number: &str) -> Option<u64>
     ensures { MatchOption result ((n : ℕ) → IsNumber number.now n → (n ≡ 0) ⊎ (2 ^ 64 ≤ n)) (IsFieldPlace number.now) }
 {
     match number.parse::<u64>() {

@@ -22,7 +22,7 @@ use cidr_io::memory::Memory;
 use cidr_io::sink::{OutputFailed, Sink};
 use cidr_lists::columns::Separator;
 use cidr_lists::formats::LineFormat;
-use cidr_lists::forms::{RowForm, RowLayout};
+use cidr_lists::forms::{RowColumns, RowForm, RowLayout};
 use cidr_lists::printing::block_text;
 use cidr_lists::rows::{Rows, Span, value_of};
 use cidr_lists::table::Table;
@@ -190,12 +190,22 @@ fn is_same_separator(one: Separator, other: Separator) -> bool
     }
 }
 
+/// Whether the same fields are the network and the value.
+fn are_same_columns(one: RowColumns, other: RowColumns) -> bool
+    ensures { result ≡ true → one ≡ other }
+{
+    is_same_separator(one.separator, other.separator)
+        && one.network == other.network
+        && one.value == other.value
+}
+
 /// Whether rows are laid out the same way.
 fn is_same_layout(one: RowLayout, other: RowLayout) -> bool
     ensures { result ≡ true → one ≡ other }
 {
     match (one, other) {
         (RowLayout::Fields(one), RowLayout::Fields(other)) => is_same_separator(one, other),
+        (RowLayout::Columns(one), RowLayout::Columns(other)) => are_same_columns(one, other),
         (RowLayout::Pfx2as, RowLayout::Pfx2as) => true,
         (RowLayout::Routes(Family::Ipv4), RowLayout::Routes(Family::Ipv4)) => true,
         (RowLayout::Routes(Family::Ipv6), RowLayout::Routes(Family::Ipv6)) => true,

@@ -268,6 +268,7 @@ fn misfit_text(why: Misfit) -> ArrayString<128>
             text.push_str(": no such form of lists, but rir, see: netset help ");
         }
         Misfit::NotOneByte => text.push_str(": more or less than one byte, see: netset help "),
+        Misfit::NoFields => text.push_str(": not the numbers of two fields, see: netset help "),
         Misfit::WithForm => text.push_str(": not with --form, see: netset help "),
         Misfit::WithJson => text.push_str(": not with the format json, see: netset help "),
     }
