@@ -141,7 +141,7 @@ pub const FORMS: &str =
     "--form NAME             how lines are read: those of a list by rir, the records in which the\n                        Internet registries publish what they have delegated; the rows of a\n                        table by pfx2as, an address, its prefix length and the value, as CAIDA\n                        has them, or by routes or routes6, as ip route prints those of IPv4\n                        and of IPv6, and default is all addresses\n";
 
 pub const TABLE_SEPARATOR: &str =
-    "--table-separator C     byte C stands between the network of a row and its value, as in CSV\n                        without quotes, and not white space\n--table-fields N,M      field N of a row is the network and field M its value, from 1 on, and\n                        not the first one and the rest of the row\n--table-header          the first line of a table is a header, whatever it says; not for a file of\n                        look-ups, which has none\n";
+    "--table-separator C     byte C stands between the fields of a row, as in CSV without quotes,\n                        and not white space\n--table-fields N,M      field N of a row is the network and field M its value, from 1 on, and\n                        not the first one and the rest of the row\n--table-header          the first line of a table is a header, whatever it says; not for a file of\n                        look-ups, which has none\n";
 
 pub const FORMAT: &str =
     "--format NAME           how the networks are written: plain, json, nft, ipset, iptables,\n                        cisco, juniper or bird\n--prefix TEXT, --suffix TEXT\n                        with the format plain, what stands in front of a network and behind\n";
