@@ -1,8 +1,7 @@
 -- What a record says, by its fields.
-use Rattle.std.proofs.Common.{◌≡◌, ◌≢◌, inl, inr, true, List, [], ℕ, Result, Ok, Err}
+use Rattle.std.proofs.Common.{◌≡◌, inr, true, List, ℕ, Result, Ok, Err}
 use Rattle.std.specs.Result.{MatchResult}
-use Rattle.cidr_lists.specs.Fields.{HasFields, IsFieldOf}
-use Rattle.cidr_lists.specs.Records.{HasBadFields, IsBadDelegation, IsDelegated, IsDelegation, IsRecord, IsRecordContent, bar, has_addresses, record_column}
+use Rattle.cidr_lists.specs.Records.{HasBadFields, IsBadDelegation, IsDelegated, IsDelegation, IsRecord, IsRecordContent, has_addresses}
 use Rattle.cidr_lists.specs.declared.errors.LineError.{LineError}
 use Rattle.cidr_lists.specs.declared.lines.Content.{Content}
 use Rattle.cidr_lists.specs.declared.lines.Content.TheVariants.{Blank, Network, Ipv4Range, Ipv6Range}

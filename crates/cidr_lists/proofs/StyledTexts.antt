@@ -1,5 +1,5 @@
 -- Sets in the formats of other tools: texts in their pieces, and what is read of them again.
-use Rattle.std.proofs.Common.{◌≡◌, ◌≢◌, refl, sym, ◌∙◌, ap, ap₂, subst, inl, inr, arith, ℕ, ◌+◌, ◌-◌, ◌<◌, ◌≤◌, ◌==◌, Bool, true, false, if◌then◌else◌, List, [], ◌∷◌, ◌++◌, Contains, length, length-append, map, slice_index, append_assoc, append-nil, codes, decimal, eq-eqb, ne_eqb}
+use Rattle.std.proofs.Common.{◌≡◌, ◌≢◌, refl, sym, ◌∙◌, ap, ap₂, subst, inl, inr, arith, ℕ, ◌-◌, ◌<◌, ◌≤◌, ◌==◌, Bool, true, false, if◌then◌else◌, List, [], ◌∷◌, ◌++◌, Contains, length, length-append, map, slice_index, append_assoc, append-nil, codes, decimal, eq-eqb, ne_eqb}
 use Rattle.std.specs.Char.{digit_value}
 use Rattle.std.specs.List.{All, AllZip, flat_map, slice_split}
 use Rattle.std.proofs.lemmas.Bool.{cases_eq, true≢false}

@@ -1,5 +1,5 @@
 -- Access lists that are read, and what is told of them.
-use Rattle.std.proofs.Common.{◌≡◌, ◌≢◌, refl, sym, ◌∙◌, ap, subst, inl, inr, drop, ℕ, Bool, List, [], ◌∷◌, ◌++◌, Bor, Option, Some, Result, Ok}
+use Rattle.std.proofs.Common.{◌≡◌, refl, sym, subst, inl, inr, ℕ, Bool, List, [], ◌∷◌, ◌++◌, Bor, Option, Some, Result, Ok}
 use Rattle.std.specs.List.{AllZip}
 use Rattle.std.specs.Option.{IfSome}
 use Rattle.cidr.specs.declared.cidr.combined.IpCidr.{IpCidr}
@@ -9,17 +9,14 @@ use Rattle.cidr_io.specs.Writing.{State, Answered}
 use Rattle.cidr_io.specs.declared.sink.OutputFailed.{OutputFailed}
 use Rattle.cidr_sets.specs.model.Sets.{IsSetOf}
 use Rattle.cidr_sets.specs.declared.access.Action.{Action}
-use Rattle.cidr_lists.specs.Changes.{family_changes, printed_changes}
+use Rattle.cidr_lists.specs.Changes.{printed_changes}
 use Rattle.cidr_lists.specs.Formats.{Style, printed_by}
 use Rattle.cidr_lists.specs.Lists.{Text, bits_in, text_by, text_in}
 use Rattle.cidr_lists.specs.Rules.{Permitted, Shadowed, Compared, ArePermittedLines, ArePermitting, AreShadowLines, HaveRules, IsFirstBadRule, IsRulesError, RulesSay, rules_of}
 use Rattle.cidr_lists.specs.Sets.{IsInSets, Steps, networks_of}
-use Rattle.cidr_lists.specs.declared.changes.Sign.{Sign}
-use Rattle.cidr_lists.specs.declared.changes.Sign.TheVariants.{Plus, Minus}
 use Rattle.cidr_lists.specs.declared.errors.ListError.{ListError}
 use Rattle.cidr_lists.specs.declared.errors.ListError.TheVariants.{Line, NoMemory}
 use Rattle.cidr_lists.specs.declared.formats.LineFormat.{LineFormat}
-use Rattle.cidr_lists.specs.declared.formats.LineFormat.TheVariants as by_line
 use Rattle.cidr_lists.specs.declared.records.ListForm.{ListForm}
 use Rattle.cidr_lists.specs.declared.rules.Rules.{Rules}
 use Rattle.cidr_lists.specs.declared.rules.Ruling.{Ruling}
@@ -34,7 +31,7 @@ use Rattle.netset_commands.specs.Program.{AnswersRequest, by_output}
 use Rattle.netset_commands.specs.declared.errors.CommandError.{CommandError}
 use Rattle.netset_commands.specs.declared.errors.CommandError.TheVariants as error
 use Rattle.netset_commands.specs.declared.output.answers.Verdict.{Verdict}
-use Rattle.netset_commands.specs.declared.output.answers.Verdict.TheVariants.{Yes, No}
+use Rattle.netset_commands.specs.declared.output.answers.Verdict.TheVariants.{Yes}
 use Rattle.netset_commands.proofs.Causes.{whole_read}
 use Rattle.netset_commands.proofs.Changed.{changes_clean, are_merged, differ}
 

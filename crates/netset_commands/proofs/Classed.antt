@@ -1,5 +1,5 @@
 -- What addresses are for, as it is told.
-use Rattle.std.proofs.Common.{◌≡◌, refl, sym, ◌∙◌, ap, subst, inl, inr, ℕ, Bool, true, false, List, ◌++◌, Bor, Option, Some, Result, Ok, Err}
+use Rattle.std.proofs.Common.{◌≡◌, refl, sym, ◌∙◌, ap, subst, inl, inr, ℕ, Bool, List, ◌++◌, Bor, Option, Some, Result, Ok, Err}
 use Rattle.std.specs.List.{AllZip, flat_map, list_any}
 use Rattle.cidr.specs.either.IpAddress.{IsIpText}
 use Rattle.cidr.specs.declared.addr.ip.IpAddr.{IpAddr}

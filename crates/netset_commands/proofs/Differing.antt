@@ -1,5 +1,5 @@
 -- Where two tables give addresses different values.
-use Rattle.std.proofs.Common.{◌≡◌, ◌≢◌, ◌∙◌, ℕ, ◌+◌, ◌<◌, ◌≤◌, ◌==◌, Bool, true, false, List, [], ◌∷◌, ◌++◌, codes, length, map, Option, Some, None, Result, Ok, Err, refl, sym, ap, ap₂, subst, arith, inl, inr, append_assoc, true≢false}
+use Rattle.std.proofs.Common.{◌≡◌, ◌≢◌, ◌∙◌, ℕ, ◌==◌, Bool, true, false, List, [], ◌∷◌, ◌++◌, codes, length, map, Option, Some, None, Result, Ok, Err, refl, sym, ap, ap₂, subst, arith, inr, append_assoc, true≢false}
 use Rattle.std.proofs.lemmas.List.{append-nil}
 use Rattle.std.specs.List.{Contains, flat_map}
 use Rattle.std.proofs.Common.{eqb-true}
@@ -17,7 +17,6 @@ use Rattle.cidr_lists.specs.LookUps.{gap}
 use Rattle.cidr_lists.specs.Printing.{line}
 use Rattle.cidr_lists.specs.Lists.{Text}
 use Rattle.cidr_lists.specs.Tables.{kept}
-use Rattle.cidr_lists.specs.declared.changes.Sign.{Sign}
 use Rattle.cidr_lists.specs.declared.changes.Sign.TheVariants.{Plus, Minus}
 use Rattle.cidr_lists.specs.declared.forms.RowForm.{RowForm}
 use Rattle.cidr_lists.specs.declared.table.Table.{Table}

@@ -1,5 +1,5 @@
 -- Addresses that are told with their lines, or as objects.
-use Rattle.std.proofs.Common.{◌≡◌, ◌≢◌, refl, sym, ◌∙◌, ap, subst, inl, inr, ℕ, ◌+◌, ◌≤◌, Bool, true, false, ◌||◌, List, [], ◌∷◌, ◌++◌, length, take, arith, codes, is_some, option_map, Bor, ◌==◌, Option, Some, None, Result, Ok, Err, append_assoc, length-append}
+use Rattle.std.proofs.Common.{◌≡◌, refl, sym, ◌∙◌, ap, subst, inl, inr, ℕ, ◌+◌, ◌≤◌, Bool, true, false, ◌||◌, List, [], ◌∷◌, ◌++◌, length, take, arith, codes, is_some, option_map, Bor, ◌==◌, Option, Some, None, Result, Ok, Err, append_assoc, length-append}
 use Rattle.std.specs.Option.{IfSome}
 use Rattle.std.specs.List.{AllZip, flat_map, list_any}
 use Rattle.std.proofs.lemmas.Bool.{true≢false}
@@ -20,7 +20,7 @@ use Rattle.cidr_lists.specs.Lines.{lines_in}
 use Rattle.cidr_lists.specs.LookUps.{IsBadAsked, LineTells, LinesTell, LookUp, is_found, joint_of, kept_line, look_object, printed_found, printed_row, returns_of, told_line, without_returns}
 use Rattle.cidr_lists.specs.declared.fields.Asked.{Asked}
 use Rattle.cidr_lists.specs.declared.objects.Telling.{Telling}
-use Rattle.cidr_lists.specs.declared.objects.Telling.TheVariants.{Alone, Kept, Objects}
+use Rattle.cidr_lists.specs.declared.objects.Telling.TheVariants.{Objects}
 use Rattle.netset_commands.specs.Causes.{TextFails}
 use Rattle.netset_commands.specs.Gathering.{IsNotReadFurther, Stops, ended_by, lines_of_part}
 use Rattle.netset_commands.specs.KeptLines.{HasNetwork, IsNetworkOf, IsObjectOf, IsRowOf, KeepsLine, TellsBy, TellsPart, TellsText}

@@ -7,7 +7,7 @@ use Rattle.netset_commands.specs.Causes.{Refusals}
 use Rattle.netset_commands.specs.Commands.{Request, Compile, IsAnswer}
 use Rattle.netset_commands.specs.Arguments.{Line, line_request}
 use Rattle.netset_commands.specs.Leaving.{IsSaved, Leaves, LeavesBy, LeavesFound, LeavesTo, RunLeaves}
-use Rattle.netset_commands.specs.Program.{RunsFound, answer_status, contents_in, empty, status_of, contents_of}
+use Rattle.netset_commands.specs.Program.{RunsFound, answer_status, empty, status_of, contents_of}
 use Rattle.netset_commands.specs.Saving.{with_file}
 use Rattle.netset_commands.specs.declared.commands.Reading.{Reading}
 use Rattle.netset_commands.specs.declared.errors.CommandError.{CommandError}

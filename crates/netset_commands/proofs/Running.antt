@@ -13,7 +13,7 @@ use Rattle.netset_commands.specs.Keeping.{AreGoodBytes, AreGoodKept, IsGoodFile,
 use Rattle.cidr_lists.specs.Lists.{Text, text_in}
 use Rattle.netset_commands.specs.Matching.{has, is_word}
 use Rattle.netset_commands.specs.Loading.{AreListsLoaded, IsUnloaded}
-use Rattle.netset_commands.specs.Program.{AnswersRequest, IntoFound, IsCaused, IsNotSaved, IsReadTwice, IsWrong, KeepsGoing, Reports, Runs, RunsFound, RunsGood, RunsOnce, RunsRequest, TellsFaults, empty, status_of, contents_in, contents_of}
+use Rattle.netset_commands.specs.Program.{AnswersRequest, IntoFound, IsCaused, IsNotSaved, IsReadTwice, IsWrong, KeepsGoing, Reports, Runs, RunsFound, RunsGood, RunsOnce, RunsRequest, TellsFaults, empty, status_of, contents_of}
 use Rattle.netset_commands.specs.declared.output.answers.Verdict.{Verdict}
 use Rattle.netset_commands.specs.declared.commands.Reading.{Reading}
 use Rattle.netset_commands.specs.declared.commands.table.Verb.{Verb}

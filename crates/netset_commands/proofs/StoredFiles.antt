@@ -9,8 +9,6 @@ use Rattle.std.proofs.lemmas.Slice.Zip.{get_or-zip, length-zip}
 use Rattle.cidr.specs.laws.BitLaws.{length-bits}
 use Rattle.cidr.specs.model.Bits.{bits}
 use Rattle.cidr.specs.model.Network.{BeginsWith}
-use Rattle.cidr.specs.declared.family.Family.{Family}
-use Rattle.cidr.specs.declared.family.Family.TheVariants.{Ipv4, Ipv6}
 use Rattle.cidr_arrays.specs.Arrays.{prefix_bits}
 use Rattle.cidr_files.specs.Layout.{wide_words, words}
 use Rattle.cidr_files.specs.Tables.{IsFile, IsStoredTable, IsTableCutFrom, part_at, parts_in, stored_networks, value_in}

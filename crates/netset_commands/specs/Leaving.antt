@@ -8,7 +8,7 @@ use Rattle.cidr_lists.specs.declared.forms.RowForm.{RowForm}
 use Rattle.netset_commands.specs.Arguments.{Line, line_request}
 use Rattle.netset_commands.specs.Commands.{Request, Compile, IsAnswer}
 use Rattle.netset_commands.specs.Compiled.{IsTableFile}
-use Rattle.netset_commands.specs.Program.{answer_status, contents_in, contents_of}
+use Rattle.netset_commands.specs.Program.{answer_status, contents_of}
 use Rattle.netset_commands.specs.Saving.{with_file}
 use Rattle.netset_commands.specs.declared.errors.CommandError.{CommandError}
 use Rattle.netset_commands.specs.declared.output.answers.Verdict.{Verdict}

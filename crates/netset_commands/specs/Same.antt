@@ -1,5 +1,5 @@
 -- Where two tables give addresses different values, or one gives a value and the other none.
-use Rattle.std.specs.Prelude.{◌≡◌, ◌⊎◌, ℕ, Bool, List, [], ◌∷◌, ◌++◌, Option, None, Some}
+use Rattle.std.specs.Prelude.{◌≡◌, ◌⊎◌, ℕ, Bool, List, [], ◌++◌, Option, None, Some}
 use Rattle.std.specs.List.{flat_map}
 use Rattle.cidr.specs.model.Network.{HasWidth, width_of}
 use Rattle.cidr.specs.texts.Printed.{plain_text}

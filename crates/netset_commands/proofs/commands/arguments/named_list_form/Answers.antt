@@ -1,4 +1,4 @@
-use Rattle.std.proofs.Common.{sym, ◌∙◌, ap, not, Bool, List, ℕ, codes, Err}
+use Rattle.std.proofs.Common.{sym, ◌∙◌, ap, not, List, ℕ, codes, Err}
 use Rattle.netset_commands.specs.Matching.{has, is_word}
 use Rattle.netset_commands.specs.Table.{texts}
 use Rattle.netset_commands.proofs.Parts.{if_false, if_true}

@@ -1,4 +1,4 @@
-use Rattle.std.proofs.Common.{lit≤, ◌≤◌}
+use Rattle.std.proofs.Common.{lit≤}
 use Rattle.cidr.specs.declared.family.Family.TheVariants.{Ipv4, Ipv6}
 use Rattle.cidr_lists.specs.Tables.{kept}
 use Rattle.netset_commands.proofs.Compared.{family_differences}

@@ -1,4 +1,4 @@
-use Rattle.std.proofs.Common.{◌≡◌, ◌∙◌, subst, rules, sym}
+use Rattle.std.proofs.Common.{◌∙◌, subst}
 use Rattle.netset_commands.specs.Compared.{AreOfFamily}
 use Rattle.netset_commands.proofs.Compared.{are_found}
 use Rattle.netset_commands.proofs.commands.same.listed.Goals as goal

@@ -1,4 +1,4 @@
-use Rattle.std.proofs.Common.{◌≡◌, ◌<◌, refl, subst, arith, length, ℕ, List}
+use Rattle.std.proofs.Common.{◌≡◌, ◌<◌, refl, subst, arith, length, ℕ}
 use Rattle.cidr_files.specs.Tables.{parts_in, stored_networks, value_in}
 use Rattle.cidr_lists.specs.Forms.{Fits}
 use Rattle.netset_commands.proofs.StoredFiles.{fit_more, rows_counted, unfit_at, values_fit}
