@@ -1,10 +1,11 @@
 -- What runs over texts in memory have printed and told.
-use Rattle.std.proofs.Common.{◌≡◌, ◌≢◌, refl, sym, ◌∙◌, ap, subst, arith, inl, inr, ℕ, zero, suc, ◌+◌, ◌<◌, ◌≤◌, Bool, false, List, [], ◌∷◌, ◌++◌, length, codes, slice_index, Contains, IsAscii, IsUtf8, Option, Some, None, option_map, Result, Ok, Err}
+use Rattle.std.proofs.Common.{◌≡◌, ◌≢◌, refl, sym, ◌∙◌, ap, ap₂, subst, arith, inl, inr, ℕ, zero, suc, ◌+◌, ◌<◌, ◌≤◌, Bool, false, List, [], ◌∷◌, ◌++◌, length, codes, decimal, slice_index, Contains, IsAscii, IsUtf8, Option, Some, None, option_map, Result, Ok, Err}
 use Rattle.std.specs.List.{AllZip, flat_map}
 use Rattle.std.specs.Option.{IfSome}
 use Rattle.std.proofs.lemmas.Bool.{false≢true}
 use Rattle.std.proofs.lemmas.List.{append-nil}
 use Rattle.std.proofs.lemmas.Str.{IsUtf8-from_ascii}
+use Rattle.std.proofs.lemmas.Fmt.{decimal_digit}
 use Rattle.cidr.specs.declared.cidr.combined.IpCidr.{IpCidr}
 use Rattle.cidr.specs.declared.family.Family.{Family}
 use Rattle.cidr_io.specs.Writing.{State, Whole, Tells}
@@ -26,7 +27,7 @@ use Rattle.cidr_lists.specs.declared.fields.Asked.{Asked}
 use Rattle.cidr_lists.specs.declared.fields.Asked.TheVariants.{First}
 use Rattle.cidr_lists.specs.declared.objects.Telling.{Telling}
 use Rattle.cidr_lists.specs.declared.formats.Format.TheVariants.{Nft}
-use Rattle.cidr_lists.specs.declared.formats.LineFormat.{LineFormat}
+use Rattle.cidr_lists.specs.declared.forms.RowForm.{RowForm}
 use Rattle.cidr_lists.specs.declared.formats.LineFormat.TheVariants.{Json, Plain}
 use Rattle.cidr_lists.specs.declared.lines.HostBits.{HostBits}
 use Rattle.cidr_lists.specs.declared.forms.Kind.TheVariants.{Networks}
@@ -48,7 +49,7 @@ use Rattle.netset_commands.proofs.Failures.{Failed, lists_fail}
 use Rattle.netset_commands.proofs.Matched.{of_list}
 use Rattle.netset_commands.proofs.Skipped.{lists_skip}
 use Rattle.netset_commands.proofs.Typed.{typed_asks}
-use Rattle.netset_uses.specs.Runs.{AreLinesBySecond, ArePermittedTheSame, HasPrinted, HasRun, HasSkipped, HasToldLine, by_words, holding, second_field}
+use Rattle.netset_uses.specs.Runs.{AreLinesBySecond, ArePermittedTheSame, HasPrinted, HasRun, HasSkipped, HasToldLine, by_second, by_words, holding, second_field}
 use Rattle.netset_uses.specs.declared.runs.Finished.{Finished}
 
 -- ---- outputs
@@ -207,26 +208,26 @@ goods_printed words contents list (Some run) same told h =
     good_printed contents list run told (subst (λ (k : List (List ℕ)). HasRun k contents run) same h)
 
 -- ---- look
--- rows by words, looked up without options
-module _ (telling : Telling) (format : LineFormat) (named : List (List ℕ)) (contents : List ℕ → Option (List ℕ)) (table file : List ℕ) (told : telling_by format false ≡ telling)
+-- addresses of first fields, looked up in rows of a form
+module _ (telling : Telling) (form : RowForm) (named : List (List ℕ)) (contents : List ℕ → Option (List ℕ)) (table file : List ℕ) (told : telling_by form.values false ≡ telling)
     (first : contents (codes "table") ≡ Some table) (second : contents (codes "file") ≡ Some file) where
   abbrev look_words : List (List ℕ)
   look_words = codes "look" ∷ (named ++ (codes "table" ∷ codes "file" ∷ []))
 
   abbrev Printed : List ℕ → Type 0
-  Printed answer = IsLook false telling First (by_words format) (text_by Refused table) file answer Yes
+  Printed answer = IsLook false telling First form (text_by Refused table) file answer Yes
 
-  look_printed : (run : Finished) → HasRun look_words contents run → IsTyped look_words [] (Look FirstField (by_words format) [] (codes "table") (codes "file"))
+  look_printed : (run : Finished) → HasRun look_words contents run → IsTyped look_words [] (Look FirstField form [] (codes "table") (codes "file"))
       → run.status ≡ 0 → HasPrinted Printed run
   look_printed run (answered, runs) typed ended =
-      let (answer, (asked, of, is), whole, quiet) = answered look_words [] (Look FirstField (by_words format) [] (codes "table") (codes "file")) Yes refl typed ended in
+      let (answer, (asked, of, is), whole, quiet) = answered look_words [] (Look FirstField form [] (codes "table") (codes "file")) Yes refl typed ended in
       printed_by Printed run answer
-      (subst (λ (t : Telling). IsLook false t First (by_words format) (text_by Refused table) file answer Yes) told
-      (subst (λ (k : Asked). IsLook false (telling_by format false) k (by_words format) (text_by Refused table) file answer Yes) of
+      (subst (λ (t : Telling). IsLook false t First form (text_by Refused table) file answer Yes) told
+      (subst (λ (k : Asked). IsLook false (telling_by form.values false) k form (text_by Refused table) file answer Yes) of
       (is (text_by Refused table) (text_by Refused file) (told_text contents (codes "table") table first) (told_text contents (codes "file") file second)))) whole quiet
 
   pub looks_printed : (words : List (List ℕ)) (r : Option Finished) → words ≡ look_words
-      → IsTyped look_words [] (Look FirstField (by_words format) [] (codes "table") (codes "file")) → IfSome r (HasRun words contents)
+      → IsTyped look_words [] (Look FirstField form [] (codes "table") (codes "file")) → IfSome r (HasRun words contents)
       → IfSome r (λ run. run.status ≡ 0 → HasPrinted Printed run)
   looks_printed words None same typed h = tt
   looks_printed words (Some run) same typed h = look_printed run (subst (λ (k : List (List ℕ)). HasRun k contents run) same h) typed
@@ -238,6 +239,16 @@ look_typed = (refl, tt, λ _. refl, tt, inl (refl, refl, refl, refl, refl))
 pub json_look_typed : IsTyped (codes "look" ∷ codes "--format" ∷ codes "json" ∷ codes "table" ∷ codes "file" ∷ []) []
     (Look FirstField (by_words Json) [] (codes "table") (codes "file"))
 json_look_typed = (refl, tt, λ _. refl, tt, inl (refl, refl, refl, refl, refl))
+
+-- the numbers of two fields
+numbers_typed : codes "2,1" ≡ decimal (1 + 1) ++ 44 ∷ decimal (0 + 1)
+numbers_typed = sym (ap₂ (λ (a b : List ℕ). a ++ 44 ∷ b) (decimal_digit 2 (omega arith)) (decimal_digit 1 (omega arith)))
+
+abbrev typed_words : List ℕ → List (List ℕ)
+typed_words numbers = codes "look" ∷ codes "--table-separator" ∷ codes "," ∷ codes "--table-fields" ∷ numbers ∷ codes "table" ∷ codes "file" ∷ []
+
+pub second_look_typed : IsTyped (typed_words (codes "2,1")) [] (Look FirstField by_second [] (codes "table") (codes "file"))
+second_look_typed = (refl, tt, λ _. refl, (omega arith, omega arith), inl (ap typed_words numbers_typed, refl, refl, refl, refl))
 
 -- ---- diff
 abbrev pub diff_words : List (List ℕ)

@@ -17,7 +17,7 @@ use Rattle.cidr_lists.specs.declared.columns.Separator.TheVariants.{WhiteSpace, 
 use Rattle.cidr_lists.specs.declared.errors.LineError.{LineError}
 use Rattle.cidr_lists.specs.declared.forms.Kind.TheVariants.{Networks}
 use Rattle.cidr_lists.specs.declared.forms.RowForm.{RowForm}
-use Rattle.cidr_lists.specs.declared.forms.RowLayout.TheVariants.{Fields}
+use Rattle.cidr_lists.specs.declared.forms.RowLayout.TheVariants.{Fields, Columns}
 use Rattle.cidr_lists.specs.declared.formats.LineFormat.{LineFormat}
 use Rattle.cidr_lists.specs.declared.formats.LineFormat.TheVariants.{Plain}
 use Rattle.netset_commands.specs.Causes.{Refusals}
@@ -55,6 +55,10 @@ HasSkipped file text Made run = AreTellings Networks (file ∷ []) (text ∷ [])
 -- rows of a network and its value, with white space between them, whose values are told in this format
 abbrev pub by_words : LineFormat → RowForm
 by_words format = record { layout = Fields WhiteSpace; values = format }
+
+-- rows of fields between commas, of which the second is a network and the first its value
+abbrev pub by_second : RowForm
+by_second = record { layout = Columns (record { separator = Byte 44; network = 1; value = 0 }); values = Plain }
 
 -- the second field of a line between commas
 abbrev pub second_field : Column

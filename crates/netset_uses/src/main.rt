@@ -12,8 +12,8 @@ use cidr_lists::errors::{LineError, ListError};
 use cidr_lists::lines::HostBits;
 use cidr_lists::sets::{Form, Sets};
 use runs::{
-    Finished, acl, acl_for_nft, compared, differences, look, look_as_json, match_second, merge,
-    merge_good, merge_twice, same_values, shadowed,
+    Finished, acl, acl_for_nft, compared, differences, look, look_as_json, look_by_second,
+    match_second, merge, merge_good, merge_twice, same_values, shadowed,
 };
 use std::alloc::{AllocError, Global};
 use std::io;
@@ -42,6 +42,12 @@ fn tell_lists(rt: &HostRuntime) -> io::Result<()> {
     let table = b"192.0.2.0/24 the office\n192.0.2.64/26  room #5\n";
     let asked = b"192.0.2.70\n192.0.2.7\n198.51.100.1\n";
     tell(rt, "look", look(alloc, table, asked))?;
+    let sites = b"the office,192.0.2.0/24,x\n room #5 , 192.0.2.64/26\n";
+    tell(
+        rt,
+        "look --table-fields",
+        look_by_second(alloc, sites, asked),
+    )?;
     tell(rt, "look --format json", look_as_json(alloc, table, asked))?;
     let records = b"# time,source\n1, 10.0.0.1 \n2,11.0.0.1\n3,10.2.0.0/16,10.0.0.1";
     tell(rt, "match", match_second(alloc, b"10.0.0.0/8\n", records))?;

@@ -12,7 +12,7 @@ ghost use Rattle.netset_commands.specs.Commands.{IsDiff, IsMadeOf};
 ghost use Rattle.netset_commands.specs.Look.{IsLook};
 ghost use Rattle.netset_commands.specs.declared.commands.operations.Operation.TheVariants.{Merge};
 ghost use Rattle.netset_commands.specs.declared.output.answers.Verdict.TheVariants.{Yes, No};
-ghost use Rattle.netset_uses.specs.Runs.{AreLinesBySecond, ArePermittedTheSame, GiveSameValues, HasPrinted, HasRun, HasSkipped, HasToldLine, by_words};
+ghost use Rattle.netset_uses.specs.Runs.{AreLinesBySecond, ArePermittedTheSame, GiveSameValues, HasPrinted, HasRun, HasSkipped, HasToldLine, by_second, by_words};
 ghost use Rattle.netset_uses.specs.Texts.{contents_of};
 
 use crate::texts::{TextFile, TextFiles, Words};
@@ -103,6 +103,38 @@ pub fn look(alloc: Global, table: &[u8], file: &[u8]) -> Option<Finished>
         },
     ];
     run(alloc, &["look", "table", "file"], &files)
+}
+
+/// A run of `netset look --table-separator , --table-fields 2,1 table file`. With status 0 it has printed a line for each
+/// address of the file, with the longest network that has it of those in the second field of a row, and the first field of
+/// that row.
+pub fn look_by_second(alloc: Global, table: &[u8], file: &[u8]) -> Option<Finished>
+    ensures { IfSome result (λ run. run.status ≡ 0
+        → HasPrinted (λ answer. IsLook false Alone First by_second (text_by Refused table.now) file.now answer Yes) run) }
+{
+    let files = [
+        TextFile {
+            name: "table",
+            bytes: table,
+        },
+        TextFile {
+            name: "file",
+            bytes: file,
+        },
+    ];
+    run(
+        alloc,
+        &[
+            "look",
+            "--table-separator",
+            ",",
+            "--table-fields",
+            "2,1",
+            "table",
+            "file",
+        ],
+        &files,
+    )
 }
 
 /// A run of `netset look --format json table file`. With status 0 it has printed an object of JSON for each address of the
