@@ -1,4 +1,4 @@
--- Any calls at both ends give only items, each once, and all after enough calls.
+-- Any calls at both ends give only items, each once, from the ends inwards, and all after enough calls.
 use Rattle.std.proofs.Common.{◌≡◌, ℕ, zero, suc, ◌+◌, ◌-◌, ◌<◌, ◌≤◌, List, [], ◌∷◌, length, Some, None, slice_get, refl, sym, ap, ◌∙◌, arith, inl, inr}
 use Rattle.std.proofs.lemmas.Bool.{cases_lt, cases_eq}
 use Rattle.std.proofs.lemmas.Bool.Decides.{nat_tests}
@@ -7,7 +7,7 @@ use Rattle.cidr.specs.declared.inet_iterator.driving.End.TheVariants.{Front, Bac
 use Rattle.std.specs.List.{Contains}
 use Rattle.std.proofs.lemmas.Option.{slice_get-get_or}
 use Rattle.cidr.specs.model.Walk.{answer_at, answers_after, answers_to}
-use Rattle.cidr.specs.model.Calls.{HasOnce, GivesOnly, GivesOnce, GivesEach}
+use Rattle.cidr.specs.model.Calls.{HasOnce, GivesOnly, GivesOnce, GivesInward, GivesEach}
 
 pub none_is_some : {X : Type 0} (x : X) → None ≡ Some x → ⊥
 none_is_some x h = cc
@@ -43,6 +43,23 @@ module _ {X : Type 0} (items : List X) where
   given f b (Front ∷ ends) (suc k) x h = let r = given (f + 1) b ends k x h in (r.0, omega (arith, r.1), r.2, r.3)
   given f b (Back ∷ ends) zero x h = let s = some_answer f b Back x (some_is (answer_at items f b Back) (Some x) h) in (length items - 1 - b, omega (arith, s.0), omega (arith, s.0), s.1)
   given f b (Back ∷ ends) (suc k) x h = let r = given f (b + 1) ends k x h in (r.0, r.1, omega (arith, r.2), r.3)
+
+  other_end : Some Front ≡ Some Back → ⊥
+  other_end h = cc
+
+  pub given_inward : (f b : ℕ) (ends : List End) → GivesInward items ends (answers_after items f b ends)
+  given_inward f b [] j k x y l h g = absurd (none_is_some (Some x) h)
+  given_inward f b (e ∷ ends) j zero x y l h g = absurd (omega (arith, l))
+  given_inward f b (Front ∷ ends) zero (suc k) x y l h g =
+      let s = some_answer f b Front x (some_is (answer_at items f b Front) (Some x) h) in
+      let r = given (f + 1) b ends k y g in
+      (f, r.0, s.1, r.3, λ _. omega (arith, r.1), λ e. absurd (other_end e))
+  given_inward f b (Back ∷ ends) zero (suc k) x y l h g =
+      let s = some_answer f b Back x (some_is (answer_at items f b Back) (Some x) h) in
+      let r = given f (b + 1) ends k y g in
+      (length items - 1 - b, r.0, s.1, r.3, λ e. absurd (other_end (sym e)), λ _. omega (arith, s.0, r.2))
+  given_inward f b (Front ∷ ends) (suc j) (suc k) x y l h g = given_inward (f + 1) b ends j k x y (omega (arith, l)) h g
+  given_inward f b (Back ∷ ends) (suc j) (suc k) x y l h g = given_inward f (b + 1) ends j k x y (omega (arith, l)) h g
 
   module _ (apart : HasOnce items) where
     first_again : (f b : ℕ) (e : End) (ends : List End) (k : ℕ) (x : X) → slice_get (answers_after items f b (e ∷ ends)) 0 ≡ Some (Some x)
@@ -92,6 +109,9 @@ gives_only items ends k x h = let r = given items 0 0 ends k x h in contains_got
 
 pub gives_once : {X : Type 0} (items : List X) (ends : List End) → HasOnce items → GivesOnce (answers_to items ends)
 gives_once items ends apart = given_once items apart 0 0 ends
+
+pub gives_inward : {X : Type 0} (items : List X) (ends : List End) → GivesInward items ends (answers_to items ends)
+gives_inward items ends = given_inward items 0 0 ends
 
 pub gives_each : {X : Type 0} (items : List X) (ends : List End) → length items ≤ length ends → GivesEach items (answers_to items ends)
 gives_each items ends long x c = given_all items 0 0 ends (omega (arith, long)) c.0 x (omega arith) (omega (arith, c.1)) (slice_get-get_or items c.0 x c.1 ∙ ap Some c.2)

@@ -53,7 +53,7 @@ begins_first w k n a b hk la within =
 longer_begins_not : (w k n : ℕ) (a b : List Bool) → k ≤ w → length a ≡ w → n < k → ¬ (BeginsWith (take n b) (take k a))
 longer_begins_not w k n a b hk la longer h = omega (arith, not_longer (take k a) (take n b) h, length-take k a, length-take n b)
 
-both_ways : {A B C : Type 0} → A ↔ B → B ↔ C → A ↔ C
+pub both_ways : {A B C : Type 0} → A ↔ B → B ↔ C → A ↔ C
 both_ways h k = (λ a. k.0 (h.0 a), λ c. h.1 (k.1 c))
 
 -- what the test of two networks says, and where the length alone says no

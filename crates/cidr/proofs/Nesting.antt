@@ -1,7 +1,8 @@
 -- Networks are nested or apart, and those inside one stand together in the order of bits.
-use Rattle.std.proofs.Common.{◌≢◌, ◌≤◌, Bool, true, false, List, [], ◌∷◌, length, get_or, take, drop, refl, sym, ap, ◌∙◌, arith, inl, inr}
+use Rattle.std.proofs.Common.{◌≢◌, ◌↔◌, ◌≤◌, Bool, true, false, List, [], ◌∷◌, length, get_or, take, drop, refl, sym, ap, ◌∙◌, arith, inl, inr}
 use Rattle.std.proofs.lemmas.Bool.{cases_lt, true≢false, false≢true}
 use Rattle.std.proofs.lemmas.List.{take-take}
+use Rattle.std.specs.Bool.{IsTrue, IsFalse}
 use Rattle.std.specs.declared.cmp.Ordering.TheVariants.{Greater}
 use Rattle.cidr.specs.model.Bits.{bit_cmp}
 use Rattle.cidr.specs.model.Network.{BeginsWith, AreApart, IsConsecutive}
@@ -39,3 +40,14 @@ between (false ∷ p) (true ∷ q) r h low high = absurd (true≢false (ap (λ t
 
 pub inside_consecutive : (p q : List Bool) → BeginsWith q p → IsConsecutive p q
 inside_consecutive p q h = (not_after p q h, λ r low high. between p q r h low high)
+
+true_and_false : (b : Bool) → IsTrue b → IsFalse b → ⊥
+true_and_false b t f = cc
+
+-- what the test of two networks tells besides
+module _ (p q : List Bool) (test : Bool) (begins : IsTrue test ↔ BeginsWith q p) where
+  pub apart_by_test : IsFalse test → ¬ (BeginsWith p q) → AreApart p q
+  apart_by_test f inside = apart_unless_nested p q (λ h. true_and_false test (begins.1 h) f) inside
+
+  pub consecutive_by_test : IsTrue test → IsConsecutive p q
+  consecutive_by_test t = inside_consecutive p q (begins.0 t)

@@ -24,8 +24,11 @@ pub trait Canonical: Ord {
     /// The compact bytes.
     ghost bytes: { Self → List ℕ };
 
-    /// Does nothing. Every value of the type is a network, and each of the four tells which one it is.
-    fn known(&self)
+    /// The laws: every value of the type is a network, and each of the four tells which one it is.
+    ///
+    /// It does nothing when it runs, and is called for what it promises, as by `agree` for both of its networks. The
+    /// laws are those of a call, since only a call tells that the prefix length of a value is within the width.
+    fn each_tells_the_network(&self)
         ensures network { is_network self.now }
         ensures tells { TellsNetwork holds text bytes Self.cmp is_network };
 }
@@ -44,8 +47,8 @@ pub fn agree<N: Canonical>(a: &N, b: &N) -> bool
     ensures all { IsTrue result ↔ AllAgree N.holds N.text N.bytes N.cmp a.now b.now }
     ensures none { IsFalse result ↔ NoneAgrees N.holds N.text N.bytes N.cmp a.now b.now }
 {
-    a.known();
-    b.known();
+    a.each_tells_the_network();
+    b.each_tells_the_network();
     a.cmp(b).is_eq()
 }
 
@@ -63,7 +66,7 @@ impl<A: AddressOctets + AddressText> Canonical for Network<A> {
 
     ghost bytes = { network_bytes A.FAMILY };
 
-    fn known(&self) {
+    fn each_tells_the_network(&self) {
         // the call tells the proof that the prefix length is within the width
         let _len = self.network_length();
     }
@@ -84,7 +87,7 @@ impl Canonical for IpCidr {
 
     ghost bytes = { ip_network_bytes };
 
-    fn known(&self) {
+    fn each_tells_the_network(&self) {
         let _len = self.network_length();
         equal_networks_are_the_same();
     }
@@ -105,7 +108,7 @@ impl Canonical for AnyIpCidr {
 
     ghost bytes = { any_network_bytes };
 
-    fn known(&self) {
+    fn each_tells_the_network(&self) {
         equal_networks_or_any_are_the_same();
         let _len = match self {
             AnyIpCidr::Any => 0,

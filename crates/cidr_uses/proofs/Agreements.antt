@@ -32,19 +32,16 @@ iff_of false P if_true if_false = (λ t. absurd (cc), λ p. absurd (if_false ref
 module _ {N : Type 0} (Holds : N → List Bool → Type 0) (text bytes : N → List ℕ) (cmp : N → N → Ordering) (x y : N) (same : Bool)
     (all : IsTrue same ↔ AllAgree Holds text bytes cmp x y) (none : IsFalse same ↔ NoneAgrees Holds text bytes cmp x y) where
   -- the test says of each of the five whether it holds
-  pub by_value : IsTrue same ↔ (x ≡ y)
-  by_value = iff_of same (x ≡ y) (λ t. (all.0 t).value) (λ f. (none.0 f).value)
-
-  pub by_order : IsTrue same ↔ (cmp x y ≡ Equal)
+  by_order : IsTrue same ↔ (cmp x y ≡ Equal)
   by_order = iff_of same (cmp x y ≡ Equal) (λ t. (all.0 t).order) (λ f. (none.0 f).order)
 
-  pub by_addresses : IsTrue same ↔ SameAddresses (Holds x) (Holds y)
+  by_addresses : IsTrue same ↔ SameAddresses (Holds x) (Holds y)
   by_addresses = iff_of same (SameAddresses (Holds x) (Holds y)) (λ t. (all.0 t).addresses) (λ f. (none.0 f).addresses)
 
-  pub by_texts : IsTrue same ↔ (text x ≡ text y)
+  by_texts : IsTrue same ↔ (text x ≡ text y)
   by_texts = iff_of same (text x ≡ text y) (λ t. (all.0 t).texts) (λ f. (none.0 f).texts)
 
-  pub by_bytes : IsTrue same ↔ (bytes x ≡ bytes y)
+  by_bytes : IsTrue same ↔ (bytes x ≡ bytes y)
   by_bytes = iff_of same (bytes x ≡ bytes y) (λ t. (all.0 t).compact) (λ f. (none.0 f).compact)
 
   -- the same texts are printed exactly of the same addresses

@@ -1,9 +1,10 @@
--- What is read back is what was printed, what a pool gives, which lines are refused, what bytes begin with, the rows of
--- a table, which network lies in a list made shorter, what is left of a pool, which rules decide, sets of ranges, and the
--- names of networks.
+-- The parts of the headline, what is read back, what a pool gives, which lines are refused, what bytes begin with, the rows
+-- of a table, which network lies in a list made shorter, what is left of a pool, which rules decide, sets of ranges, and
+-- the names of networks.
 pub mod AccessLists
 pub mod Aggregates
 pub mod FreeNetworkSets
+pub mod Headlines
 pub mod ReadBack
 pub mod Readings
 pub mod RangeSets

@@ -1,5 +1,5 @@
--- What calls at both ends of the walk of a network of either family return.
-use Rattle.std.proofs.Common.{◌≡◌, ◌↔◌, ℕ, zero, suc, Bool, List, [], ◌∷◌, length, map, Contains, Option, Some, None, slice_get, refl, sym, ap, ◌∙◌, subst, arith, inl, inr}
+-- What calls at both ends of the walk of a network return.
+use Rattle.std.proofs.Common.{◌≡◌, ◌↔◌, ℕ, zero, suc, ◌<◌, ◌≤◌, Bool, List, [], ◌∷◌, length, map, Contains, Option, Some, None, slice_get, refl, sym, ap, ◌∙◌, subst, arith, inl, inr}
 use Rattle.std.proofs.lemmas.Bool.{cases_order}
 use Rattle.std.proofs.lemmas.List.{length-map}
 use Rattle.std.proofs.lemmas.Simd.{map-map}
@@ -9,9 +9,10 @@ use Rattle.cidr.specs.model.Bits.{bit_cmp}
 use Rattle.cidr.specs.laws.BitLaws.{bit_cmp_total}
 use Rattle.cidr.specs.model.Network.{width_of, BeginsWith}
 use Rattle.cidr.specs.model.Walk.{network_walk, network_hosts, addresses_of, answers_to, HasExactly, IsAscending}
-use Rattle.cidr.specs.model.Calls.{HasOnce, GivesOnly, GivesOnce, GivesEach}
+use Rattle.cidr.specs.model.Calls.{HasOnce, GivesOnly, GivesOnce, GivesInward, GivesEach}
 use Rattle.cidr.specs.declared.family.Family.{Family}
 use Rattle.cidr.specs.declared.inet_iterator.driving.End.{End}
+use Rattle.cidr_uses.specs.Headline.{Walks}
 use Rattle.cidr_uses.proofs.Agreements.{contains_mapped}
 
 some_is : {Y : Type 0} (y z : Y) → Some y ≡ Some z → y ≡ z
@@ -59,7 +60,7 @@ module _ (family : Family) (network : List Bool) (ends : List End) (answers : Li
       let m = get_mapped (λ (x : List Bool). (family, x)) (network_walk family network) i a (ap (λ t. slice_get t i) (sym mapped) ∙ h) in
       (m.1 ∙ ap Some (sym (ap (λ (p : Family × List Bool). p.1) m.2)), ap (λ (p : Family × List Bool). p.0) m.2)
 
-  pub apart : HasOnce items
+  apart : HasOnce items
   apart i j a h g = stands_once (network_walk family network) up i j a.1 (item_got i a h).0 (item_got j a g).0
 
   item_is : (a : List Bool) → Contains items (family, a) ↔ Contains (network_walk family network) a
@@ -76,14 +77,24 @@ module _ (family : Family) (network : List Bool) (ends : List End) (answers : Li
       let e = (exact f.0).0 ((item_is f.0).0 (subst (Contains items) f.1 c)) in
       rw f.1 (refl, e.0, e.1)
 
-  pub once : GivesOnce (answers_to items ends) → (j k : ℕ) (a : Family × List Bool) → slice_get answers j ≡ Some (Some a) → slice_get answers k ≡ Some (Some a) → j ≡ k
-  once apart_answers j k a h g = apart_answers j k a (ap (λ t. slice_get t j) (sym is) ∙ h) (ap (λ t. slice_get t k) (sym is) ∙ g)
-
-  pub length_is : length items ≡ length (network_walk family network)
+  length_is : length items ≡ length (network_walk family network)
   length_is = ap length mapped ∙ length-map (network_walk family network) (λ (x : List Bool). (family, x))
 
-  pub all_come : GivesEach items (answers_to items ends) → (a : List Bool) → length a ≡ width_of family → BeginsWith a network
+  pub all_come : GivesEach items answers → (a : List Bool) → length a ≡ width_of family → BeginsWith a network
       → (k : ℕ) × (slice_get answers k ≡ Some (Some (family, a)))
-  all_come each a w b =
-      let r = each (family, a) ((item_is a).1 ((exact a).1 (w, b))) in
-      (r.0, ap (λ t. slice_get t r.0) is ∙ r.1)
+  all_come each a w b = each (family, a) ((item_is a).1 ((exact a).1 (w, b)))
+
+  -- of two items at indexes of a walk the first has the lesser address
+  ascends : (m n : ℕ) (x y : Family × List Bool) → slice_get items m ≡ Some x → slice_get items n ≡ Some y → m < n → bit_cmp x.1 y.1 ≡ Less
+  ascends m n x y h g l = up m n x.1 y.1 l (item_got m x h).0 (item_got n y g).0
+
+  pub walks : (HasOnce items → GivesOnce (answers_to items ends)) → (length items ≤ length ends → GivesEach items (answers_to items ends))
+      → GivesInward items ends (answers_to items ends) → Walks family network ends answers
+  walks once each inward = record {
+    walk = (exact, up);
+    given = is;
+    once = (subst GivesOnce (sym is) (once apart), λ long. subst (GivesEach items) (sym is) (each (omega (arith, long, length_is))));
+    ordered = λ j k x y l h g.
+        let r = inward j k x y l (ap (λ t. slice_get t j) (sym is) ∙ h) (ap (λ t. slice_get t k) (sym is) ∙ g) in
+        (λ e. ascends r.0 r.1 x y r.2 r.3 (r.4 e), λ e. ascends r.1 r.0 y x r.3 r.2 (r.5 e));
+  }

@@ -1,5 +1,5 @@
 //! What follows where several promises of the library are taken together.
-ghost use Rattle.std.specs.Prelude.{◌≡◌, ◌≢◌, ◌<◌, ◌⊎◌, IsTrue, MatchResult, Some, length};
+ghost use Rattle.std.specs.Prelude.{◌≡◌, ◌≢◌, ◌↔◌, ◌<◌, ◌⊎◌, IsTrue, MatchResult, Some, length};
 ghost use Rattle.std.specs.List.{slice_get};
 ghost use Rattle.std.specs.List.Sorted.{IsStrictlySortedBy};
 ghost use Rattle.cidr.specs.bytes.Compact.{ip_network_bytes};
@@ -12,7 +12,8 @@ ghost use Rattle.cidr_uses.specs.Consequences.{AreCompared, IsWalkOfText};
 
 use cidr::canon::agree;
 use cidr::errors::NetworkParseError;
-use cidr::{AnyIpCidr, InetAddressIterator, IpCidr, Ipv4Addr, Ipv4Cidr};
+use cidr::laws::networks;
+use cidr::{AnyIpCidr, InetAddressIterator, IpCidr, Ipv4Addr, Ipv4Cidr, Ipv6Cidr};
 
 /// Whether two strings are of networks with the same addresses: those are printed alike, and no others are.
 pub fn same_addresses(first: &str, second: &str) -> Result<bool, NetworkParseError>
@@ -55,4 +56,20 @@ pub fn walk_of_text(text: &str) -> Result<InetAddressIterator<Ipv4Addr>, Network
         Ok(network) => Ok(network.iter().addresses()),
         Err(e) => Err(e),
     }
+}
+
+/// `==` of two networks of IPv4 is true exactly where they are the same.
+pub fn equal_ipv4(a: &Ipv4Cidr, b: &Ipv4Cidr) -> bool
+    ensures { IsTrue result ↔ (a.now ≡ b.now) }
+{
+    networks::equal_networks_of_one_family_are_the_same();
+    a == b
+}
+
+/// The same of IPv6.
+pub fn equal_ipv6(a: &Ipv6Cidr, b: &Ipv6Cidr) -> bool
+    ensures { IsTrue result ↔ (a.now ≡ b.now) }
+{
+    networks::equal_networks_of_one_family_are_the_same();
+    a == b
 }

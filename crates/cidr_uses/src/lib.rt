@@ -1,5 +1,5 @@
 //! Parts of small programs, written by the public calls of `cidr`, `cidr_table`, `cidr_forwarding`, `cidr_fib`,
-//! `cidr_sets` and `cidr_ext` only and proved from their public contracts only.
+//! `cidr_arrays`, `cidr_sets` and `cidr_ext` only and proved from their public contracts only.
 #![tactic(auto)]
 
 pub mod access_list;
@@ -8,18 +8,20 @@ pub mod address_plan;
 pub mod address_pool;
 pub mod address_sets;
 pub mod aggregate;
+pub mod arrays;
 pub mod at_one_family;
 pub mod compact;
 pub mod config_line;
 pub mod consequences;
-pub mod five_equalities;
 pub mod forwarding;
+pub mod headline;
 pub mod host_lengths;
 pub mod look_ups;
 pub mod names_and_subnets;
 pub mod nesting;
 pub mod network_lengths;
 pub mod network_loops;
+pub mod network_type;
 pub mod next_hops;
 pub mod over_traits;
 pub mod prefix_bytes;

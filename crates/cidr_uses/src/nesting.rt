@@ -1,36 +1,12 @@
-//! Networks are nested or disjoint, those inside a network follow each other, and the order is that of the bits.
-ghost use Rattle.std.specs.Prelude.{◌≡◌, ◌≢◌, ◌↔◌, IsTrue, IsFalse, Bool, List};
+//! Networks are nested or disjoint, and those inside a network follow each other.
+ghost use Rattle.std.specs.Prelude.{◌≢◌, ◌↔◌, IsTrue, IsFalse, Bool, List};
 ghost use Rattle.std.specs.declared.cmp.Ordering.TheVariants.{Greater};
 ghost use Rattle.cidr.specs.model.Bits.{bit_cmp};
 ghost use Rattle.cidr.specs.model.Network.{BeginsWith};
 ghost use Rattle.cidr.specs.either.IpNetwork.{network_bits, any_bits};
 
 use cidr::laws::networks;
-use cidr::{AnyIpCidr, IpCidr, Ipv6Cidr};
-use std::cmp::Ordering;
-
-/// The order of IPv6 networks is the lexicographic order of their bits.
-pub fn order_ipv6(a: &Ipv6Cidr, b: &Ipv6Cidr) -> Ordering
-    ensures { result ≡ bit_cmp a.now b.now }
-{
-    a.cmp(b)
-}
-
-/// The same of either family, the bit of the family in front.
-pub fn order_ip(a: &IpCidr, b: &IpCidr) -> Ordering
-    ensures { result ≡ bit_cmp (network_bits a.now) (network_bits b.now) }
-{
-    networks::order_is_by_family_and_bits();
-    a.cmp(b)
-}
-
-/// The same of either family or `any`, which has no bits.
-pub fn order_any(a: &AnyIpCidr, b: &AnyIpCidr) -> Ordering
-    ensures { result ≡ bit_cmp (any_bits a.now) (any_bits b.now) }
-{
-    networks::order_begins_with_any();
-    a.cmp(b)
-}
+use cidr::{AnyIpCidr, IpCidr};
 
 /// Whether the second network lies in the first one. If neither lies in the other, they have no address in common.
 pub fn apart_any(a: &AnyIpCidr, b: &AnyIpCidr) -> bool

@@ -5,9 +5,10 @@ ghost use Rattle.cidr.specs.either.IpAddress.{address_family, plain_bits};
 ghost use Rattle.cidr.specs.model.Views.{in_family};
 ghost use Rattle.cidr_uses.specs.WalkCalls.{DrivesString};
 
+use crate::headline::walk;
 use cidr::errors::NetworkParseError;
 use cidr::laws::walks;
-use cidr::{End, IpAddr, IpCidr, drive};
+use cidr::{End, IpAddr, IpCidr};
 
 /// Parses a network of either family and takes its addresses from the front and the back, as `ends` says. Whatever
 /// these are, the answers are addresses of the network, none is there twice, and after as many calls as there are
@@ -26,13 +27,7 @@ pub fn drive_string(
         Ok(network) => network,
         Err(e) => return Err(e),
     };
-    walks::walk_ascends();
     walks::calls_return_only_items();
-    walks::calls_return_items_once();
-    walks::enough_calls_return_each_item();
-    // the call tells the proof that the prefix length is within the width
-    let _len = network.network_length();
-    let mut walk = network.iter().addresses();
-    drive(&mut walk, ends, answers);
+    walk(&network, ends, answers);
     Ok(())
 }

@@ -1,7 +1,8 @@
 //! The network of either family, or every address.
 //!
-//! Its compact bytes stand in `compact::either_family`, and the bits that it is a string of in `bits::any`.
-ghost use Rattle.std.specs.Prelude.{◌≡◌, ◌↔◌, ◌≤◌, length, codes, IsTrue, IfOk, IfSome, Some, option_map};
+//! Its compact bytes stand in `compact::either_family`, the bits that it is a string of in `bits::any`, and its
+//! `from_str` in `parsers::any`.
+ghost use Rattle.std.specs.Prelude.{◌≡◌, ◌↔◌, ◌≤◌, length, codes, IsTrue, IsFalse, IfOk, IfSome, Some, option_map};
 ghost use Rattle.cidr.specs.either.IpNetwork.{specific, any_of, any_or, any_length, IsLoneNetwork};
 ghost use Rattle.cidr.specs.either.IpText.{IsAnyNetworkText, any_network_text};
 ghost use Rattle.cidr.specs.model.Views.{seen};
@@ -19,7 +20,6 @@ use crate::text::print::append;
 use crate::text::with_length::WithLength;
 use arrayvec::ArrayString;
 use std::fmt;
-use std::str::FromStr;
 
 /// An IPv4 or an IPv6 network, or every address of both families.
 ///
@@ -44,7 +44,7 @@ impl AnyIpCidr {
     ghost use Rattle.cidr.specs.either.IpHost.{host_at};
     ghost use Rattle.cidr.specs.model.Host.{first_host, last_host};
     ghost use Rattle.cidr.specs.either.IpAddress.{ip_address_bits};
-    ghost use Rattle.cidr.specs.model.Network.{first_of, last_of, mask_of, BeginsWith, HoldsAll};
+    ghost use Rattle.cidr.specs.model.Network.{first_of, last_of, mask_of, BeginsWith, HoldsAll, AreApart, IsConsecutive};
     ghost use Rattle.cidr.specs.texts.Printed.{plain_text, IsAppended};
     ghost use Rattle.cidr.specs.declared.family.Family.TheVariants.{Ipv4, Ipv6};
 
@@ -232,6 +232,9 @@ impl AnyIpCidr {
     pub fn contains_cidr(&self, other: &AnyIpCidr) -> bool
         ensures begins { IsTrue result ↔ BeginsWith (any_bits other.now) (any_bits self.now) }
         ensures holds { IsTrue result ↔ HoldsAll IsAddressBits (any_bits self.now) (any_bits other.now) }
+        ensures apart { IsFalse result → ¬ (BeginsWith (any_bits self.now) (any_bits other.now)) →
+            AreApart (any_bits self.now) (any_bits other.now) }
+        ensures consecutive { IsTrue result → IsConsecutive (any_bits self.now) (any_bits other.now) }
     {
         match (self.network(), other.network()) {
             (None, _) => true,
@@ -328,25 +331,6 @@ fn any_text() -> ArrayString<43>
     text
 }
 
-/// Whether the text is `any`.
-pub(crate) fn is_any(s: &str) -> bool
-    ensures { IsTrue result ↔ (s.now ≡ codes "any") }
-{
-    s == "any"
-}
-
-/// The network of either family as one that may be `Any`.
-pub(crate) fn any_of(
-    network: Result<IpCidr, NetworkParseError>,
-) -> Result<AnyIpCidr, NetworkParseError>
-    ensures { result ≡ seen any_of network }
-{
-    match network {
-        Ok(network) => Ok(AnyIpCidr::from(network)),
-        Err(e) => Err(e),
-    }
-}
-
 impl WithLength<AnyIpCidr> {
     ghost use Rattle.cidr.specs.texts.Printed.{forced_text};
 
@@ -437,21 +421,6 @@ impl From<AnyIpCidr> for Option<IpCidr> {
 
     fn from(network: AnyIpCidr) -> Option<IpCidr> {
         network.network()
-    }
-}
-
-impl FromStr for AnyIpCidr {
-    ghost use Rattle.cidr.specs.either.IpText.{ReadsAnyNetwork};
-
-    type Err = NetworkParseError;
-
-    ghost from_str_gives = { ReadsAnyNetwork };
-
-    fn from_str(s: &str) -> Result<AnyIpCidr, NetworkParseError> {
-        if is_any(s) {
-            return Ok(AnyIpCidr::Any);
-        }
-        any_of(s.parse::<IpCidr>())
     }
 }
 

@@ -1,7 +1,7 @@
 //! The network of either family.
 //!
 //! Its compact bytes stand in `compact::either_family`.
-ghost use Rattle.std.specs.Prelude.{◌≡◌, ◌↔◌, ◌≤◌, length, IsTrue, IfOk, Some};
+ghost use Rattle.std.specs.Prelude.{◌≡◌, ◌↔◌, ◌≤◌, length, IsTrue, IsFalse, IfOk, Some};
 ghost use Rattle.cidr.specs.either.IpNetwork.{network_family, network_prefix, network_bits, IsLone};
 ghost use Rattle.cidr.specs.either.IpText.{IsIpNetworkText, ip_network_text};
 ghost use Rattle.cidr.specs.declared.cidr.combined.IpCidr.TheVariants.{V4, V6};
@@ -42,7 +42,7 @@ impl IpCidr {
     ghost use Rattle.cidr.specs.either.IpHost.{host_at};
     ghost use Rattle.cidr.specs.model.Host.{first_host, last_host};
     ghost use Rattle.cidr.specs.either.IpAddress.{ip_address_bits};
-    ghost use Rattle.cidr.specs.model.Network.{width_of, first_of, last_of, mask_of, BeginsWith, HoldsAll};
+    ghost use Rattle.cidr.specs.model.Network.{width_of, first_of, last_of, mask_of, BeginsWith, HoldsAll, AreApart, IsConsecutive};
     ghost use Rattle.cidr.specs.texts.Printed.{plain_text, IsAppended};
     ghost use Rattle.cidr.specs.model.Walk.{network_hosts, network_walk, HasExactly};
     ghost use Rattle.cidr.specs.declared.family.Family.TheVariants.{Ipv4, Ipv6};
@@ -244,6 +244,9 @@ impl IpCidr {
     pub fn contains_cidr(&self, other: &IpCidr) -> bool
         ensures begins { IsTrue result ↔ BeginsWith (network_bits other.now) (network_bits self.now) }
         ensures holds { IsTrue result ↔ HoldsAll IsAddressBits (network_bits self.now) (network_bits other.now) }
+        ensures apart { IsFalse result → ¬ (BeginsWith (network_bits self.now) (network_bits other.now)) →
+            AreApart (network_bits self.now) (network_bits other.now) }
+        ensures consecutive { IsTrue result → IsConsecutive (network_bits self.now) (network_bits other.now) }
     {
         // the call tells the proof that the length is within the width
         let _fits = other.network_length();

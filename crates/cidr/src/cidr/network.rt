@@ -2,7 +2,7 @@
 //!
 //! Their walk, `iter`, stands beside, in `v4` and `v6`; their compact bytes in `compact::one_family`, their prefix
 //! bytes in `prefix_bytes`, and the bits that they are a string of in `bits::network`.
-ghost use Rattle.std.specs.Prelude.{◌≡◌, ◌↔◌, ◌≤◌, length, IsTrue, IfOk, Some, refl};
+ghost use Rattle.std.specs.Prelude.{◌≡◌, ◌↔◌, ◌≤◌, length, IsTrue, IsFalse, IfOk, Some, refl};
 ghost use Rattle.std.specs.Cmp.{partial_equiv_from_equiv};
 ghost use Rattle.std.specs.Ordering.{as_partial_cmp};
 ghost use Rattle.cidr.specs.model.Bits.{bit_cmp, bit_eq};
@@ -91,7 +91,7 @@ impl<A: AddressBits> Clone for Network<A> {
 impl<A: AddressBits> Copy for Network<A> {}
 
 impl<A: AddressBits> Network<A> {
-    ghost use Rattle.cidr.specs.model.Network.{first_of, last_of, mask_of, BeginsWith, HasWidth, HoldsAll, IsFirstAddress, network_from};
+    ghost use Rattle.cidr.specs.model.Network.{first_of, last_of, mask_of, BeginsWith, HasWidth, HoldsAll, AreApart, IsConsecutive, IsFirstAddress, network_from};
     ghost use Rattle.std.specs.Prelude.{take};
     ghost use Rattle.cidr.specs.model.Host.{first_host, last_host};
     ghost use Rattle.cidr.specs.model.Walk.{network_pair, network_walk, HasExactly};
@@ -313,6 +313,8 @@ impl<A: AddressBits> Network<A> {
     pub fn contains_cidr(&self, other: &Network<A>) -> bool
         ensures begins { IsTrue result ↔ BeginsWith other.now self.now }
         ensures holds { IsTrue result ↔ HoldsAll (HasWidth (width_of A.FAMILY)) self.now other.now }
+        ensures apart { IsFalse result → ¬ (BeginsWith self.now other.now) → AreApart self.now other.now }
+        ensures consecutive { IsTrue result → IsConsecutive self.now other.now }
     {
         // both are made, so that no branch hangs on the lengths
         let begins = self.contains(&other.address);

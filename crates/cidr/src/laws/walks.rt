@@ -2,7 +2,7 @@
 ghost use Rattle.std.specs.Prelude.{◌≡◌, ◌≤◌, ◌↔◌, ℕ, Bool, List, length};
 ghost use Rattle.std.specs.List.{Contains};
 ghost use Rattle.cidr.specs.model.Walk.{walk_between, IsAscending, LiesBetween, answers_to};
-ghost use Rattle.cidr.specs.model.Calls.{HasOnce, GivesOnly, GivesOnce, GivesEach};
+ghost use Rattle.cidr.specs.model.Calls.{HasOnce, GivesOnly, GivesOnce, GivesInward, GivesEach};
 ghost use Rattle.cidr.specs.declared.family.Family.{Family};
 ghost use Rattle.cidr.specs.declared.inet_iterator.driving.End.{End};
 
@@ -28,6 +28,12 @@ pub fn calls_return_only_items()
 pub fn calls_return_items_once()
     ensures { (items : List (Family × List Bool)) (ends : List End) → HasOnce items →
         GivesOnce (answers_to items ends) }
+{}
+
+/// Whatever calls are made at both ends of a walk, what one at the front returns stands before all that later calls
+/// return, and what one at the back stands after it.
+pub fn calls_return_from_the_ends()
+    ensures { (items : List (Family × List Bool)) (ends : List End) → GivesInward items ends (answers_to items ends) }
 {}
 
 /// After as many calls as there are items, at whichever ends, each item has been returned.

@@ -1,20 +1,22 @@
 //! The parsers for `AnyIpCidr`: the string `any` comes first, and every other is parsed as a network of either family.
+ghost use Rattle.std.specs.Prelude.{◌≡◌, ◌↔◌, codes, IsTrue};
 ghost use Rattle.std.specs.Fn.{FnReturnsAt, FnOnceReturnsAt};
-ghost use Rattle.cidr.specs.model.Views.{in_family};
+ghost use Rattle.cidr.specs.model.Views.{in_family, seen};
 ghost use Rattle.cidr.specs.either.IpAddress.{address_family, plain_bits};
-ghost use Rattle.cidr.specs.either.IpNetwork.{network_family, network_prefix};
+ghost use Rattle.cidr.specs.either.IpNetwork.{network_family, network_prefix, any_of};
 ghost use Rattle.cidr.specs.either.IpText.{ReadsAny};
 ghost use Rattle.cidr.specs.texts.Parsing.{MadeBy, MadeAlone, ReadsAround, ReadsWhole, strict_network, holding_network};
 
 use crate::addr::error::AddrParseError;
 use crate::addr::ip::IpAddr;
-use crate::cidr::any::{AnyIpCidr, any_of, is_any};
+use crate::cidr::any::AnyIpCidr;
 use crate::cidr::combined::IpCidr;
 use crate::errors::NetworkParseError;
 use crate::parsers::ignore_hostbits::{
     parse_cidr_full_ignore_hostbits, parse_cidr_ignore_hostbits,
 };
 use crate::parsers::networks::{parse_cidr, parse_cidr_full};
+use std::str::FromStr;
 
 /// `Any` for the string `any`, for which no parser is called. For every other string the result of `parse_cidr_full`.
 ///
@@ -118,4 +120,33 @@ where
         return Ok(AnyIpCidr::Any);
     }
     any_of(parse_cidr_ignore_hostbits(s, address_parser))
+}
+
+/// Whether the text is `any`.
+fn is_any(s: &str) -> bool
+    ensures { IsTrue result ↔ (s.now ≡ codes "any") }
+{
+    s == "any"
+}
+
+/// The network of either family as one that may be `Any`.
+fn any_of(network: Result<IpCidr, NetworkParseError>) -> Result<AnyIpCidr, NetworkParseError>
+    ensures { result ≡ seen any_of network }
+{
+    match network {
+        Ok(network) => Ok(AnyIpCidr::from(network)),
+        Err(e) => Err(e),
+    }
+}
+
+impl FromStr for AnyIpCidr {
+    ghost use Rattle.cidr.specs.either.IpText.{ReadsAnyNetwork};
+
+    type Err = NetworkParseError;
+
+    ghost from_str_gives = { ReadsAnyNetwork };
+
+    fn from_str(s: &str) -> Result<AnyIpCidr, NetworkParseError> {
+        parse_any_cidr(s, IpAddr::from_str)
+    }
 }

@@ -10,6 +10,9 @@ mod network;
 /// The string of a network or host of one family is as long as its prefix length. That of `AnyIpCidr` has the family
 /// bit in front, which is set for IPv6, so that it has one bit more; `Any` has none. What becomes of the bits of a host
 /// after its prefix stands in the contracts of its calls.
+///
+/// A function over it that makes values or lets them go asks for `Copy` beside it, which each of these types is: its bound
+/// is `B: BitString + Copy`.
 pub trait BitString: Sized {
     /// The number of bits: the prefix length, and in `AnyIpCidr` one more, so that there are 129 at most.
     ///

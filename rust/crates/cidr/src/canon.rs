@@ -9,14 +9,17 @@ use crate::internal_traits::address_bits::AddressText;
 /// A network type of which each of these tells the value: the order, the addresses of a network, its printed string and
 /// its compact bytes. `Ipv4Cidr`, `Ipv6Cidr`, `IpCidr` and `AnyIpCidr` implement it.
 pub trait Canonical: Sized + Ord {
-    /// Does nothing. Every value of the type is a network, and each of the four tells which one it is.
+    /// The laws: every value of the type is a network, and each of the four tells which one it is.
+    ///
+    /// It does nothing when it runs, and is called for what it promises, as by `agree` for both of its networks. The
+    /// laws are those of a call, since only a call tells that the prefix length of a value is within the width.
     ///
     /// ```
     /// # use cidr::{canon::*, errors::*, parsers::*, *};
-    /// "10.0.0.0/8".parse::<Ipv4Cidr>()?.known();
+    /// "10.0.0.0/8".parse::<Ipv4Cidr>()?.each_tells_the_network();
     /// # Ok::<(), Box<dyn std::error::Error>>(())
     /// ```
-    fn known(&self);
+    fn each_tells_the_network(&self);
 }
 
 /// Whether two networks of one type agree. It is `==`, with a contract that says more.
@@ -33,14 +36,14 @@ pub trait Canonical: Sized + Ord {
 /// ```
 #[inline]
 pub fn agree<N: Canonical>(a: &N, b: &N) -> bool {
-    a.known();
-    b.known();
+    a.each_tells_the_network();
+    b.each_tells_the_network();
     a.cmp(b).is_eq()
 }
 
 impl<A: AddressOctets + AddressText> Canonical for Network<A> {
     #[inline]
-    fn known(&self) {
+    fn each_tells_the_network(&self) {
         // the call tells the proof that the prefix length is within the width
         let _len = self.network_length();
     }
@@ -48,14 +51,14 @@ impl<A: AddressOctets + AddressText> Canonical for Network<A> {
 
 impl Canonical for IpCidr {
     #[inline]
-    fn known(&self) {
+    fn each_tells_the_network(&self) {
         let _len = self.network_length();
     }
 }
 
 impl Canonical for AnyIpCidr {
     #[inline]
-    fn known(&self) {
+    fn each_tells_the_network(&self) {
         let _len = match self {
             AnyIpCidr::Any => 0,
             AnyIpCidr::V4(network) => network.network_length(),

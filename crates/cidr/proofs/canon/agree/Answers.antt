@@ -7,13 +7,17 @@ returns-clause-all g c =
     let n = g.N.Canonical in
     let a = c.args.a.now in
     let b = c.args.b.now in
+    let one = c.each_tells_the_network.ensures in
+    let other = c.each_tells_the_network-2.ensures in
     let test = rw c.cmp.ensures at c.is_eq.ensures in
-    agree_all n.holds n.text n.bytes g.N.Ord.cmp n.is_network g.met.N.Ord.total c.known.ensures.tells a b c.known.ensures.network c.known-2.ensures.network c.is_eq.result test
+    agree_all n.holds n.text n.bytes g.N.Ord.cmp n.is_network g.met.N.Ord.total one.tells a b one.network other.network c.is_eq.result test
 
 pub returns-clause-none : goal.returns-clause-none
 returns-clause-none g c =
     let n = g.N.Canonical in
     let a = c.args.a.now in
     let b = c.args.b.now in
+    let one = c.each_tells_the_network.ensures in
+    let other = c.each_tells_the_network-2.ensures in
     let test = rw c.cmp.ensures at c.is_eq.ensures in
-    agree_none n.holds n.text n.bytes g.N.Ord.cmp n.is_network g.met.N.Ord.total c.known.ensures.tells a b c.known.ensures.network c.known-2.ensures.network c.is_eq.result test
+    agree_none n.holds n.text n.bytes g.N.Ord.cmp n.is_network g.met.N.Ord.total one.tells a b one.network other.network c.is_eq.result test

@@ -2,13 +2,14 @@
 
 use crate::addr::error::AddrParseError;
 use crate::addr::ip::IpAddr;
-use crate::cidr::any::{AnyIpCidr, any_of, is_any};
+use crate::cidr::any::AnyIpCidr;
 use crate::cidr::combined::IpCidr;
 use crate::errors::NetworkParseError;
 use crate::parsers::ignore_hostbits::{
     parse_cidr_full_ignore_hostbits, parse_cidr_ignore_hostbits,
 };
 use crate::parsers::networks::{parse_cidr, parse_cidr_full};
+use core::str::FromStr;
 
 /// `Any` for the string `any`, for which no parser is called. For every other string the result of `parse_cidr_full`.
 ///
@@ -106,4 +107,28 @@ where
         return Ok(AnyIpCidr::Any);
     }
     any_of(parse_cidr_ignore_hostbits(s, address_parser))
+}
+
+/// Whether the text is `any`.
+#[inline]
+fn is_any(s: &str) -> bool {
+    s == "any"
+}
+
+/// The network of either family as one that may be `Any`.
+#[inline]
+fn any_of(network: Result<IpCidr, NetworkParseError>) -> Result<AnyIpCidr, NetworkParseError> {
+    match network {
+        Ok(network) => Ok(AnyIpCidr::from(network)),
+        Err(e) => Err(e),
+    }
+}
+
+impl FromStr for AnyIpCidr {
+    type Err = NetworkParseError;
+
+    #[inline]
+    fn from_str(s: &str) -> Result<AnyIpCidr, NetworkParseError> {
+        parse_any_cidr(s, IpAddr::from_str)
+    }
 }

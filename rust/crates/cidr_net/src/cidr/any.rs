@@ -1,6 +1,7 @@
 //! The network of either family, or every address.
 //!
-//! Its compact bytes stand in `compact::either_family`, and the bits that it is a string of in `bits::any`.
+//! Its compact bytes stand in `compact::either_family`, the bits that it is a string of in `bits::any`, and its
+//! `from_str` in `parsers::any`.
 
 use crate::cidr::network::NetworkCalls as _;
 use crate::inet::host::HostCalls as _;
@@ -17,7 +18,6 @@ use crate::text::print::append;
 use crate::text::with_length::WithLength;
 use cidr_support::arrayvec::ArrayString;
 use core::fmt;
-use core::str::FromStr;
 
 /// An IPv4 or an IPv6 network, or every address of both families.
 ///
@@ -353,23 +353,6 @@ fn any_text() -> ArrayString<43> {
     text
 }
 
-/// Whether the text is `any`.
-#[inline]
-pub(crate) fn is_any(s: &str) -> bool {
-    s == "any"
-}
-
-/// The network of either family as one that may be `Any`.
-#[inline]
-pub(crate) fn any_of(
-    network: Result<IpCidr, NetworkParseError>,
-) -> Result<AnyIpCidr, NetworkParseError> {
-    match network {
-        Ok(network) => Ok(AnyIpCidr::from(network)),
-        Err(e) => Err(e),
-    }
-}
-
 impl WithLength<AnyIpCidr> {
     /// The printed string, `any` or the network with its prefix length: at most 43 bytes. Parsing it gives the same
     /// value.
@@ -448,18 +431,6 @@ impl From<AnyIpCidr> for Option<IpCidr> {
     #[inline]
     fn from(network: AnyIpCidr) -> Option<IpCidr> {
         network.network()
-    }
-}
-
-impl FromStr for AnyIpCidr {
-    type Err = NetworkParseError;
-
-    #[inline]
-    fn from_str(s: &str) -> Result<AnyIpCidr, NetworkParseError> {
-        if is_any(s) {
-            return Ok(AnyIpCidr::Any);
-        }
-        any_of(s.parse::<IpCidr>())
     }
 }
 
