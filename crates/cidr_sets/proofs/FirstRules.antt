@@ -1,7 +1,7 @@
 -- Access lists by the first rule that contains an address.
 use Rattle.std.proofs.Common.{◌≡◌, ◌↔◌, ◌⊎◌, ℕ, zero, suc, ◌+◌, ◌-◌, ◌<◌, ◌≤◌, Bool, true, false, List, [], ◌∷◌, ◌++◌, length, get_or, take, drop, map, refl, sym, ap, ◌∙◌, subst, arith, inl, inr, Some}
 use Rattle.std.proofs.lemmas.Bool.{cases_lt, false≢true}
-use Rattle.std.proofs.lemmas.List.{get_or_default, get_or-take, length-take, take_more, drop_more, drop_all, get_or_push, get_or_append_left, length_push}
+use Rattle.std.proofs.lemmas.List.{get_or_default, get_or-take, length-take, map-append, take-append-drop, take_more, drop_more, drop_all, get_or_push, get_or_append_left, length_push}
 use Rattle.std.proofs.lemmas.List.Elements.{Contains-push, Contains-push_cases, Contains-append_left}
 use Rattle.std.proofs.lemmas.Option.{none-some, same_Some, slice_get_within, get_or_from_slice_get}
 use Rattle.std.specs.Bool.{Decides}
@@ -220,6 +220,88 @@ module _ {R : Type 0} (f : R → List Bool) (act : R → Action) (xs : List R) (
       → IsSetOf 129 (IsPermitted (map f (drop (i - 1) xs)) (map act (drop (i - 1) xs))) new
   denied_more e u = with_rule Deny e (deny_step (f r) (map f (drop i xs)) (map act (drop i xs)) old new h u)
 
+-- ---- earlier rules and later ones
+-- the networks of both
+pub covers_both : (ps qs : List (List Bool)) (a : List Bool) → Covers (ps ++ qs) a ↔ (Covers ps a ⊎ Covers qs a)
+covers_both [] qs a = (λ c. inr c, λ h. elim h [ inl c ↦ absurd (contains_nothing c.0 c.1) | inr c ↦ c ])
+covers_both (p ∷ ps) qs a = (
+  λ c. elim (begins_or a p) [
+    | inl b ↦ inl (p, contains_first p ps, b)
+    | inr n ↦ elim ((covers_both ps qs a).0 (covers_later p (ps ++ qs) a n c)) [
+      | inl d ↦ inl (d.0, contains_later p d.0 ps d.1, d.2)
+      | inr d ↦ inr d
+    ]
+  ],
+  λ h. elim (begins_or a p) [
+    | inl b ↦ (p, contains_first p (ps ++ qs), b)
+    | inr n ↦
+        let d = (covers_both ps qs a).1 (elim h [ inl c ↦ inl (covers_later p ps a n c) | inr c ↦ inr c ]) in
+        (d.0, contains_later p d.0 (ps ++ qs) d.1, d.2)
+  ],
+)
+
+module _ {R : Type 0} (f : R → List Bool) (act : R → Action) where
+  -- what both permit: the later ones where no earlier one contains the address
+  permits_both : (a : List Bool) (xs ys : List R) → IsPermitted (map f (xs ++ ys)) (map act (xs ++ ys)) a
+      ↔ (IsPermitted (map f xs) (map act xs) a ⊎ (IsPermitted (map f ys) (map act ys) a × ¬ (Covers (map f xs) a)))
+  permits_both a [] ys = (
+    λ h. inr (h, λ c. contains_nothing c.0 c.1),
+    λ h. elim h [ inl k ↦ absurd (none-some k.1.0.0 k.1.0.1) | inr k ↦ k.0 ],
+  )
+  permits_both a (x ∷ xs) ys = elim (begins_or a (f x)) [
+    | inl b ↦
+        let whole = decided_first (f x) (map f (xs ++ ys)) a (map act (xs ++ ys)) (act x) b in
+        let front = decided_first (f x) (map f xs) a (map act xs) (act x) b in (
+          λ h. inl (front.1 (whole.0 h)),
+          λ h. elim h [ inl k ↦ whole.1 (front.0 k) | inr k ↦ absurd (k.1 (f x, contains_first (f x) (map f xs), b)) ],
+        )
+    | inr n ↦
+        let whole = passed_first (f x) (map f (xs ++ ys)) a (map act (xs ++ ys)) (act x) n in
+        let front = passed_first (f x) (map f xs) a (map act xs) (act x) n in
+        let later = permits_both a xs ys in (
+          λ h. elim (later.0 (whole.0 h)) [
+            | inl k ↦ inl (front.1 k)
+            | inr k ↦ inr (k.0, λ c. k.1 (covers_later (f x) (map f xs) a n c))
+          ],
+          λ h. whole.1 (later.1 (elim h [
+            | inl k ↦ inl (front.0 k)
+            | inr k ↦ inr (k.0, λ c. k.1 (c.0, contains_later (f x) c.0 (map f xs) c.1, c.2))
+          ])),
+        )
+  ]
+
+  -- the sets of both: s and t of what they permit, c and d of their networks
+  module _ (xs : List R) (m : ℕ) (s t c d : List (List Bool)) (hc : IsSetOf 129 (Covers (map f (take m xs))) c) where
+    pub permitted_by_both : (left new : List (List Bool)) → IsSetOf 129 (IsPermitted (map f (take m xs)) (map act (take m xs))) s
+        → IsSetOf 129 (IsPermitted (map f (drop m xs)) (map act (drop m xs))) t → IsDifference 129 t c left → IsUnion 129 s left new
+        → IsSetOf 129 (IsPermitted (map f xs) (map act xs)) new
+    permitted_by_both left new hs ht hl u =
+        subst (λ ys. IsSetOf 129 (IsPermitted (map f ys) (map act ys)) new) (take-append-drop m xs)
+        (set_alike 129 (λ a. Covers s a ⊎ Covers left a) (IsPermitted (map f (take m xs ++ drop m xs)) (map act (take m xs ++ drop m xs))) new
+        (λ a la.
+        let both = permits_both a (take m xs) (drop m xs) in (
+          λ h. both.1 (elim h [
+            | inl k ↦ inl ((hs.exact a la).0 k)
+            | inr k ↦ let l = (hl.exact a la).0 k in inr ((ht.exact a la).0 l.0, λ e. l.1 ((hc.exact a la).1 e))
+          ]),
+          λ h. elim (both.0 h) [
+            | inl k ↦ inl ((hs.exact a la).1 k)
+            | inr k ↦ inr ((hl.exact a la).1 ((ht.exact a la).1 k.0, λ e. k.1 ((hc.exact a la).0 e)))
+          ],
+        )) u)
+
+    pub matched_by_both : (new : List (List Bool)) → IsSetOf 129 (Covers (map f (drop m xs))) d → IsUnion 129 c d new
+        → IsSetOf 129 (Covers (map f xs)) new
+    matched_by_both new hd u =
+        subst (λ ys. IsSetOf 129 (Covers (map f ys)) new) (take-append-drop m xs)
+        (subst (λ ps. IsSetOf 129 (Covers ps) new) (sym (map-append f (take m xs) (drop m xs)))
+        (set_alike 129 (λ a. Covers c a ⊎ Covers d a) (Covers (map f (take m xs) ++ map f (drop m xs))) new
+        (λ a la.
+        let both = covers_both (map f (take m xs)) (map f (drop m xs)) a in (
+          λ h. both.1 (elim h [ inl k ↦ inl ((hc.exact a la).0 k) | inr k ↦ inr ((hd.exact a la).0 k) ]),
+          λ h. elim (both.0 h) [ inl k ↦ inl ((hc.exact a la).1 k) | inr k ↦ inr ((hd.exact a la).1 k) ],
+        )) u))
+
 -- before the first step
 pub permitted_end : {R : Type 0} (f : R → List Bool) (act : R → Action) (xs : List R) (i : ℕ) → length xs ≤ i
     → IsSetOf 129 (IsPermitted (map f (drop i xs)) (map act (drop i xs))) []
@@ -357,6 +439,27 @@ left_all ps p rest u = set_alike 129 (λ a. Covers [] a ⊎ Covers (p ∷ []) a)
       ],
       λ k. inr ((one_covers p a).1 k.0),
     )) u
+
+-- what some first networks cover, more of them do
+covers_taken : (ps : List (List Bool)) (i j : ℕ) (a : List Bool) → i ≤ j → Covers (take i ps) a → Covers (take j ps) a
+covers_taken ps zero j a le c = absurd (contains_nothing c.0 c.1)
+covers_taken [] (suc i) j a le c = absurd (contains_nothing c.0 c.1)
+covers_taken (p ∷ ps) (suc i) zero a le c = absurd (omega arith)
+covers_taken (p ∷ ps) (suc i) (suc j) a le c = elim (begins_or a p) [
+  | inl b ↦ (p, contains_first p (take j ps), b)
+  | inr n ↦
+      let d = covers_taken ps i j a (omega arith) (covers_later p (take i ps) a n c) in
+      (d.0, contains_later p d.0 (take j ps) d.1, d.2)
+]
+
+-- where nothing is left, the earlier rules decide
+pub decided_before : (ps : List (List Bool)) (p : List Bool) (i : ℕ) → IsSetOf 129 (IsLeft ps p i) [] → (j : ℕ) → IsDeciding 129 ps p j → j < i
+decided_before ps p i h j d =
+    let (a, la, b, f) = d in
+    elim (cases_lt j i) [
+      | inl lt ↦ lt
+      | inr le ↦ let c = (h.exact a la).1 (b, λ e. f.1 (covers_taken ps i j a le e)) in absurd (contains_nothing c.0 c.1)
+    ]
 
 pub deciding_within : (w : ℕ) (ps : List (List Bool)) (p : List Bool) (i : ℕ) → IsDeciding w ps p i → i < length ps
 deciding_within w ps p i d = let (a, la, b, f) = d in slice_get_within ps i f.0.0 f.0.1

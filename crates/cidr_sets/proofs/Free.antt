@@ -16,8 +16,9 @@ use Rattle.cidr_table.proofs.Beginnings.{bits_same, begins_length, begins_betwee
 use Rattle.cidr_table.proofs.Halves.{either_half}
 use Rattle.cidr_table.proofs.MapLaws.{contains_first, contains_cases, contains_nothing}
 use Rattle.cidr_table.proofs.Order.{halves_less}
-use Rattle.cidr_sets.specs.model.Pools.{IsFreeNetwork, IsFirstFree, IsBestFree, IsSmaller, IsRoom}
+use Rattle.cidr_sets.specs.model.Pools.{IsFreeNetwork, IsFirstFree, IsBestFree, IsRoom, TellsSize, HasLessRoom}
 use Rattle.cidr_sets.proofs.Addresses.{covers_by, covers_to, map_contains, map_contained}
+use Rattle.cidr_sets.proofs.Parts.{later_apart}
 
 -- ---- the lowest network in another
 pub lowest_first : (p a : List Bool) (k : ℕ) → BeginsWith a p → length a ≡ length p + k
@@ -55,6 +56,12 @@ pub begun_whole : (p now : List Bool) (n r : ℕ) → IsBegun p now n r → n �
 begun_whole p now n r h long =
     let none : n - length now ≡ 0 = omega (arith, long) in
     sym (append-nil now) ∙ ap (λ k. now ++ zeros k) (sym none) ∙ h.same
+
+-- ---- two networks in order, of which neither holds the other, have bits
+both_some : (p q : List Bool) → bit_cmp p q ≡ Less → ¬ (BeginsWith q p) → (0 < length p) × (0 < length q)
+both_some [] q less alone = absurd (alone refl)
+both_some (a ∷ p) [] less alone = absurd (cc)
+both_some (a ∷ p) (b ∷ q) less alone = (omega arith, omega arith)
 
 -- ---- in one network
 pub in_one : (q p : List Bool) → Covers (q ∷ []) p → BeginsWith p q
@@ -179,107 +186,120 @@ module _ (IsNetwork : List Bool → Type 0) (n : ℕ) where
         first_of_all i (get_or xs i y) (f y) within (get_or_default xs i y (get_or xs i y) within) reduced (none_before i none) (first y)
 
     -- ---- the smallest that has one
-    -- of the first i networks none that has one inside is smaller than this one
-    abbrev pub NoneSmaller : ℕ → List Bool → Type 0
-    NoneSmaller i b = (j : ℕ) (y : C) → j < i → get_or xs j y ≡ y → (p : List Bool) → IsFreeNetwork IsNetwork (f y ∷ []) n p
-        → (length (f y) < length b) ⊎ ((length (f y) ≡ length b) × (bit_cmp b (f y) ≢ Greater))
+    module _ (size : List Bool → ℕ) where
+      -- the first is no larger than the second, and before it where they are as large
+      abbrev pub IsNoLarger : List Bool → List Bool → Type 0
+      IsNoLarger b q = (size b < size q) ⊎ ((size b ≡ size q) × (bit_cmp b q ≢ Greater))
 
-    -- the best of the first i, with the first network inside, or none
-    abbrev pub IsBestSoFar : ℕ → Option (C × C) → Type 0
-    IsBestSoFar i None = NoneBefore i
-    IsBestSoFar i (Some best) = ((k : ℕ) × (k < i) × (i ≤ length xs) × (get_or xs k best.0 ≡ best.0))
-        × IsFirstFree IsNetwork (f best.0 ∷ []) n (Some (f best.1)) × NoneSmaller i (f best.0)
+      -- of the first i networks none that has one inside is smaller than this one
+      abbrev pub NoneSmaller : ℕ → List Bool → Type 0
+      NoneSmaller i b = (j : ℕ) (y : C) → j < i → get_or xs j y ≡ y → (p : List Bool) → IsFreeNetwork IsNetwork (f y ∷ []) n p
+          → IsNoLarger b (f y)
 
-    abbrev pub network_bits : Option (C × C) → Option (List Bool)
-    network_bits best = option_map (λ pair. f pair.0) best
+      -- the best of the first i, with the first network inside, or none
+      abbrev pub IsBestSoFar : ℕ → Option (C × C) → Type 0
+      IsBestSoFar i None = NoneBefore i
+      IsBestSoFar i (Some best) = ((k : ℕ) × (k < i) × (i ≤ length xs) × (get_or xs k best.0 ≡ best.0))
+          × IsFirstFree IsNetwork (f best.0 ∷ []) n (Some (f best.1)) × NoneSmaller i (f best.0)
 
-    module _ (i : ℕ) (x : C) (here : i < length xs) (is : x ≡ get_or xs i x) where
-      same_at : (j : ℕ) (y : C) → j ≡ i → get_or xs j y ≡ y → x ≡ y
-      same_at j y s e = is ∙ get_or_default xs i x y here ∙ ap (λ k. get_or xs k y) (sym s) ∙ e
+      module _ (i : ℕ) (x : C) (here : i < length xs) (is : x ≡ get_or xs i x) where
+        same_at : (j : ℕ) (y : C) → j ≡ i → get_or xs j y ≡ y → x ≡ y
+        same_at j y s e = is ∙ get_or_default xs i x y here ∙ ap (λ k. get_or xs k y) (sym s) ∙ e
 
-      itself : (y : C) → x ≡ y → (length (f y) < length (f x)) ⊎ ((length (f y) ≡ length (f x)) × (bit_cmp (f x) (f y) ≢ Greater))
-      itself y e = inr (ap (λ z. length (f z)) (sym e), λ g. (let d = sym (bits_same (f x)) ∙ ap (λ z. bit_cmp (f x) (f z)) e ∙ g in (cc)))
+        itself : (y : C) → x ≡ y → IsNoLarger (f x) (f y)
+        itself y e = inr (ap (λ z. size (f z)) e, λ g. (let d = sym (bits_same (f x)) ∙ ap (λ z. bit_cmp (f x) (f z)) e ∙ g in (cc)))
 
-      pub best_new : (old : Option (C × C)) (p : C) → IsBestSoFar i old → IsSmaller (network_bits old) (f x)
-          → IsFirstFree IsNetwork (f x ∷ []) n (Some (f p)) → IsBestSoFar (i + 1) (Some (x, p))
-      best_new None p h smaller k = (
-        (i, omega arith, omega (arith, here), sym is),
-        k,
-        λ j y lt e q u. elim (cases_eq j i) [
-          | inl s ↦ itself y (same_at j y s e)
-          | inr d ↦ absurd (h j y (omega (arith, lt)) e q u)
-        ],
-      )
-      best_new (Some b) p h smaller k = (
-        (i, omega arith, omega (arith, here), sym is),
-        k,
-        λ j y lt e q u. elim (cases_eq j i) [
-          | inl s ↦ itself y (same_at j y s e)
-          | inr d ↦ elim (h.2 j y (omega (arith, lt)) e q u) [
-            | inl less ↦ inl (omega (arith, less, smaller))
-            | inr tie ↦ inl (omega (arith, tie.0, smaller))
-          ]
-        ],
-      )
+        -- nothing is free in this one
+        pub best_kept : (old : Option (C × C)) → IsBestSoFar i old
+            → ((p : List Bool) → ¬ (IsFreeNetwork IsNetwork (f x ∷ []) n p)) → IsBestSoFar (i + 1) old
+        best_kept None h none = none_more i x here is h none
+        best_kept (Some b) h none = (
+          (h.0.0, omega (arith, h.0.1), omega (arith, here), h.0.3),
+          h.1,
+          λ j y lt e q u. elim (cases_eq j i) [
+            | inl s ↦ absurd (subst (λ z. (p : List Bool) → ¬ (IsFreeNetwork IsNetwork (f z ∷ []) n p)) (same_at j y s e) none q u)
+            | inr d ↦ h.2 j y (omega (arith, lt)) e q u
+          ],
+        )
 
-      -- nothing is free in this one
-      pub best_kept : (old : Option (C × C)) → IsBestSoFar i old
-          → ((p : List Bool) → ¬ (IsFreeNetwork IsNetwork (f x ∷ []) n p)) → IsBestSoFar (i + 1) old
-      best_kept None h none = none_more i x here is h none
-      best_kept (Some b) h none = (
-        (h.0.0, omega (arith, h.0.1), omega (arith, here), h.0.3),
-        h.1,
-        λ j y lt e q u. elim (cases_eq j i) [
-          | inl s ↦ absurd (subst (λ z. (p : List Bool) → ¬ (IsFreeNetwork IsNetwork (f z ∷ []) n p)) (same_at j y s e) none q u)
-          | inr d ↦ h.2 j y (omega (arith, lt)) e q u
-        ],
-      )
+        module _ (room : C → ℕ) (sized : (y z : C) → TellsSize size (f y) (room y) (f z) (room z)) where
+          abbrev pub room_of : Option (C × C) → Option ℕ
+          room_of best = option_map (λ pair. room pair.0) best
 
-      -- this one isn't smaller
-      pub best_stays : (old : Option (C × C)) → IsReduced 129 (map f xs) → IsBestSoFar i old
-          → ¬ (IsSmaller (network_bits old) (f x)) → IsBestSoFar (i + 1) old
-      best_stays None r h large = absurd (large tt)
-      best_stays (Some b) r h large = (
-        (h.0.0, omega (arith, h.0.1), omega (arith, here), h.0.3),
-        h.1,
-        λ j y lt e q u. elim (cases_eq j i) [
-          | inl s ↦ subst (λ z. (length (f z) < length (f b.0)) ⊎ ((length (f z) ≡ length (f b.0)) × (bit_cmp (f b.0) (f z) ≢ Greater)))
-              (same_at j y s e) not_smaller
-          | inr d ↦ h.2 j y (omega (arith, lt)) e q u
-        ],
-      )
-        where
-          k : ℕ
-          k = h.0.0
+          -- beside one that stands before it
+          module _ (r : IsReduced 129 (map f xs)) (b : C) (k : ℕ) (before : k < i) (at : get_or xs k b ≡ b) where
+            at_k : get_or (map f xs) k [] ≡ f b
+            at_k = get_or-map f xs k b [] (omega (arith, before, here)) ∙ ap f at
 
-          at_k : get_or (map f xs) k [] ≡ f b.0
-          at_k = get_or-map f xs k b.0 [] (omega (arith, h.0.1, here)) ∙ ap f h.0.3
+            at_i : get_or (map f xs) i [] ≡ f x
+            at_i = get_or-map f xs i x [] here ∙ ap f (sym is)
 
-          at_i : get_or (map f xs) i [] ≡ f x
-          at_i = get_or-map f xs i x [] here ∙ ap f (sym is)
+            less : bit_cmp (f b) (f x) ≡ Less
+            less = rw (at_k, at_i) at (Less-from_sorted bit_cmp (map f xs) k i [] r.ascending before (omega (arith, here, length-map xs f)))
 
-          less : bit_cmp (f b.0) (f x) ≡ Less
-          less = rw (at_k, at_i) at (Less-from_sorted bit_cmp (map f xs) k i [] r.ascending h.0.1 (omega (arith, here, length-map xs f)))
+            some : (0 < length (f b)) × (0 < length (f x))
+            some = both_some (f b) (f x) less
+                (later_apart (map f xs) r (f b) (f x) (map_contains f xs b (k, omega (arith, before, here), at)) (map_contains f xs x (i, here, sym is)) less)
 
-          not_smaller : (length (f x) < length (f b.0)) ⊎ ((length (f x) ≡ length (f b.0)) × (bit_cmp (f b.0) (f x) ≢ Greater))
-          not_smaller = elim (cases_lt (length (f x)) (length (f b.0))) [
-            | inl lt ↦ inl lt
-            | inr le ↦ elim (cases_lt (length (f b.0)) (length (f x))) [
-              | inl gt ↦ absurd (large gt)
-              | inr ge ↦ inr (omega (arith, le, ge), λ g. (let d = sym less ∙ g in (cc)))
+            smaller_than : room x < room b → size (f x) < size (f b)
+            smaller_than h = (sized x b some.1 some.0).0 h
+
+            not_smaller : ¬ (room x < room b) → IsNoLarger (f b) (f x)
+            not_smaller large = elim (cases_lt (size (f b)) (size (f x))) [
+              | inl lt ↦ inl lt
+              | inr le ↦ elim (cases_lt (size (f x)) (size (f b))) [
+                | inl gt ↦ absurd (large ((sized x b some.1 some.0).1 gt))
+                | inr ge ↦ inr (omega (arith, le, ge), λ g. (let d = sym less ∙ g in (cc)))
+              ]
             ]
-          ]
 
-    pub best_of_all : (i : ℕ) (b p : C) → length xs ≤ i → IsBestSoFar i (Some (b, p))
-        → IsBestFree IsNetwork (map f xs) n (Some (f p))
-    best_of_all i b p all h = (
-      f b,
-      record {
-        here = map_contains f xs b (h.0.0, omega (arith, h.0.1, h.0.2), h.0.3);
-        tightest = λ r q c u.
-            let (y, d, e) = map_contained f xs r c in
-            subst (λ z. (length z < length (f b)) ⊎ ((length z ≡ length (f b)) × (bit_cmp (f b) z ≢ Greater))) e
-            (h.2 d.0 y (omega (arith, all, d.1)) d.2 q (subst (λ z. IsFreeNetwork IsNetwork (z ∷ []) n q) (sym e) u));
-      },
-      h.1,
-    )
+          pub best_new : (old : Option (C × C)) (p : C) → IsReduced 129 (map f xs) → IsBestSoFar i old
+              → HasLessRoom (room_of old) (room x)
+              → IsFirstFree IsNetwork (f x ∷ []) n (Some (f p)) → IsBestSoFar (i + 1) (Some (x, p))
+          best_new None p r h smaller k = (
+            (i, omega arith, omega (arith, here), sym is),
+            k,
+            λ j y lt e q u. elim (cases_eq j i) [
+              | inl s ↦ itself y (same_at j y s e)
+              | inr d ↦ absurd (h j y (omega (arith, lt)) e q u)
+            ],
+          )
+          best_new (Some b) p r h smaller k =
+              let less_than : size (f x) < size (f b.0) = smaller_than r b.0 h.0.0 h.0.1 h.0.3 smaller in (
+                (i, omega arith, omega (arith, here), sym is),
+                k,
+                λ j y lt e q u. elim (cases_eq j i) [
+                  | inl s ↦ itself y (same_at j y s e)
+                  | inr d ↦ elim (h.2 j y (omega (arith, lt)) e q u) [
+                    | inl less ↦ inl (omega (arith, less, less_than))
+                    | inr tie ↦ inl (omega (arith, tie.0, less_than))
+                  ]
+                ],
+              )
+
+          -- this one isn't smaller
+          pub best_stays : (old : Option (C × C)) → IsReduced 129 (map f xs) → IsBestSoFar i old
+              → ¬ (HasLessRoom (room_of old) (room x)) → IsBestSoFar (i + 1) old
+          best_stays None r h large = absurd (large tt)
+          best_stays (Some b) r h large = (
+            (h.0.0, omega (arith, h.0.1), omega (arith, here), h.0.3),
+            h.1,
+            λ j y lt e q u. elim (cases_eq j i) [
+              | inl s ↦ subst (λ z. IsNoLarger (f b.0) (f z)) (same_at j y s e) (not_smaller r b.0 h.0.0 h.0.1 h.0.3 large)
+              | inr d ↦ h.2 j y (omega (arith, lt)) e q u
+            ],
+          )
+
+      pub best_of_all : (i : ℕ) (b p : C) → length xs ≤ i → IsBestSoFar i (Some (b, p))
+          → IsBestFree IsNetwork size (map f xs) n (Some (f p))
+      best_of_all i b p all h = (
+        f b,
+        record {
+          here = map_contains f xs b (h.0.0, omega (arith, h.0.1, h.0.2), h.0.3);
+          tightest = λ r q c u.
+              let (y, d, e) = map_contained f xs r c in
+              subst (λ z. IsNoLarger (f b) z) e
+              (h.2 d.0 y (omega (arith, all, d.1)) d.2 q (subst (λ z. IsFreeNetwork IsNetwork (z ∷ []) n q) (sym e) u));
+        },
+        h.1,
+      )

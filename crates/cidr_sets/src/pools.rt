@@ -1,12 +1,12 @@
 //! Free networks of a set: pools.
-ghost use Rattle.std.specs.Prelude.{◌≡◌, ◌+◌, ◌-◌, ◌≤◌, ◌∷◌, ◌++◌, [], Bool, List, length, map};
+ghost use Rattle.std.specs.Prelude.{◌≡◌, ℕ, ◌+◌, ◌-◌, ◌≤◌, ◌∷◌, ◌++◌, [], Bool, List, length, map};
 ghost use Rattle.std.specs.Bool.{Decides};
 ghost use Rattle.std.specs.Option.{option_map};
 ghost use Rattle.cidr.specs.model.Network.{FitsWidth, zeros};
 ghost use Rattle.cidr_table.specs.model.CoverAddresses.{IsIpNetworkBits};
 ghost use Rattle.cidr_table.specs.model.Cover.{IsReduced};
-ghost use Rattle.cidr_sets.specs.model.Pools.{IsFirstFree, IsBestFree, IsRoom, IsSmaller};
-ghost use Rattle.cidr_sets.specs.laws.PoolLaws.{plain_room, any_room_exact};
+ghost use Rattle.cidr_sets.specs.model.Pools.{IsFirstFree, IsBestFree, IsRoom, TellsSize, HasLessRoom, addresses_of, ip_addresses_of};
+ghost use Rattle.cidr_sets.specs.laws.PoolLaws.{plain_room, plain_size, any_room_exact, any_size};
 
 use crate::set::NetworkSet;
 use cidr::{AnyIpCidr, BitString, Ipv4Cidr, Ipv6Cidr, NetworkBits};
@@ -17,26 +17,44 @@ pub trait PoolNetwork: NetworkBits {
     /// Whether a list of bits is that of a network.
     ghost IsNetwork: { List Bool → Type 0 };
 
+    /// How many addresses the network of these bits has.
+    ghost addresses: { List Bool → ℕ };
+
     /// A network inside another one has at most as many bits more as the `room` of that one tells.
     ghost deepest: { (q : Self) → IsRoom IsNetwork (Self.bits q) (Self.room q) };
+
+    /// Of two networks of one bit or more, the one with less `room` has fewer addresses.
+    ghost sized: { (p q : Self) → TellsSize addresses (Self.bits p) (Self.room p) (Self.bits q) (Self.room q) };
 }
 
 impl PoolNetwork for Ipv4Cidr {
     ghost IsNetwork = { FitsWidth 32 };
 
+    ghost addresses = { addresses_of 32 };
+
     ghost deepest = { plain_room 32 };
+
+    ghost sized = { plain_size 32 };
 }
 
 impl PoolNetwork for Ipv6Cidr {
     ghost IsNetwork = { FitsWidth 128 };
 
+    ghost addresses = { addresses_of 128 };
+
     ghost deepest = { plain_room 128 };
+
+    ghost sized = { plain_size 128 };
 }
 
 impl PoolNetwork for AnyIpCidr {
     ghost IsNetwork = { IsIpNetworkBits };
 
+    ghost addresses = { ip_addresses_of };
+
     ghost deepest = { any_room_exact };
+
+    ghost sized = { any_size };
 }
 
 impl<C: PoolNetwork + Copy> NetworkSet<C> {
@@ -63,8 +81,9 @@ impl<C: PoolNetwork + Copy> NetworkSet<C> {
     /// first, or `None` where there is none. So what is large stays whole.
     ///
     /// `len` is the prefix length, and for `AnyIpCidr` one more, as `BitString::len` counts; of one above the width
-    /// there is none. The smallest network is the longest. It looks at each network of the set once: O(n). The set
-    /// stays as it is: `remove` takes what is returned.
+    /// there is none. The smallest network has the fewest addresses: one of IPv4 has fewer than any of IPv6 with room
+    /// for the same prefix length. It looks at each network of the set once: O(n). The set stays as it is: `remove`
+    /// takes what is returned.
     ///
     /// ```
     /// free.as_slice() // [10.0.0.0/24, 10.0.1.64/26, 10.0.2.0/23]
@@ -72,7 +91,7 @@ impl<C: PoolNetwork + Copy> NetworkSet<C> {
     /// free.best_free(26) // Some(10.0.1.64/26)
     /// ```
     pub fn best_free(&self, len: usize) -> Option<C>
-        ensures best { IsBestFree C.IsNetwork (map C.bits self.now) len (option_map C.bits result) }
+        ensures best { IsBestFree C.IsNetwork C.addresses (map C.bits self.now) len (option_map C.bits result) }
         ensures reduced { IsReduced 129 (map C.bits self.now) }
     {
         let mut best: Option<(C, C)> = None;
@@ -90,12 +109,12 @@ impl<C: PoolNetwork + Copy> NetworkSet<C> {
     }
 }
 
-/// Whether a network is smaller than the best so far, if there is one.
+/// Whether a network is smaller than the best so far, if there is one, by the room that each has.
 fn is_smaller<C: BitString>(network: &C, best: &Option<(C, C)>) -> bool
-    ensures { Decides result (IsSmaller (option_map (λ pair. C.bits pair.0) best.now) (C.bits network.now)) }
+    ensures { Decides result (HasLessRoom (option_map (λ pair. C.room pair.0) best.now) (C.room network.now)) }
 {
     match best {
-        Some((best, _)) => best.len() < network.len(),
+        Some((best, _)) => network.room() < best.room(),
         None => true,
     }
 }

@@ -63,8 +63,8 @@ fn is_permit(action: Action) -> bool {
 /// The first rule whose network contains an address decides. An address in none of the networks is denied, so that
 /// a list without rules permits none.
 ///
-/// It goes from the last rule to the first and adds the network of each to the set or removes it, each time moving the
-/// networks behind: O(n²) at most for n rules. Where an allocation fails, it returns the error.
+/// It puts the halves of the list together, by a union and a difference of what they permit: O(n log n) for n rules,
+/// and up to 128 times that where denied networks cut permitted ones. Where an allocation fails, it returns the error.
 ///
 /// ```
 /// # use cidr::*;
@@ -75,7 +75,59 @@ fn is_permit(action: Action) -> bool {
 /// assert_eq!(format!("{:?}", permitted(Global, &rules)?.as_slice()), "[10.128.0.0/9]");
 /// # Ok::<(), Box<dyn std::error::Error>>(())
 /// ```
+#[inline]
 pub fn permitted<C: NetworkBits + Copy>(
+    alloc: Global,
+    rules: &[Rule<C>],
+) -> Result<NetworkSet<C>, AllocError> {
+    Ok(decided(alloc, rules)?.permitted)
+}
+
+/// What some rules in order say by themselves.
+struct Outcome<C: NetworkBits + Copy> {
+    /// The addresses that they permit.
+    permitted: NetworkSet<C>,
+    /// The addresses that they permit or deny.
+    matched: NetworkSet<C>,
+}
+
+/// The most rules whose networks are added and removed one by one.
+const FEW: usize = 64;
+
+/// What some rules say: those of the later half play no part for the addresses of the earlier.
+fn decided<C: NetworkBits + Copy>(
+    alloc: Global,
+    rules: &[Rule<C>],
+) -> Result<Outcome<C>, AllocError> {
+    if rules.len() <= FEW {
+        let permitted = permitted_by_few(alloc, rules)?;
+        let matched = matched_by(alloc, rules)?;
+        return Ok(Outcome { permitted, matched });
+    }
+    let (front, back) = rules.split_at(rules.len() / 2);
+    let earlier = decided(alloc, front)?;
+    let later = decided(alloc, back)?;
+    let left = later.permitted.difference(&earlier.matched)?;
+    let permitted = earlier.permitted.union(&left)?;
+    let matched = earlier.matched.union(&later.matched)?;
+    Ok(Outcome { permitted, matched })
+}
+
+/// The addresses of the networks of some rules.
+#[inline]
+fn matched_by<C: NetworkBits + Copy>(
+    alloc: Global,
+    rules: &[Rule<C>],
+) -> Result<NetworkSet<C>, AllocError> {
+    let mut networks = Vec::new(alloc);
+    for rule in rules {
+        networks.push(rule.network)?;
+    }
+    Ok(NetworkSet::from_vec(networks))
+}
+
+/// The addresses that some rules permit, from the last rule to the first.
+fn permitted_by_few<C: NetworkBits + Copy>(
     alloc: Global,
     rules: &[Rule<C>],
 ) -> Result<NetworkSet<C>, AllocError> {
@@ -124,8 +176,8 @@ pub fn shadowed<C: NetworkBits + Copy>(
 /// rule whose network contains some address of this one. Whether some of these are in no rule's network isn't told.
 ///
 /// Of the network of a rule that [`shadowed`] returns, they are the earlier rules that together contain all of its
-/// addresses. It takes the network of each rule out of a set that begins as this network: O(n²) at most for n rules.
-/// Where an allocation fails, it returns the error.
+/// addresses. It takes the network of each rule out of a set that begins as this network, and stops where nothing is left:
+/// O(n²) at most for n rules. Where an allocation fails, it returns the error.
 ///
 /// ```
 /// # use cidr::*;
@@ -146,6 +198,9 @@ pub fn deciding<C: NetworkBits + Copy>(
     rest.insert(*network)?;
     let mut out = Vec::new(alloc);
     for (i, rule) in rules.iter().enumerate() {
+        if rest.is_empty() {
+            return Ok(out);
+        }
         if rest.overlaps(&rule.network) {
             out.push(i)?;
             rest.remove(&rule.network)?;

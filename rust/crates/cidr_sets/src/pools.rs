@@ -41,8 +41,9 @@ impl<C: PoolNetwork + Copy> NetworkSet<C> {
     /// first, or `None` where there is none. So what is large stays whole.
     ///
     /// `len` is the prefix length, and for `AnyIpCidr` one more, as `BitString::len` counts; of one above the width
-    /// there is none. The smallest network is the longest. It looks at each network of the set once: O(n). The set
-    /// stays as it is: `remove` takes what is returned.
+    /// there is none. The smallest network has the fewest addresses: one of IPv4 has fewer than any of IPv6 with room
+    /// for the same prefix length. It looks at each network of the set once: O(n). The set stays as it is: `remove`
+    /// takes what is returned.
     ///
     /// ```
     /// # use cidr::*;
@@ -71,11 +72,11 @@ impl<C: PoolNetwork + Copy> NetworkSet<C> {
     }
 }
 
-/// Whether a network is smaller than the best so far, if there is one.
+/// Whether a network is smaller than the best so far, if there is one, by the room that each has.
 #[inline]
 fn is_smaller<C: BitString>(network: &C, best: &Option<(C, C)>) -> bool {
     match best {
-        Some((best, _)) => best.len() < network.len(),
+        Some((best, _)) => network.room() < best.room(),
         None => true,
     }
 }

@@ -1,10 +1,10 @@
-use Rattle.std.proofs.Common.{map, sym, ◌∙◌, arith}
+use Rattle.std.proofs.Common.{map, sym, ◌∙◌, subst, arith}
 use Rattle.std.proofs.lemmas.Bool.{true≢false}
 use Rattle.std.proofs.lemmas.List.{length-map}
 use Rattle.cidr_table.proofs.MapLaws.{contains_nothing}
-use Rattle.cidr_sets.specs.model.Sets.{Meets}
+use Rattle.cidr_sets.specs.model.Sets.{IsSetOf, Meets}
 use Rattle.cidr_sets.specs.model.FirstRules.{IsDeciding}
-use Rattle.cidr_sets.proofs.FirstRules.{deciding_within, decides_where_meets, index_ascending, index_pushed, index_skipped, left_all, left_less, left_same, network_there}
+use Rattle.cidr_sets.proofs.FirstRules.{IsLeft, decided_before, deciding_within, decides_where_meets, index_ascending, index_pushed, index_skipped, left_all, left_less, left_same, network_there}
 use Rattle.cidr_sets.proofs.access.deciding.Goals as goal
 use Rattle.cidr_sets.proofs.access.deciding.Goals.{then-overlaps+in_ok-push+in_ok-remove, else-overlaps}
 
@@ -47,6 +47,16 @@ loop-i-preserved g c =
             ascending = rw w.out-is h.ascending;
           }
     ]
+
+pub returns-then-is_empty-clause-indices : goal.returns-then-is_empty-clause-indices
+returns-then-is_empty-clause-indices g c =
+    let f = g.C.BitString.bits in
+    let l = c.loop-i in
+    let h = l.invariant in
+    let ps = map (λ r. f r.network) c.args.rules.now in
+    let p = f c.args.network.now in
+    let none = subst (λ s. IsSetOf 129 (IsLeft ps p l.i) (map f s)) (c.is_empty.ensures.0 c.if-is_empty.true) h.rest in
+    λ j. (λ d. ((h.indices j).0 d).1, λ s. (h.indices j).1 (decided_before ps p l.i none j s, s))
 
 pub returns-clause-indices : goal.returns-clause-indices
 returns-clause-indices g c =

@@ -1,7 +1,7 @@
 use Rattle.std.proofs.Common.{map, drop}
 use Rattle.cidr_sets.specs.model.Sets.{IsSetOf}
 use Rattle.cidr_sets.specs.model.FirstRules.{IsPermitted}
-use Rattle.cidr_sets.proofs.access.permitted.Given as goal
+use Rattle.cidr_sets.proofs.access.permitted_by_few.Given as goal
 
 -- the set of what the rules from here on permit
 abbrev pub invariant-loop-i : goal.invariant-loop-i

@@ -2,7 +2,7 @@ use Rattle.std.proofs.Common.{◌≡◌, map, drop, subst, arith}
 use Rattle.cidr_sets.specs.model.Sets.{IsSetOf}
 use Rattle.cidr_sets.specs.model.FirstRules.{IsPermitted}
 use Rattle.cidr_sets.proofs.FirstRules.{permitted_more, denied_more}
-use Rattle.cidr_sets.proofs.access.permitted.Goals as goal
+use Rattle.cidr_sets.proofs.access.permitted_by_few.Goals as goal
 
 pub loop-i-preserved-in-Continue-1 : goal.loop-i-preserved-in-Continue-1
 loop-i-preserved-in-Continue-1 g c =
