@@ -34,6 +34,7 @@ extern "C" {
  *
  * `tag` is the prefix length in IPv4, 0 to 32, and 64 more than it in IPv6, 64 to 192; 255 is `any`, the network of all
  * addresses. `high` and `low` are the two halves of the address as a number; in IPv4 `high` is 0, of `any` both are 0.
+ * The seven bytes behind the tag are zeros in what a call writes, and may be any in what it is given.
  *
  * - A host is any address with a prefix length: 10.0.0.5/8.
  * - A network is a host with no bit set after the prefix, 10.0.0.0/8, or `any`.
@@ -128,7 +129,8 @@ uint32_t pcidr_version(void);
 /* An address, as 192.0.2.1 or 2001:db8::1. Errors: NOT_UTF8, NOT_ADDRESS. */
 uint32_t pcidr_read_address(const char *text, size_t text_len, pcidr_value *out);
 
-/* The same, and also what `inet_addr` takes, as 127.1 or 0x7f000001. Errors: NOT_UTF8, NOT_ADDRESS. */
+/* The same, and also what `inet_addr` takes, as 127.1 or 0x7f000001. Other than glibc it takes a plus before a part, which
+ * is decimal then, as +127.1 and +010.1, which is 10.0.0.1, and no white space behind. Errors: NOT_UTF8, NOT_ADDRESS. */
 uint32_t pcidr_read_loose_address(const char *text, size_t text_len, pcidr_value *out);
 
 /* An address with or without a prefix length, as 10.0.0.5/8. Errors: NOT_UTF8, ADDRESS, LENGTH, LENGTH_TOO_LONG. */
@@ -617,10 +619,11 @@ uint32_t pcidr_count_ipv6(const pcidr_value *networks, size_t networks_len, pcid
 uint32_t pcidr_nth_ipv4(const pcidr_value *networks, size_t networks_len, uint64_t high, uint64_t low, pcidr_value *out);
 uint32_t pcidr_nth_ipv6(const pcidr_value *networks, size_t networks_len, uint64_t high, uint64_t low, pcidr_value *out);
 
-/* The first network of prefix length `len` all of whose addresses are in a list of networks, or the first one in the
- * smallest network of its set that has one, so that what is large stays whole. Of two families IPv4 comes first: pass
- * networks of one for that one. `pcidr_difference_in_place` takes it out. Errors: NO_MEMORY, NO_VALUE; NONE where none
- * is free. Then `out` is as it was. Allocates, and sorts the list. */
+/* The first network of prefix length `len` all of whose addresses are in a list of networks; or the first one in the network
+ * of its set with room for one that has the fewest addresses, of those with as many the first, so that what is large stays
+ * whole. Of two families IPv4 comes first, in both calls: pass networks of one for that one. `pcidr_difference_in_place`
+ * takes it out. Errors: NO_MEMORY, NO_VALUE; NONE where none is free. Then `out` is as it was. Allocates, and sorts the
+ * list. */
 uint32_t pcidr_first_free(const pcidr_value *networks, size_t networks_len, uint8_t len, pcidr_value *out);
 uint32_t pcidr_best_free(const pcidr_value *networks, size_t networks_len, uint8_t len, pcidr_value *out);
 
@@ -840,8 +843,10 @@ static inline uint32_t pcidr_table_lookup_each(const pcidr_table *table, const p
  *
  * A file has a table of IPv4 networks and one of IPv6 networks, and a value of any bytes for each network; a set of
  * addresses is a file whose values are empty. The page of `cidr_files` describes it to the byte. Its bytes lie in memory of
- * the caller, at any place, and may be mapped read-only: any number of threads may look up in them. While a file is mapped,
- * nobody may cut it short or write to it: a change is a new file, which takes the name of the old one.
+ * the caller, at any place: any number of threads may look up in them. A copy, as examples/file.c makes it, stays as it is
+ * whatever becomes of the file. Bytes that are mapped read-only are read as needed and shared by processes, but a look-up in
+ * a file that is cut short meanwhile ends the process by SIGBUS, and one that is written to gives any rows: map only what is
+ * never changed in its place, where a change is a new file that takes the name of the old one, as `netset compile` does it.
  *
  *     pcidr_file file;
  *     pcidr_found found;

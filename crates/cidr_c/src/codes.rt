@@ -124,7 +124,10 @@ pub fn line_code(error: &LineError) -> u32
         | LineError::NoAction(_)
         | LineError::Quoted(_)
         | LineError::NoLength(_)
-        | LineError::NoCount(_) => NOT_ADDRESS,
+        | LineError::NoCount(_)
+        | LineError::NoType(_)
+        | LineError::OtherType(_)
+        | LineError::RangeRow(_) => NOT_ADDRESS,
         LineError::TwoFamilies(_) => TWO_FAMILIES,
         LineError::Reversed(_) => REVERSED,
     }

@@ -18,7 +18,7 @@ use crate::printing::{print, print_bytes};
 use crate::values::{CValue, address_of, host_of};
 use arrayvec::ArrayVec;
 use cidr::{IpAddr, IpInet, Ipv6Addr, Ipv6Inet};
-use itoa::Buffer;
+use cidr_io::decimal::decimal_text;
 
 /// Writes an address as a string, in IPv6 with all digits, and returns its length, at most 39; 0 where the value is no
 /// address.
@@ -132,8 +132,8 @@ fn push_decimal(text: &mut ArrayVec<u8, 43>, n: u8)
     requires { array_vec_len text.old + 3 ≤ 43 }
     ensures { text.new.items ≡ text.old.items ++ decimal n }
 {
-    let mut digits = Buffer::new();
-    let Ok(()) = text.try_extend_from_slice(digits.format(n).as_bytes()) else {
+    let digits = decimal_text(u128::from(n));
+    let Ok(()) = text.try_extend_from_slice(digits.as_str().as_bytes()) else {
         unreachable!()
     };
 }

@@ -74,6 +74,9 @@ fn row_of(network: &AnyIpCidr, value: u64) -> CRow
             high: 0,
             low: 0,
             tag: 0,
+            zero_17: 0,
+            zero_18: 0,
+            zero_20: 0,
         },
         value,
     };

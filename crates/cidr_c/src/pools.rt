@@ -1,5 +1,5 @@
 //! Free networks of pools.
-ghost use Rattle.cidr_sets.specs.model.Pools.{IsBestFree, IsFirstFree};
+ghost use Rattle.cidr_sets.specs.model.Pools.{IsBestFree, IsFirstFree, ip_addresses_of};
 ghost use Rattle.cidr_table.specs.model.CoverAddresses.{IsIpNetworkBits};
 ghost use Rattle.cidr_c.specs.model.Pools.{IsFreeSought};
 
@@ -25,8 +25,8 @@ pub extern "C" fn pcidr_first_free(
     }
 }
 
-/// The first network of prefix length `len` in the smallest network of the set of a list that has one, so that what is large
-/// stays whole: 0 and the network in `out`, or the number of the error.
+/// The first network of prefix length `len` in that network of the set of a list which has the fewest addresses of those with
+/// room, so that what is large stays whole: 0 and the network in `out`, or the number of the error.
 #[unsafe(no_mangle)]
 pub extern "C" fn pcidr_best_free(
     alloc: Global,
@@ -34,7 +34,7 @@ pub extern "C" fn pcidr_best_free(
     len: u8,
     out: &mut CValue,
 ) -> u32
-    ensures { IsFreeSought (IsBestFree IsIpNetworkBits) networks.now len out.old out.new result }
+    ensures { IsFreeSought (IsBestFree IsIpNetworkBits ip_addresses_of) networks.now len out.old out.new result }
 {
     match set_of(alloc, networks) {
         Ok(set) => put_any_found(set.best_free(usize::from(len) + 1), out),

@@ -109,6 +109,9 @@ fn value_of(address: &IpAddr) -> CValue
         high: 0,
         low: 0,
         tag: 0,
+        zero_17: 0,
+        zero_18: 0,
+        zero_20: 0,
     };
     put_address(address, &mut value);
     value

@@ -29,6 +29,13 @@ pub struct CValue {
     pub low: u64,
     /// The prefix length and the family.
     pub tag: u8,
+    /// The byte behind the tag, zero in what is written, as are the two after it and the last four, so that a caller may read
+    /// a word. What is read may have any bytes there.
+    pub zero_17: u8,
+    /// The two bytes after that.
+    pub zero_18: u16,
+    /// The last four bytes.
+    pub zero_20: u32,
 }
 
 /// The IPv4 address of the lower half.
@@ -204,8 +211,20 @@ pub fn address_of(value: &CValue) -> Option<IpAddr>
     None
 }
 
-/// Makes the value an IPv4 address with a tag. Each field is written by itself: the value has bytes that belong to none,
-/// which a copy of the whole would take along.
+/// Writes the tag, and zeros behind it.
+#[inline(always)]
+fn put_tag(tag: u8, out: &mut CValue)
+    ensures high { out.new.high ≡ out.old.high }
+    ensures low { out.new.low ≡ out.old.low }
+    ensures tag { out.new.tag ≡ tag }
+{
+    out.tag = tag;
+    out.zero_17 = 0;
+    out.zero_18 = 0;
+    out.zero_20 = 0;
+}
+
+/// Makes the value an IPv4 address with a tag.
 #[inline(always)]
 #[tactic(auto, using(crate::proofs::Bits::number_laws))]
 fn put_ipv4(address: Ipv4Addr, tag: u8, out: &mut CValue)
@@ -216,7 +235,7 @@ fn put_ipv4(address: Ipv4Addr, tag: u8, out: &mut CValue)
 {
     out.high = 0;
     out.low = u64::from(address.to_bits());
-    out.tag = tag;
+    put_tag(tag, out);
 }
 
 /// The same for an IPv6 address.
@@ -229,7 +248,7 @@ fn put_ipv6(address: Ipv6Addr, tag: u8, out: &mut CValue)
     let bits = address.to_bits();
     out.high = (bits / (1 << 64)) as u64;
     out.low = (bits % (1 << 64)) as u64;
-    out.tag = tag;
+    put_tag(tag, out);
 }
 
 /// Makes the value a network.
@@ -242,7 +261,7 @@ pub fn put_network(network: &AnyIpCidr, out: &mut CValue)
         AnyIpCidr::Any => {
             out.high = 0;
             out.low = 0;
-            out.tag = ANY;
+            put_tag(ANY, out);
         }
         AnyIpCidr::V4(network) => put_ipv4(network.first_address(), network.network_length(), out),
         AnyIpCidr::V6(network) => {

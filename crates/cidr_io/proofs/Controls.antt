@@ -5,7 +5,7 @@ use Rattle.std.specs.Int.{is_in_range}
 use Rattle.std.specs.Str.{chars}
 use Rattle.std.proofs.lemmas.Bool.Decides.{nat_tests}
 use Rattle.std.proofs.lemmas.List.Folds.{list_any-append}
-use Rattle.cidr_io.specs.Shown.{byte_excerpt, cut_to, escape, excerpt, HasNoControl, shown_byte, shown_char}
+use Rattle.cidr_io.specs.Shown.{byte_excerpt, cut_to, escape, excerpt, HasNoControl, is_hidden, shown_byte, shown_char, wide_escape}
 use lib.Dec.{ltb}
 
 -- ---- bytes
@@ -64,9 +64,19 @@ encode_clean c free = encoded c (ltb c 128) (ltb c 2048) (ltb c 65536) refl free
 control_below : (c : ℕ) → is_control c ≡ true → c < 256
 control_below c is = grind (arith, nat_tests)
 
-char_by : (c : ℕ) (b : Bool) → is_control c ≡ b → HasNoControl (cond b (escape c) (encode_utf8 c))
-char_by c true is = escape_clean c (control_below c is)
-char_by c false is = encode_clean c is
+hidden_below : (c : ℕ) → is_hidden c ≡ true → c < 65536
+hidden_below c is = grind (arith, nat_tests)
+
+wide_clean : (code : ℕ) → code < 65536 → HasNoControl (wide_escape code)
+wide_clean code small =
+    joined (92 ∷ 117 ∷ []) (digit_char (code / 4096) ∷ digit_char (code / 256 % 16) ∷ digit_char (code / 16 % 16) ∷ digit_char (code % 16) ∷ []) refl
+    (four (digit_char (code / 4096)) (digit_char (code / 256 % 16)) (digit_char (code / 16 % 16)) (digit_char (code % 16))
+    (digit (code / 4096) (omega arith)) (digit (code / 256 % 16) (omega arith)) (digit (code / 16 % 16) (omega arith)) (digit (code % 16) (omega arith)))
+
+char_by : (c : ℕ) (b d : Bool) → is_control c ≡ b → is_hidden c ≡ d → HasNoControl (cond b (escape c) (cond d (wide_escape c) (encode_utf8 c)))
+char_by c true d is hid = escape_clean c (control_below c is)
+char_by c false true is hid = wide_clean c (hidden_below c hid)
+char_by c false false is hid = encode_clean c is
 
 printable : (byte : ℕ) → is_in_range 32 126 byte ≡ true → is_ascii_control byte ≡ false
 printable byte is = grind (arith, nat_tests)
@@ -85,7 +95,7 @@ cut_clean f clean room (x ∷ xs) =
     ]
 
 pub excerpt_clean : (text : List ℕ) → HasNoControl (excerpt text)
-excerpt_clean text = cut_clean shown_char (λ c. char_by c (is_control c) refl) 40 (chars text)
+excerpt_clean text = cut_clean shown_char (λ c. char_by c (is_control c) (is_hidden c) refl refl) 40 (chars text)
 
 byte_cut_clean : (room : ℕ) (bytes : List ℕ) → ((k : ℕ) → get_or bytes k 0 < 256) → HasNoControl (cut_to room (map shown_byte bytes))
 byte_cut_clean room [] fits = refl

@@ -4,3 +4,4 @@ pub mod Collected
 pub mod Feeds
 pub mod Cutting
 pub mod Controls
+pub mod Digits

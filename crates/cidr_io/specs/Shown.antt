@@ -1,5 +1,5 @@
--- How a string from outside is shown in a message, so that it ends no line and moves no cursor.
-use Rattle.std.specs.Prelude.{◌≡◌, ℕ, ◌-◌, ◌/◌, ◌%◌, Bool, false, if◌then◌else◌, nat_le, List, [], ◌∷◌, ◌++◌, length, map, codes}
+-- How a string from outside is shown in a message, so that it ends no line, moves no cursor and hides nothing.
+use Rattle.std.specs.Prelude.{◌≡◌, ℕ, ◌-◌, ◌/◌, ◌%◌, Bool, false, ◌||◌, ◌==◌, if◌then◌else◌, nat_le, List, [], ◌∷◌, ◌++◌, length, map, codes}
 use Rattle.std.specs.Char.{digit_char, encode_utf8, is_ascii_control, is_control}
 use Rattle.std.specs.Int.{is_in_range}
 use Rattle.std.specs.List.{flat_map, list_any}
@@ -11,9 +11,18 @@ use Rattle.cidr_io.specs.declared.shown.Part.TheVariants.{Plain, Shown}
 abbrev pub escape : ℕ → List ℕ
 escape code = 92 ∷ 120 ∷ digit_char (code / 16) ∷ digit_char (code % 16) ∷ []
 
--- a character; a control character (of ASCII or C1: Unicode's class Cc) by its code
+-- `\u` and four hexadecimal digits
+abbrev pub wide_escape : ℕ → List ℕ
+wide_escape code = 92 ∷ 117 ∷ digit_char (code / 4096) ∷ digit_char (code / 256 % 16) ∷ digit_char (code / 16 % 16) ∷ digit_char (code % 16) ∷ []
+
+-- a character that is not seen, parts lines or turns the direction of writing: U+200B to U+200F, U+2028 to U+202E, U+2060
+-- to U+206F, and the byte order mark, U+FEFF
+abbrev pub is_hidden : ℕ → Bool
+is_hidden c = is_in_range 0x200b 0x200f c || is_in_range 0x2028 0x202e c || is_in_range 0x2060 0x206f c || (c == 0xfeff)
+
+-- a character; a control character (of ASCII or C1: Unicode's class Cc) and a hidden one by its code
 abbrev pub shown_char : ℕ → List ℕ
-shown_char c = if is_control c then escape c else encode_utf8 c
+shown_char c = if is_control c then escape c else (if is_hidden c then wide_escape c else encode_utf8 c)
 
 -- a byte of a string that is not UTF-8: only the characters of ASCII that are no control characters stay
 abbrev pub shown_byte : ℕ → List ℕ

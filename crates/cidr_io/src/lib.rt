@@ -1,6 +1,6 @@
 //! What a program reads its arguments from and writes its answers to, proved: arguments as strings, lines of sources
-//! that may fail, sinks that may take a part of what they are offered and may fail, and lines that are written to them
-//! in blocks.
+//! that may fail, sinks that may take a part of what they are offered and may fail, lines that are written to them in
+//! blocks, and numbers in decimal.
 //!
 //! Contracts speak of the bytes of arguments, sources and sinks that are told. Those of the system tell none; a source
 //! and a sink over memory do.
@@ -8,6 +8,7 @@
 
 pub mod arguments;
 pub mod block;
+pub mod decimal;
 pub mod lines;
 pub mod memory;
 pub mod shown;

@@ -1,7 +1,7 @@
-//! Strings from outside in messages: with no control character, and short.
+//! Strings from outside in messages: with no control or hidden character, and short.
 ghost use Rattle.std.specs.Prelude.{◌≡◌, ◌<◌, ◌≤◌, length, true};
 ghost use Rattle.std.specs.Char.{digit_char};
-ghost use Rattle.cidr_io.specs.Shown.{AppendsWithin, HasNoControl, byte_excerpt, escape, excerpt, shown_byte, shown_char};
+ghost use Rattle.cidr_io.specs.Shown.{AppendsWithin, HasNoControl, byte_excerpt, escape, excerpt, is_hidden, shown_byte, shown_char, wide_escape};
 
 use arrayvec::ArrayString;
 
@@ -13,7 +13,7 @@ const MOST: usize = 40;
 pub enum Part<'a> {
     /// The program's own words.
     Plain(&'a str),
-    /// A string from outside, which is shown in whole: a control character as `\x` and its code.
+    /// A string from outside, which is shown in whole: a control character as `\x` and its code, a hidden one as `\u` and its code.
     Shown(&'a str),
 }
 
@@ -38,15 +38,45 @@ fn escape(code: u8) -> ArrayString<4>
     text
 }
 
+/// `\u` and four hexadecimal digits.
+fn wide_escape(code: u16) -> ArrayString<6>
+    ensures { result.bytes ≡ wide_escape code }
+{
+    let mut text = ArrayString::new();
+    text.push('\\');
+    text.push('u');
+    text.push(hex_digit((code / 4096) as u8));
+    text.push(hex_digit((code / 256 % 16) as u8));
+    text.push(hex_digit((code / 16 % 16) as u8));
+    text.push(hex_digit((code % 16) as u8));
+    text
+}
+
+/// Whether a character is not seen, parts lines or turns the direction of writing: U+200B to U+200F, U+2028 to U+202E,
+/// U+2060 to U+206F, and the byte order mark, U+FEFF.
+fn is_hidden(c: char) -> bool
+    ensures { result ≡ is_hidden c }
+{
+    let code = c as u32;
+    (code >= 0x200b && code <= 0x200f)
+        || (code >= 0x2028 && code <= 0x202e)
+        || (code >= 0x2060 && code <= 0x206f)
+        || code == 0xfeff
+}
+
 /// A character as it is shown: a control character, of ASCII or C1 (Unicode's class Cc), as `\x` and two hexadecimal
-/// digits, and any other as it is, also one that turns the direction of writing.
-pub fn shown_char(c: char) -> ArrayString<4>
+/// digits; one that is not seen, parts lines or turns the direction of writing as `\u` and four; and any other as it is.
+pub fn shown_char(c: char) -> ArrayString<6>
     ensures { result.bytes ≡ shown_char c }
 {
-    if c.is_control() {
-        return escape(c as u8);
-    }
     let mut text = ArrayString::new();
+    if c.is_control() {
+        text.push_str(escape(c as u8).as_str());
+        return text;
+    }
+    if is_hidden(c) {
+        return wide_escape(c as u16);
+    }
     text.push(c);
     text
 }
@@ -101,8 +131,8 @@ fn cut_bytes(bytes: &[u8]) -> ArrayString<42>
 }
 
 /// A string in at most 40 bytes and two dots where it goes on, in which a control character is `\x` and its code in two
-/// hexadecimal digits: so that it neither ends the line of a message nor writes one of its own. A character that turns
-/// the direction of writing stays.
+/// hexadecimal digits, and one that is not seen, parts lines or turns the direction of writing `\u` and four: so that it
+/// neither ends the line of a message nor writes one of its own.
 pub fn excerpt(text: &str) -> ArrayString<42>
     ensures text { result.bytes ≡ excerpt text.now }
     ensures clean { HasNoControl result.bytes }

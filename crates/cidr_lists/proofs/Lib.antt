@@ -19,6 +19,7 @@ pub mod Passing
 pub mod PlainTexts
 pub mod PrintedLines
 pub mod PrintedTexts
+pub mod RangeRows
 pub mod ReadBack
 pub mod Registered
 pub mod Resolved
@@ -31,5 +32,6 @@ pub mod SameKeys
 pub mod SetSteps
 pub mod ShortTexts
 pub mod Spelled
+pub mod Standing
 pub mod StyledTexts
 pub mod WholeTexts

@@ -32,7 +32,7 @@ use Rattle.cidr.proofs.LooseGrammar.{has_colon}
 use Rattle.cidr.proofs.NetworkTexts.{address_grammar}
 use Rattle.cidr.proofs.OctetReading.{four_joined}
 use Rattle.cidr_ext.specs.texts.MaskText.{IsLengthOfMask}
-use Rattle.cidr_lists.specs.Masks.{AreAddressAndMask, AreParts, IsLengthBeside, IsMaskedHost}
+use Rattle.cidr_lists.specs.Masks.{AreAddressAndMask, AreParts, IsClearedHost, IsLengthBeside, IsMaskedHost}
 use Rattle.cidr_lists.specs.declared.lines.HostBits.TheVariants.{Refused, Cleared}
 use Rattle.cidr_lists.proofs.LineFeeds.{uncut}
 use Rattle.cidr_lists.proofs.PlainTexts.{unspaced}
@@ -130,6 +130,12 @@ pub one_masked : (text : List ℕ) (h k : IpInet) → IsMaskedHost text h → Is
 one_masked text h k (f, b, cut, is) (g, d, also, has) =
     let same = only_parts text f b cut (no_slash f b h is) g d also (no_slash g d k has) in
     one_pair f b h k is (subst (λ (x : List ℕ). AreAddressAndMask x b k) same.0 (subst (λ (x : List ℕ). AreAddressAndMask g x k) same.1 has))
+
+-- a host with a set bit behind a mask of length 0 is none that is cleared
+pub not_cleared : (text : List ℕ) (h : IpInet) → IsMaskedHost text h → (host_parts h).len ≡ 0 → host_at first_host (host_network h) ≢ h
+    → (k : IpInet) → ¬ (IsClearedHost text k)
+not_cleared text h is none differ k (also, same) =
+    differ (subst (λ (x : IpInet). (host_parts x).len ≡ 0 → host_at first_host (host_network x) ≡ x) (one_masked text k h also is) same none)
 
 -- ---- the host of an address and a mask
 family_of : (text : List ℕ) (a : IpAddr) (family : Family) (b : List Bool) → IsIpText text a → IsAddressText family text b → address_family a ≡ family

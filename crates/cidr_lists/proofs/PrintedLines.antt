@@ -68,9 +68,9 @@ one_by RefusedWithMasks text m n (inr h) (inl k) = absurd (no_mask_network text 
 one_by RefusedWithMasks text m n (inr h) (inr k) =
     sym (network_again m) ∙ (ap host_network (one_masked text (host_at first_host m) (host_at first_host n) h k) ∙ network_again n)
 one_by ClearedWithMasks text m n (a, inl is, same) (b, inl also, other) = same ∙ (ap host_network (one_ip_host text a b is also) ∙ sym other)
-one_by ClearedWithMasks text m n (a, inl is, same) (b, inr also, other) = absurd (no_mask_host text b a is also)
-one_by ClearedWithMasks text m n (a, inr is, same) (b, inl also, other) = absurd (no_mask_host text a b also is)
-one_by ClearedWithMasks text m n (a, inr is, same) (b, inr also, other) = same ∙ (ap host_network (one_masked text a b is also) ∙ sym other)
+one_by ClearedWithMasks text m n (a, inl is, same) (b, inr also, other) = absurd (no_mask_host text b a is also.0)
+one_by ClearedWithMasks text m n (a, inr is, same) (b, inl also, other) = absurd (no_mask_host text a b also is.0)
+one_by ClearedWithMasks text m n (a, inr is, same) (b, inr also, other) = same ∙ (ap host_network (one_masked text a b is.0 also.0) ∙ sym other)
 
 -- ---- a line that is a network without a mask says that network alone
 module _ (bits : HostBits) (text : List ℕ) (network : IpCidr) (short : ¬ (IsTooLong text)) (plain : IsNetworkBy (without_masks bits) text network) where

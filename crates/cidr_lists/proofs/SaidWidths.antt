@@ -149,7 +149,7 @@ network_narrow RefusedWithMasks text (V6 p) (inl h) = network_width Ipv6 text p 
 network_narrow RefusedWithMasks text network (inr h) =
     subst IsNarrow (network_again network) (masked_narrow text (host_at first_host network) h)
 network_narrow ClearedWithMasks text network (h, inl is, same) = subst IsNarrow (sym same) (host_narrow text h is)
-network_narrow ClearedWithMasks text network (h, inr is, same) = subst IsNarrow (sym same) (masked_narrow text h is)
+network_narrow ClearedWithMasks text network (h, inr is, same) = subst IsNarrow (sym same) (masked_narrow text h is.0)
 
 nothing_tells : (w : ℕ) → TellFirst w (Covers [])
 nothing_tells w a b la lb same (p, c, begins) = absurd (contains_nothing p c)
@@ -195,15 +195,18 @@ record_tells : (line : List ℕ) (content : Content) (said : List IpCidr) (famil
     → AreOfContent content said → TellFirst (width_of family) (Covers (line_networks family said))
 record_tells line Blank said family is are =
     at_networks (width_of family) (line_networks family said) [] (ap (line_networks family) are ∙ none_in family) (nothing_tells (width_of family))
-record_tells line (Network network) said family (start, value, _, (a, _, is)) are =
+record_tells line (Network network) said family (Ipv4, start, value, _, is) are = absurd is
+record_tells line (Network network) said family (Ipv6, start, value, _, (a, _, is)) are =
     at_networks (width_of family) (line_networks family said) (line_networks family (network ∷ [])) (ap (line_networks family) are)
     (narrow_tells family network (network_narrow Refused (with_length (address.V6 a) value) network is))
-record_tells line (Ipv4Range first last) said Ipv4 (start, value, _, (count, at, _, (end, _, _, _, same))) (networks, set, are) =
+record_tells line (Ipv4Range first last) said Ipv4 (Ipv6, start, value, _, is) are = absurd is
+record_tells line (Ipv4Range first last) said Ipv4 (Ipv4, start, value, _, (count, at, _, (end, _, _, _, same))) (networks, set, are) =
     at_networks 32 (line_networks Ipv4 said) networks (ap (line_networks Ipv4) are ∙ in_v4 networks)
     (range_tells 32 first last networks (omega arith) (address_width Ipv4 start first at) (ap length same ∙ length-bits 32 end) set)
 record_tells line (Ipv4Range first last) said Ipv6 is (networks, set, are) =
     at_networks 128 (line_networks Ipv6 said) [] (ap (line_networks Ipv6) are ∙ not_in_v6 networks) (nothing_tells 128)
-record_tells line (Ipv6Range first last) said family (start, value, _, is) are = absurd is
+record_tells line (Ipv6Range first last) said family (Ipv4, start, value, _, is) are = absurd is
+record_tells line (Ipv6Range first last) said family (Ipv6, start, value, _, is) are = absurd is
 
 -- ---- what lists say
 line_tells : (form : ListForm) (family : Family) (line : List ℕ) (said : List IpCidr) → SaysBy form line said

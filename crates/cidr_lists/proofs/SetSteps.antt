@@ -1,6 +1,5 @@
 -- Sets put together, one step after the other.
-use Rattle.std.proofs.Common.{◌≡◌, ◌↔◌, refl, sym, ◌∙◌, ap, subst, inl, inr, ℕ, ◌+◌, ◌<◌, ◌≤◌, List, Bool, [], ◌∷◌, ◌++◌, length, take, get_or, map, Option, ◌^◌, Some, None, MatchOption, decimal, lit≤, lit<, IsTrue, Decides}
-use Rattle.std.proofs.lemmas.Fmt.{decimal_step_wide}
+use Rattle.std.proofs.Common.{◌≡◌, ◌↔◌, refl, sym, ◌∙◌, ap, subst, inl, inr, ℕ, ◌+◌, ◌<◌, ◌≤◌, List, Bool, [], ◌∷◌, ◌++◌, length, take, get_or, map, Option, ◌^◌, Some, None, MatchOption, IsTrue, Decides, unwrap_or}
 use Rattle.std.proofs.lemmas.List.{take_more, take_all, map-id}
 use Rattle.std.specs.Option.{option_map}
 use Rattle.cidr.specs.model.Network.{BeginsWith, FitsWidth}
@@ -10,7 +9,7 @@ use Rattle.cidr.specs.declared.family.Family.TheVariants.{Ipv4, Ipv6}
 use Rattle.cidr_table.specs.model.Cover.{Covers, IsReduced, IsFull}
 use Rattle.cidr_sets.specs.model.Counts.{HaveCount}
 use Rattle.cidr_sets.specs.model.Sets.{IsComplement, IsSetOf}
-use Rattle.cidr_lists.specs.Sets.{Combined, Steps, IsInSets, count_or_all, networks_of}
+use Rattle.cidr_lists.specs.Sets.{Combined, Steps, IsInSets, networks_of}
 use Rattle.cidr_lists.specs.Lists.{line_networks}
 use Rattle.cidr_lists.specs.Reading.{Grows, listed}
 use Rattle.cidr_lists.specs.declared.lists.Lists.{Lists as Networks}
@@ -48,14 +47,10 @@ network_set old new network sets four six grows set family =
     subst (λ (k : List (List Bool)). IsSetOf 129 (Covers k) (networks_of sets family))
     (grows family ∙ ap (λ (k : List (List Bool)). k ++ line_networks family (network ∷ [])) (none family)) (set family)
 
--- 2^128 in decimal
-pub last_digit : decimal (2 ^ 128) ≡ decimal 34028236692093846346337460743176821145 ++ 54 ∷ []
-last_digit = decimal_step_wide (2 ^ 128) (lit≤ tt) (lit< tt)
-
--- how many addresses a set has
+-- how many addresses a set has: all of IPv6 has more than a `u128` has room for
 pub have_count : (width : ℕ) (networks : List (List Bool)) (count : Option ℕ)
     → MatchOption count (HaveCount width (map (λ (x : List Bool). x) networks) (2 ^ 128)) (HaveCount width (map (λ (x : List Bool). x) networks))
-    → HaveCount width networks (count_or_all count)
+    → HaveCount width networks (unwrap_or count (2 ^ 128))
 have_count width networks None h = rw (map-id networks) at h
 have_count width networks (Some count) h = rw (map-id networks) at h
 

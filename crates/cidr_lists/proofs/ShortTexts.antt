@@ -140,4 +140,4 @@ empty_network RefusedWithMasks (V4 p) (inl is) = empty_by_family Ipv4 p is
 empty_network RefusedWithMasks (V6 p) (inl is) = empty_by_family Ipv6 p is
 empty_network RefusedWithMasks network (inr is) = empty_masked (host_at first_host network) is
 empty_network ClearedWithMasks network (h, inl is, same) = empty_ip_host h is
-empty_network ClearedWithMasks network (h, inr is, same) = empty_masked h is
+empty_network ClearedWithMasks network (h, inr is, same) = empty_masked h is.0

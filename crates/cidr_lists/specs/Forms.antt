@@ -3,7 +3,9 @@
 use Rattle.std.specs.Prelude.{◌≡◌, ◌≢◌, ◌⊎◌, ◌==◌, ℕ, ◌^◌, ◌<◌, Bool, true, false, if◌then◌else◌, List, [], ◌∷◌, ◌++◌, codes, length, slice_index_or, ◌+◌, IsUtf8, Option, Some, None}
 use Rattle.std.specs.List.{All}
 use Rattle.std.specs.Str.{bytes_eq, IsTrimAscii}
-use Rattle.cidr.specs.either.IpAddress.{IsIpText}
+use Rattle.std.specs.declared.cmp.Ordering.TheVariants.{Greater}
+use Rattle.cidr.specs.either.IpAddress.{IsIpText, address_family, plain_bits}
+use Rattle.cidr.specs.model.Bits.{bit_cmp}
 use Rattle.cidr.specs.texts.NetworkText.{slash}
 use Rattle.cidr.specs.texts.PrintedAddress.{ip_text}
 use Rattle.cidr.specs.declared.addr.ip.IpAddr.{IpAddr}
@@ -12,11 +14,12 @@ use Rattle.cidr.specs.declared.family.Family.{Family}
 use Rattle.cidr.specs.declared.family.Family.TheVariants.{Ipv4, Ipv6}
 use Rattle.cidr_io.specs.Shown.{byte_excerpt}
 use Rattle.cidr_lists.specs.ListLines.{IsBadLineBy, IsNetworkBy, IsTooLong}
-use Rattle.cidr_lists.specs.Fields.{AreFirstAndRest, HasFields, HasNoFields, IsNoAddressField, IsNoNetworkField, behind_field, field_at}
+use Rattle.cidr_lists.specs.Fields.{AreFirstAndRest, HasFields, HasNoFields, IsFieldOf, IsNoAddressField, IsNoNetworkField, behind_field, field_at}
+use Rattle.cidr_lists.specs.declared.columns.Column.{Column}
 use Rattle.cidr_lists.specs.declared.columns.Separator.{Separator}
 use Rattle.cidr_lists.specs.declared.columns.Separator.TheVariants.{WhiteSpace}
 use Rattle.cidr_lists.specs.declared.errors.LineError.{LineError}
-use Rattle.cidr_lists.specs.declared.errors.LineError.TheVariants.{NoField, NoLength, NotUtf8, Quoted}
+use Rattle.cidr_lists.specs.declared.errors.LineError.TheVariants.{NoField, NoLength, NotUtf8, Quoted, RangeRow}
 use Rattle.cidr_lists.specs.declared.formats.LineFormat.{LineFormat}
 use Rattle.cidr_lists.specs.declared.formats.LineFormat.TheVariants.{Plain, Json}
 use Rattle.cidr_lists.specs.declared.forms.RowForm.{RowForm}
@@ -56,10 +59,26 @@ abbrev pub with_length : IpAddr → List ℕ → List ℕ
 with_length address len = ip_text address ++ slash ∷ len
 
 -- ---- a row
+-- the field of the rest of a row at a place, from 0 on
+abbrev pub place_at : Separator → ℕ → Column
+place_at separator place = record { place = place; separator = separator }
+
+-- the addresses are of one family, and the first is not above the other
+abbrev pub IsUpTo : IpAddr → IpAddr → Type 0
+IsUpTo a b = (address_family a ≡ address_family b) × (bit_cmp (plain_bits a) (plain_bits b) ≢ Greater)
+
+-- the row is one of a range: its first field is an address, and behind it stand another one of its family, which is not below
+-- it, and more
+abbrev pub IsRangeRow : Separator → List ℕ → List ℕ → Type 0
+IsRangeRow separator first rest = (a b : IpAddr) × (second third : List ℕ) × IsUtf8 first × IsIpText first a
+    × IsFieldOf (place_at separator 0) rest second × IsUtf8 second × IsIpText second b × IsFieldOf (place_at separator 1) rest third
+    × (third ≢ []) × IsUpTo a b
+
 -- a network and its value, by these parts of a row
 abbrev pub PartsSay : RowLayout → HostBits → List ℕ → List ℕ → IpCidr → List ℕ → Type 0
 PartsSay Pfx2as bits first rest network value = (address : IpAddr) × (len : List ℕ) × IsIpText first address × AreFirstAndRest rest len value
     × IsNetworkBy bits (with_length address len) network
+PartsSay (Fields separator) bits first rest network value = IsNetworkBy bits first network × (value ≡ rest) × ¬ (IsRangeRow separator first rest)
 PartsSay (Routes family) bits first rest network value = IsNetworkBy bits (route_text family first) network × (value ≡ rest)
 PartsSay layout bits first rest network value = IsNetworkBy bits first network × (value ≡ rest)
 
@@ -100,10 +119,16 @@ IsBadLength bits address len NoField = len ≡ []
 IsBadLength bits address len (NoLength text) = (45 < length len) × (text.bytes ≡ byte_excerpt len)
 IsBadLength bits address len e = (len ≢ []) × IsNoNetworkField bits (with_length address len) e
 
--- the row is in error by the field of its network, or else by the next one
+-- it is a range
+abbrev pub IsBadRange : Separator → List ℕ → List ℕ → LineError → Type 0
+IsBadRange separator first rest (RangeRow text) = IsRangeRow separator first rest × (text.bytes ≡ byte_excerpt first)
+IsBadRange separator first rest e = ⊥
+
+-- the row is in error by the field of its network, or else by the next ones
 abbrev pub IsBadParts : RowLayout → HostBits → List ℕ → List ℕ → LineError → Type 0
 IsBadParts Pfx2as bits first rest e = IsNoAddressField first e
     ⊎ ((address : IpAddr) × (len value : List ℕ) × IsIpText first address × AreFirstAndRest rest len value × IsBadLength bits address len e)
+IsBadParts (Fields separator) bits first rest e = IsBadCell bits first e ⊎ IsBadRange separator first rest e
 IsBadParts (Routes family) bits first rest e = IsNoNetworkField bits (route_text family first) e
 IsBadParts layout bits first rest e = IsBadCell bits first e
 

@@ -2,6 +2,7 @@
 -- what private functions promise.
 pub mod Printing
 pub mod Masks
+pub mod Wrong
 pub mod Messages
 pub mod ListLines
 pub mod Fields

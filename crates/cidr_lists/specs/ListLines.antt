@@ -24,7 +24,7 @@ pub use Rattle.cidr_io.specs.Lines.{IsTooLong, is_line_feed, kept_of, lines_of, 
 use Rattle.cidr_io.specs.Shown.{byte_excerpt, excerpt}
 use Rattle.cidr_sets.specs.model.Ranges.{IsBetween}
 use Rattle.cidr_sets.specs.model.Sets.{IsSetOf}
-use Rattle.cidr_lists.specs.Masks.{IsMaskedHost}
+use Rattle.cidr_lists.specs.Masks.{IsClearedHost, IsMaskedHost}
 use Rattle.cidr_lists.specs.Messages.{Shows, ShowsBy}
 use Rattle.cidr_lists.specs.declared.errors.BadText.{BadText}
 use Rattle.cidr_lists.specs.declared.errors.LineError.{LineError}
@@ -70,7 +70,7 @@ IsNetworkBy Refused text network = IsIpNetworkText text network
 IsNetworkBy Cleared text network = (host : IpInet) × IsIpHostText text host × (network ≡ host_network host)
 IsNetworkBy RefusedWithMasks text network = IsIpNetworkText text network ⊎ IsMaskedHost text (host_at first_host network)
 IsNetworkBy ClearedWithMasks text network =
-    (host : IpInet) × (IsIpHostText text host ⊎ IsMaskedHost text host) × (network ≡ host_network host)
+    (host : IpInet) × (IsIpHostText text host ⊎ IsClearedHost text host) × (network ≡ host_network host)
 
 -- the field is empty, a network or an address, or a range of one family, whose first address is not above its last
 abbrev pub IsContent : HostBits → List ℕ → Content → Type 0

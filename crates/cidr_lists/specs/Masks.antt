@@ -5,7 +5,8 @@ use Rattle.std.specs.Char.{is_ascii_whitespace}
 use Rattle.std.specs.List.{before_first}
 use Rattle.std.specs.Str.{IsTrimAsciiStart}
 use Rattle.cidr.specs.either.IpAddress.{address_family, plain_bits}
-use Rattle.cidr.specs.either.IpHost.{host_family, host_parts}
+use Rattle.cidr.specs.either.IpHost.{host_at, host_family, host_network, host_parts}
+use Rattle.cidr.specs.model.Host.{first_host}
 use Rattle.cidr.specs.model.Network.{width_of}
 use Rattle.cidr.specs.texts.AddressText.{IsAddressText}
 use Rattle.cidr.specs.texts.NetworkText.{slash}
@@ -28,6 +29,11 @@ AreAddressAndMask front back host = IsAddressText (host_family host) front (host
 -- the string is this host, by its address and a mask
 abbrev pub IsMaskedHost : List ℕ → IpInet → Type 0
 IsMaskedHost text host = (front : List ℕ) × (back : List ℕ) × AreParts text front back × AreAddressAndMask front back host
+
+-- it is, and its mask says one network: a mask of length 0 is a network mask as well as a host mask, so that the host has no
+-- set bit then
+abbrev pub IsClearedHost : List ℕ → IpInet → Type 0
+IsClearedHost text host = IsMaskedHost text host × ((host_parts host).len ≡ 0 → host_at first_host (host_network host) ≡ host)
 
 -- ---- what private functions promise
 -- the second address is a mask of this length, of the family of the first

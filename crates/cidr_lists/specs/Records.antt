@@ -1,13 +1,17 @@
 -- A line of the files in which the Internet registries publish what they have delegated ("RIR statistics exchange format", as
 -- apnic.net and ripe.net have it): fields with | between them, of which the third is the type, the fourth the first address,
--- and the fifth for IPv4 how many addresses there are, and for IPv6 the prefix length.
-use Rattle.std.specs.Prelude.{◌≡◌, ◌≢◌, ◌⊎◌, ◌&&◌, ◌||◌, ℕ, ◌+◌, ◌<◌, ◌≤◌, ◌^◌, Bool, true, false, not, List, [], codes, IsUtf8}
-use Rattle.std.specs.Str.{bytes_eq}
+-- the fifth for IPv4 how many addresses there are, and for IPv6 the prefix length, and the seventh the status.
+use Rattle.std.specs.Prelude.{◌≡◌, ◌≢◌, ◌⊎◌, ℕ, ◌+◌, ◌<◌, ◌≤◌, ◌^◌, Bool, true, false, List, [], ◌∷◌, codes, map, IsUtf8}
+use Rattle.std.specs.Char.{to_ascii_lowercase}
+use Rattle.std.specs.Int.{is_in_range}
 use Rattle.std.specs.Str.Parse.{IsNumeral, digits_value, without_leading_plus}
-use Rattle.cidr.specs.either.IpAddress.{IsIpText}
+use Rattle.cidr.specs.either.IpAddress.{IsIpText, address_family}
 use Rattle.cidr.specs.model.Bits.{bits, number}
+use Rattle.cidr.specs.declared.addr.ip.IpAddr.{IpAddr}
 use Rattle.cidr.specs.declared.addr.ip.IpAddr.TheVariants as address
 use Rattle.cidr.specs.declared.cidr.combined.IpCidr.{IpCidr}
+use Rattle.cidr.specs.declared.family.Family.{Family}
+use Rattle.cidr.specs.declared.family.Family.TheVariants.{Ipv4, Ipv6}
 use Rattle.cidr_io.specs.Shown.{byte_excerpt}
 use Rattle.cidr_lists.specs.Fields.{HasFields, HasNoFields, IsFieldOf, IsNoAddressField}
 use Rattle.cidr_lists.specs.Forms.{IsBadLength, with_length}
@@ -16,10 +20,12 @@ use Rattle.cidr_lists.specs.declared.columns.Column.{Column}
 use Rattle.cidr_lists.specs.declared.columns.Separator.{Separator}
 use Rattle.cidr_lists.specs.declared.columns.Separator.TheVariants.{Byte}
 use Rattle.cidr_lists.specs.declared.errors.LineError.{LineError}
-use Rattle.cidr_lists.specs.declared.errors.LineError.TheVariants.{NoCount, NoField, NotUtf8}
+use Rattle.cidr_lists.specs.declared.errors.LineError.TheVariants.{NoCount, NoField, NoType, NotUtf8, OtherType}
 use Rattle.cidr_lists.specs.declared.lines.Content.{Content}
 use Rattle.cidr_lists.specs.declared.lines.Content.TheVariants.{Blank, Network, Ipv4Range}
 use Rattle.cidr_lists.specs.declared.lines.HostBits.TheVariants.{Refused}
+use Rattle.cidr_lists.specs.declared.records.RecordType.{RecordType}
+use Rattle.cidr_lists.specs.declared.records.RecordType.TheVariants.{Addresses, AsNumbers}
 
 -- `b'|'`
 abbrev pub bar : Separator
@@ -29,18 +35,40 @@ bar = Byte 124
 abbrev pub record_column : ℕ → Column
 record_column place = record { place = place; separator = bar }
 
--- the line is a record of this type, first address and value
-abbrev pub IsRecord : List ℕ → List ℕ → List ℕ → List ℕ → Type 0
-IsRecord line kind start value = HasFields bar line × IsFieldOf (record_column 2) line kind × IsFieldOf (record_column 3) line start
-    × IsFieldOf (record_column 4) line value × (value ≢ [])
+-- the line is a record with these fields
+abbrev pub IsRecord : List ℕ → List ℕ → List ℕ → List ℕ → List ℕ → List ℕ → Type 0
+IsRecord line registry kind start value status = HasFields bar line × IsFieldOf (record_column 0) line registry
+    × IsFieldOf (record_column 2) line kind × IsFieldOf (record_column 3) line start × IsFieldOf (record_column 4) line value
+    × IsFieldOf (record_column 6) line status × (value ≢ [])
 
--- it is one of addresses: others are of autonomous systems, the first line, and summaries, which have * for an address
-abbrev pub has_addresses : List ℕ → List ℕ → Bool
-has_addresses kind start = (bytes_eq kind (codes "ipv4") || bytes_eq kind (codes "ipv6")) && not (bytes_eq start (codes "*"))
+-- the first line has a version where others have the registry
+abbrev pub is_version : List ℕ → Bool
+is_version [] = false
+is_version (byte ∷ bytes) = is_in_range 48 57 byte
 
--- the line is one of addresses
-abbrev pub IsDelegation : List ℕ → List ℕ → List ℕ → Type 0
-IsDelegation line start value = (kind : List ℕ) × IsRecord line kind start value × (has_addresses kind start ≡ true)
+-- the field is this word, in letters of either case
+abbrev pub IsWord : List ℕ → List ℕ → Type 0
+IsWord word field = map to_ascii_lowercase field ≡ word
+
+-- the field of a type is this one
+abbrev pub IsType : List ℕ → RecordType → Type 0
+IsType field (Addresses Ipv4) = IsWord (codes "ipv4") field
+IsType field (Addresses Ipv6) = IsWord (codes "ipv6") field
+IsType field AsNumbers = IsWord (codes "asn") field
+
+-- nothing is delegated: the record is a summary, which has * for a first address, or says what is left
+abbrev pub IsNoDelegation : List ℕ → List ℕ → Type 0
+IsNoDelegation start status = (start ≡ codes "*") ⊎ IsWord (codes "available") status ⊎ IsWord (codes "reserved") status
+
+-- the record says nothing: it is the first line, of autonomous systems, or no delegation
+abbrev pub SaysNothing : List ℕ → List ℕ → List ℕ → List ℕ → Type 0
+SaysNothing registry kind start status = (is_version registry ≡ true) ⊎ IsType kind AsNumbers
+    ⊎ ((family : Family) × IsType kind (Addresses family) × IsNoDelegation start status)
+
+-- the line delegates addresses of this family
+abbrev pub IsDelegation : List ℕ → Family → List ℕ → List ℕ → Type 0
+IsDelegation line family start value = (registry kind status : List ℕ) × IsRecord line registry kind start value status
+    × (is_version registry ≡ false) × IsType kind (Addresses family) × ¬ (IsNoDelegation start status)
 
 -- the string is this number in decimal, perhaps with a plus in front
 abbrev pub IsCount : List ℕ → ℕ → Type 0
@@ -51,16 +79,16 @@ abbrev pub EndsAt : List Bool → ℕ → List Bool → Type 0
 EndsAt first count last = (end : ℕ) × (number first + count ≡ end + 1) × (number first ≤ end) × (end < 2 ^ 32) × (last ≡ bits 32 end)
 
 -- what a first address and a value say: so many addresses, or a network
-abbrev pub IsDelegated : List ℕ → List ℕ → Content → Type 0
-IsDelegated start value (Network network) = (a : List Bool) × IsIpText start (address.V6 a) × IsNetworkBy Refused (with_length (address.V6 a) value) network
-IsDelegated start value (Ipv4Range first last) = (count : ℕ) × IsIpText start (address.V4 first) × IsCount value count × EndsAt first count last
-IsDelegated start value content = ⊥
+abbrev pub IsDelegated : Family → List ℕ → List ℕ → Content → Type 0
+IsDelegated Ipv6 start value (Network network) = (a : List Bool) × IsIpText start (address.V6 a) × IsNetworkBy Refused (with_length (address.V6 a) value) network
+IsDelegated Ipv4 start value (Ipv4Range first last) = (count : ℕ) × IsIpText start (address.V4 first) × IsCount value count × EndsAt first count last
+IsDelegated family start value content = ⊥
 
--- what the line says: nothing, being blank, a comment or another record; or what one of addresses says
+-- what the line says: nothing, being blank, a comment or such a record; or what it delegates
 abbrev pub IsRecordContent : List ℕ → Content → Type 0
 IsRecordContent line Blank = HasNoFields bar line
-    ⊎ ((kind start value : List ℕ) × IsRecord line kind start value × (has_addresses kind start ≡ false))
-IsRecordContent line content = (start value : List ℕ) × IsDelegation line start value × IsDelegated start value content
+    ⊎ ((registry kind start value status : List ℕ) × IsRecord line registry kind start value status × SaysNothing registry kind start status)
+IsRecordContent line content = (family : Family) × (start value : List ℕ) × IsDelegation line family start value × IsDelegated family start value content
 
 -- its networks
 abbrev pub RecordSays : List ℕ → List IpCidr → Type 0
@@ -74,16 +102,28 @@ IsBadCount first value (NoCount text) = ((count : ℕ) → IsCount value count �
     × (text.bytes ≡ byte_excerpt value)
 IsBadCount first value e = ⊥
 
--- the first address is none; or the value is wrong for it
-abbrev pub IsBadDelegation : List ℕ → List ℕ → LineError → Type 0
-IsBadDelegation start value e = IsNoAddressField start e
-    ⊎ ((first : List Bool) × IsIpText start (address.V4 first) × IsBadCount first value e)
-    ⊎ ((a : List Bool) × IsIpText start (address.V6 a) × IsBadLength Refused (address.V6 a) value e)
+-- the first address is one of the other family
+abbrev pub IsOfOther : Family → List ℕ → LineError → Type 0
+IsOfOther family start (OtherType text) = (a : IpAddr) × IsIpText start a × (address_family a ≢ family) × (text.bytes ≡ byte_excerpt start)
+IsOfOther family start e = ⊥
 
--- the line has no fifth field, or it is empty; or else it is one of addresses, and these are wrong
+-- the first address is none, or one of the other family; or the value is wrong for it
+abbrev pub IsBadDelegation : Family → List ℕ → List ℕ → LineError → Type 0
+IsBadDelegation family start value e = IsNoAddressField start e ⊎ IsOfOther family start e
+    ⊎ ((family ≡ Ipv4) × (first : List Bool) × IsIpText start (address.V4 first) × IsBadCount first value e)
+    ⊎ ((family ≡ Ipv6) × (a : List Bool) × IsIpText start (address.V6 a) × IsBadLength Refused (address.V6 a) value e)
+
+-- the field is no type
+abbrev pub IsBadType : List ℕ → LineError → Type 0
+IsBadType kind (NoType text) = ((one : RecordType) → ¬ (IsType kind one)) × (text.bytes ≡ byte_excerpt kind)
+IsBadType kind e = ⊥
+
+-- the line has no fifth field, or it is empty; or else it is not the first line and has no type; or it delegates addresses, and
+-- these are wrong
 abbrev pub HasBadFields : List ℕ → LineError → Type 0
 HasBadFields line e = (HasFields bar line × IsFieldOf (record_column 4) line [] × (e ≡ NoField))
-    ⊎ ((start value : List ℕ) × IsDelegation line start value × IsBadDelegation start value e)
+    ⊎ ((registry kind start value status : List ℕ) × IsRecord line registry kind start value status × (is_version registry ≡ false) × IsBadType kind e)
+    ⊎ ((family : Family) × (start value : List ℕ) × IsDelegation line family start value × IsBadDelegation family start value e)
 
 abbrev pub IsBadRecord : List ℕ → LineError → Type 0
 IsBadRecord line e = IsBadLineBy HasBadFields line e

@@ -1,5 +1,5 @@
 -- Sets of addresses of both families, and how they are written.
-use Rattle.std.specs.Prelude.{ℕ, Bool, List, ◌++◌, ◌≡◌, ◌^◌, if◌then◌else◌, codes, decimal, Option, Some, None, [], ◌∷◌, ◌⊎◌}
+use Rattle.std.specs.Prelude.{ℕ, Bool, List, ◌++◌, ◌≡◌, if◌then◌else◌, codes, decimal, Option, Some, None, [], ◌∷◌, ◌⊎◌}
 use Rattle.std.specs.List.{flat_map}
 use Rattle.cidr.specs.model.Bits.{bit_eq}
 use Rattle.cidr.specs.texts.Printed.{plain_text}
@@ -61,11 +61,6 @@ IsPrinted Networks sets text = text ≡ printed_sets sets
 IsPrinted Ranges sets text = (ranges : Family → List (List Bool × List Bool))
     × ((family : Family) → AreRanges 129 (Covers (sets family)) (ranges family)) × (text ≡ printed_ranges ranges)
 IsPrinted Counts sets text = (count : Family → ℕ) × HaveCounts sets count × (text ≡ printed_counts count)
-
--- all of IPv6 has more addresses than a `u128` has room for
-abbrev pub count_or_all : Option ℕ → ℕ
-count_or_all None = 2 ^ 128
-count_or_all (Some count) = count
 
 -- the first network of n bits that has only addresses of the sets, of IPv4 before IPv6, or none where there is none
 abbrev pub IsFreeOf : (Family → List (List Bool)) → ℕ → Option IpCidr → Type 0

@@ -6,7 +6,7 @@ use crate::printing::block_text;
 use arrayvec::ArrayString;
 use cidr::IpAddr;
 use cidr_ext::{Purpose, SpecialAddress, SpecialEntry};
-use itoa::Buffer;
+use cidr_io::decimal::decimal_text;
 
 /// The month of the registries that the entries are of.
 const REGISTRY_DATE: &str = "2025-05";
@@ -72,7 +72,7 @@ fn entry_text(entry: &SpecialEntry) -> ArrayString<64>
     let mut text = ArrayString::new();
     text.push_str(purpose_name(entry.purpose));
     text.push_str(" RFC");
-    text.push_str(Buffer::new().format(entry.rfc));
+    text.push_str(decimal_text(u128::from(entry.rfc)).as_str());
     text.push_str(" ");
     text.push_str(reach_name(entry.globally_reachable));
     text.push_str(" ");

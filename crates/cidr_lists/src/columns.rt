@@ -1,5 +1,5 @@
 //! The fields of a line.
-ghost use Rattle.std.specs.Prelude.{◌≡◌, ◌≤◌, ◌==◌, [], length, IfSome, MatchOption, MatchResult};
+ghost use Rattle.std.specs.Prelude.{◌≡◌, ◌≤◌, ◌==◌, [], length, IsUtf8, MatchOption, MatchResult};
 ghost use Rattle.std.specs.Bool.{Decides};
 ghost use Rattle.std.specs.Char.{is_ascii_whitespace};
 ghost use Rattle.std.specs.List.{before_first, position_or_len};
@@ -228,9 +228,9 @@ pub fn address_in(field: &[u8]) -> Result<IpAddr, LineError>
     }
 }
 
-/// The address that a whole line is, without white space and comments.
-fn whole_address(line: &[u8]) -> Option<IpAddr>
-    ensures { IfSome result (IsIpText line.now) }
+/// The address that a whole line or field is, without white space and comments.
+pub(crate) fn whole_address(line: &[u8]) -> Option<IpAddr>
+    ensures { MatchOption result (IsUtf8 line.now → (a : IpAddr) → ¬ (IsIpText line.now a)) (λ a. IsUtf8 line.now × IsIpText line.now a) }
 {
     let Ok(text) = str::from_utf8(line) else {
         return None;

@@ -1,11 +1,11 @@
 //! Why a line is in error, and why a list is not read.
 ghost use Rattle.std.specs.Prelude.{◌≡◌, ◌≤◌, ◌++◌, codes, length};
-ghost use Rattle.cidr_lists.specs.Messages.{Shows, address_words, fault_words, is_of_length, line_message};
+ghost use Rattle.cidr_lists.specs.Messages.{Shows, address_words, line_message, not_text_words, wrong_words};
 
+use crate::wrong::{Wrong, wrong_with};
 use arrayvec::ArrayString;
 use cidr::AddrParseError;
 use cidr::errors::NetworkParseError;
-use cidr_ext::{TextFault, text_fault};
 use cidr_io::shown::excerpt;
 use std::alloc::AllocError;
 
@@ -17,8 +17,8 @@ pub const MOST_MESSAGE: usize = 143;
 pub struct BadText {
     /// Its beginning, as it is shown in a message: at most 40 bytes, and two dots where it goes on.
     pub text: ArrayString<42>,
-    /// What is wrong with it, if it is one of the common mistakes.
-    pub fault: Option<TextFault>,
+    /// What is wrong with it, if that can be told.
+    pub wrong: Option<Wrong>,
 }
 
 impl BadText {
@@ -28,18 +28,8 @@ impl BadText {
     {
         BadText {
             text: excerpt(text),
-            fault: text_fault(text),
+            wrong: wrong_with(text),
         }
-    }
-}
-
-/// Whether a fault is one of a prefix length, which an address has not.
-fn is_of_length(fault: &TextFault) -> bool
-    ensures { result ≡ is_of_length fault.now }
-{
-    match fault {
-        TextFault::MaskForLength | TextFault::HostBits(_) => true,
-        _ => false,
     }
 }
 
@@ -53,24 +43,36 @@ fn widened(text: &str) -> ArrayString<99>
     words
 }
 
-/// The words of the fault of a string, or else these.
-pub fn fault_words(fault: &Option<TextFault>, words: ArrayString<99>) -> ArrayString<99>
-    ensures { result.bytes ≡ fault_words fault.now words.bytes }
+/// The words of what is wrong with a string, or else these.
+pub fn wrong_words(wrong: &Option<Wrong>, words: ArrayString<99>) -> ArrayString<99>
+    ensures { result.bytes ≡ wrong_words wrong.now words.bytes }
 {
-    match fault {
-        Some(found) => widened(found.to_text().as_str()),
+    match wrong {
+        Some(found) => found.to_text(),
         None => words,
     }
 }
 
 /// The same of a string that is to be an address.
-fn address_words(fault: &Option<TextFault>, words: ArrayString<99>) -> ArrayString<99>
-    ensures { result.bytes ≡ address_words fault.now words.bytes }
+fn address_words(wrong: &Option<Wrong>, words: ArrayString<99>) -> ArrayString<99>
+    ensures { result.bytes ≡ address_words wrong.now words.bytes }
 {
-    match fault {
-        Some(found) if is_of_length(found) => words,
-        Some(found) => widened(found.to_text().as_str()),
+    match wrong {
+        Some(found) if found.is_of_length() => words,
+        Some(found) => found.to_text(),
         None => words,
+    }
+}
+
+/// What is told of bytes that are not UTF-8, by how they are shown.
+fn not_text_words(shown: &[u8]) -> &'static str
+    ensures value { result.now ≡ not_text_words shown.now }
+    ensures fits { length result.now ≤ 99 }
+{
+    if shown.starts_with(b"\\x89CID") {
+        "not UTF-8, as a file of look-ups"
+    } else {
+        "not UTF-8"
     }
 }
 
@@ -105,6 +107,12 @@ pub enum LineError {
     NoLength(ArrayString<42>),
     /// The value of a record is no number of addresses, or there are fewer from its first one on: the value, as it is shown.
     NoCount(ArrayString<42>),
+    /// The type of a record is none: the type, as it is shown.
+    NoType(ArrayString<42>),
+    /// The first address of a record is not of its type: the address, as it is shown.
+    OtherType(ArrayString<42>),
+    /// A row has an address, a later one of its family and more: the first address, as it is shown.
+    RangeRow(ArrayString<42>),
     /// Its first word is neither `permit` nor `deny`: the word, as it is shown.
     NoAction(ArrayString<42>),
     /// The ends of its range are of two families: the range, as it is shown.
@@ -130,18 +138,26 @@ impl LineError {
                 text.push_str("the field is missing or empty");
                 text
             }
-            LineError::NotUtf8(shown) => message_of(shown, "not UTF-8"),
+            LineError::NotUtf8(shown) => message_of(shown, not_text_words(shown.as_bytes())),
             LineError::NoNetwork(bad, e) => {
-                message_of(&bad.text, fault_words(&bad.fault, e.to_text()).as_str())
+                message_of(&bad.text, wrong_words(&bad.wrong, e.to_text()).as_str())
             }
             LineError::NoAddress(bad, e) => {
                 let words = widened(e.to_text().as_str());
-                message_of(&bad.text, address_words(&bad.fault, words).as_str())
+                message_of(&bad.text, address_words(&bad.wrong, words).as_str())
             }
             LineError::Quoted(shown) => message_of(shown, "quoted fields are not read"),
             LineError::NoLength(shown) => message_of(shown, "no prefix length"),
             LineError::NoCount(shown) => {
                 message_of(shown, "no number of addresses from the first one on")
+            }
+            LineError::NoType(shown) => message_of(shown, "neither ipv4, ipv6 nor asn"),
+            LineError::OtherType(shown) => { message_of(shown, "not of the type of the record") }
+            LineError::RangeRow(shown) => {
+                message_of(
+                    shown,
+                    "the first address of a range, whose last one is the next field",
+                )
             }
             LineError::NoAction(shown) => message_of(shown, "neither permit nor deny"),
             LineError::TwoFamilies(shown) => {

@@ -13,7 +13,7 @@ use crate::printing::Printed;
 use crate::sets::Sets;
 use arrayvec::ArrayString;
 use cidr::{BitString, Family, IpCidr, Ipv4Cidr, Ipv6Cidr};
-use itoa::Buffer;
+use cidr_io::decimal::decimal_text;
 use std::alloc::{AllocError, Global};
 
 /// The most bytes of a network in any notation.
@@ -115,7 +115,7 @@ fn and_longer(network: &str, len: u8, width: u8) -> ArrayString<MOST>
     let mut text = widened(network);
     if len != width {
         text.push_str(" le ");
-        text.push_str(Buffer::new().format(width));
+        text.push_str(decimal_text(u128::from(width)).as_str());
     }
     text
 }
@@ -146,7 +146,7 @@ fn members(network: &str, first: &str, last: &str, len: u8) -> ArrayString<MOST>
     text.push_str("\",\"last\":\"");
     text.push_str(last);
     text.push_str("\",\"length\":");
-    text.push_str(Buffer::new().format(len));
+    text.push_str(decimal_text(u128::from(len)).as_str());
     text
 }
 

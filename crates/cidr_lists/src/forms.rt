@@ -1,12 +1,14 @@
 //! What the lines of lists and tables are, and the row of a table that a line says.
 ghost use Rattle.std.specs.Prelude.{◌≡◌, ◌≤◌, ◌+◌, ◌++◌, MatchOption, MatchResult, length, option_map};
+ghost use Rattle.std.specs.Bool.{Decides};
 ghost use Rattle.cidr_lists.specs.Fields.{HasFields, HasNoFields};
-ghost use Rattle.cidr_lists.specs.Forms.{Fits, HasRowError, IsBadCell, IsBadLength, IsBadParts, IsRowSplit, IsUnfit, PartsSay, RowFieldsSay, begins_quoted, default_text, route_text, separator_of, with_length};
+ghost use Rattle.cidr_lists.specs.Forms.{Fits, HasRowError, IsBadCell, IsBadLength, IsBadParts, IsRangeRow, IsRowSplit, IsUnfit, IsUpTo, PartsSay, RowFieldsSay, begins_quoted, default_text, place_at, route_text, separator_of, with_length};
 ghost use Rattle.cidr_lists.specs.Lists.{IsNetworkBy};
-ghost use Rattle.cidr_lists.specs.declared.forms.RowLayout.TheVariants.{Columns, Pfx2as};
+ghost use Rattle.cidr_lists.specs.declared.forms.RowLayout.TheVariants.{Columns, Fields, Pfx2as};
 
 use crate::columns::{
     Column, Separator, address_in, field_at, is_no_row, network_in, parts_of, split_row,
+    whole_address,
 };
 use crate::errors::LineError;
 use crate::formats::LineFormat;
@@ -30,7 +32,7 @@ pub struct RowColumns {
 #[derive(Clone, Copy, Debug, Drop, PartialEq)]
 pub enum RowLayout {
     /// The first field is the network, and the rest of the line is the value: `10.0.0.0/8 west`, or with a comma
-    /// `10.0.0.0/8,AS1,west`. A field in quotes is not read.
+    /// `10.0.0.0/8,AS1,west`. A field in quotes is not read, and a row that begins with a first and a last address is none.
     Fields(Separator),
     /// Two fields are the network and the value: `DE,west,10.0.0.0/8` has a network at place 2 and a value at place 0 or 1.
     /// A field in quotes is not read as a network.
@@ -142,6 +144,63 @@ fn cell_network(host_bits: HostBits, first: &[u8]) -> Result<IpCidr, LineError>
     }
 }
 
+/// Whether two addresses are of one family, and the first is not above the second.
+fn is_up_to(first: &IpAddr, last: &IpAddr) -> bool
+    ensures { Decides result (IsUpTo first.now last.now) }
+{
+    match (first, last) {
+        (IpAddr::V4(first), IpAddr::V4(last)) => !first.cmp(last).is_gt(),
+        (IpAddr::V6(first), IpAddr::V6(last)) => !first.cmp(last).is_gt(),
+        (IpAddr::V4(_), IpAddr::V6(_)) | (IpAddr::V6(_), IpAddr::V4(_)) => false,
+    }
+}
+
+/// The field of the rest of a row at a place, from 0 on.
+fn place_at(separator: Separator, place: u64) -> Column
+    ensures { result ≡ place_at separator place }
+{
+    Column { place, separator }
+}
+
+/// Whether a row is one of a range: an address, another one that is not below it, and more.
+fn is_range_row(separator: Separator, first: &[u8], rest: &[u8]) -> bool
+    ensures { Decides result (IsRangeRow separator first.now rest.now) }
+{
+    let Some(start) = whole_address(first) else {
+        return false;
+    };
+    let second = field_at(place_at(separator, 0), rest);
+    let Some(end) = whole_address(second) else {
+        return false;
+    };
+    let third = field_at(place_at(separator, 1), rest);
+    if third.is_empty() {
+        return false;
+    }
+    is_up_to(&start, &end)
+}
+
+/// The row of a network and its value.
+fn fields_row<'a>(
+    separator: Separator,
+    host_bits: HostBits,
+    first: &[u8],
+    rest: &'a [u8],
+) -> Result<(IpCidr, &'a [u8]), LineError>
+    ensures { MatchResult result (λ row. PartsSay (Fields separator) host_bits first.now rest.now row.0 row.1.now)
+        (IsBadParts (Fields separator) host_bits first.now rest.now) }
+{
+    match cell_network(host_bits, first) {
+        Ok(network) => {
+            if is_range_row(separator, first, rest) {
+                return Err(LineError::RangeRow(byte_excerpt(first)));
+            }
+            Ok((network, rest))
+        }
+        Err(e) => Err(e),
+    }
+}
+
 /// No prefix length and no mask has more bytes.
 const LONGEST: usize = 45;
 
@@ -218,7 +277,8 @@ fn row_in<'a>(
         (IsBadParts layout host_bits first.now rest.now) }
 {
     match layout {
-        RowLayout::Fields(_) | RowLayout::Columns(_) => match cell_network(host_bits, first) {
+        RowLayout::Fields(separator) => fields_row(separator, host_bits, first, rest),
+        RowLayout::Columns(_) => match cell_network(host_bits, first) {
             Ok(network) => Ok((network, rest)),
             Err(e) => Err(e),
         },
@@ -248,7 +308,8 @@ pub fn check_value(format: LineFormat, value: &[u8]) -> Result<(), LineError>
 /// 1 MiB is for the caller to find.
 ///
 /// The errors are, for `RowLayout::Fields` and `RowLayout::Columns`, `NoField` where the field of the network is missing or
-/// empty, and `Quoted`; then, for `RowLayout::Pfx2as`, `NotUtf8` or `NoAddress` of the first field, `NoField` where no length
+/// empty, and `Quoted`; for `RowLayout::Fields`, behind those of the network, `RangeRow` where it is an address and an address of
+/// its family that is not below it stands behind it, and more; then, for `RowLayout::Pfx2as`, `NotUtf8` or `NoAddress` of the first field, `NoField` where no length
 /// stands behind it, and `NoLength` of one of more than 45 bytes; then `NotUtf8` and `NoNetwork` of the network; and then, for
 /// `LineFormat::Json`, `NotUtf8` of the value. It takes time in the length of the
 /// line and allocates nothing.

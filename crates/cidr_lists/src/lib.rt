@@ -47,3 +47,4 @@ pub mod sets;
 pub mod table;
 pub mod texts;
 pub mod words;
+pub mod wrong;

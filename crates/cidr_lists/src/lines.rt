@@ -8,7 +8,7 @@ ghost use Rattle.cidr_lists.specs.declared.lines.HostBits.{HostBits as Bits};
 ghost use Rattle.cidr_lists.specs.declared.lines.HostBits.TheVariants.{Cleared, ClearedWithMasks, RefusedWithMasks};
 
 use crate::errors::{BadText, LineError};
-use crate::masks::{bad_network, masked_host, masked_network};
+use crate::masks::{bad_network, cleared_host, masked_network};
 use cidr::errors::NetworkParseError;
 use cidr::{IpAddr, IpCidr, IpInet, Ipv4Addr, Ipv6Addr};
 use cidr_io::shown::{byte_excerpt, excerpt};
@@ -24,7 +24,7 @@ pub enum HostBits {
     /// A set bit is an error, and a mask is read: a network mask, or a host mask, its inverse. What could be either is a
     /// network mask.
     RefusedWithMasks,
-    /// A set bit is taken as unset, and a mask is read.
+    /// A set bit is taken as unset, and a mask is read, but no mask of length 0 of an address with a set bit.
     ClearedWithMasks,
 }
 
@@ -158,8 +158,8 @@ fn cleared_or_masked(field: &str) -> Result<IpCidr, NetworkParseError>
 {
     match cleared_network(field) {
         Ok(network) => Ok(network),
-        Err(e) => match masked_host(field) {
-            Some(host) => Ok(host.network()),
+        Err(e) => match cleared_host(field) {
+            Some(network) => Ok(network),
             None => Err(e),
         },
     }

@@ -3,21 +3,23 @@ ghost use Rattle.std.specs.Prelude.{◌≡◌, MatchOption, drop, length, ℕ};
 ghost use Rattle.std.specs.Char.{is_ascii_whitespace};
 ghost use Rattle.std.specs.List.{before_first};
 ghost use Rattle.std.specs.Str.{IsTrimAsciiStart};
-ghost use Rattle.cidr.specs.either.IpHost.{host_at};
+ghost use Rattle.cidr.specs.either.IpHost.{host_at, host_network};
 ghost use Rattle.cidr.specs.model.Host.{first_host};
 ghost use Rattle.cidr.specs.model.Network.{width_of};
 ghost use Rattle.cidr_ext.specs.texts.MaskText.{IsLengthOfMask};
-ghost use Rattle.cidr_lists.specs.Masks.{AreAddressAndMask, IsLengthBeside, IsMaskedHost};
-ghost use Rattle.cidr_lists.specs.Messages.{but_a_mask, IsMaskFault, ShowsBy};
+ghost use Rattle.cidr_lists.specs.Masks.{AreAddressAndMask, IsClearedHost, IsLengthBeside, IsMaskedHost};
+ghost use Rattle.cidr_lists.specs.Messages.{ShowsBy};
+ghost use Rattle.cidr_lists.specs.Wrong.{IsWrongWithMasks, but_a_mask, wrong_behind};
 ghost use Rattle.cidr.specs.declared.cidr.combined.IpCidr.{IpCidr as Network};
 ghost use Rattle.cidr.specs.declared.inet.combined.IpInet.{IpInet as Host};
 
 use crate::columns::len_to_white_space;
 use crate::errors::BadText;
 use crate::lines::HostBits;
+use crate::wrong::{Wrong, has_spaced_address, wrong_with};
 use cidr::laws::hosts::equal_hosts_are_the_same;
 use cidr::{IpAddr, IpCidr, IpInet};
-use cidr_ext::{AddressExt, TextFault, text_fault};
+use cidr_ext::{AddressExt, TextFault};
 use cidr_io::shown::excerpt;
 
 /// The prefix length that a mask stands for: that of a network mask, or of a host mask that is none.
@@ -104,23 +106,56 @@ pub(crate) fn masked_network(text: &str) -> Option<IpCidr>
     }
 }
 
-/// The fault of a string where a mask in place of a prefix length is none.
-fn but_a_mask(fault: Option<TextFault>) -> Option<TextFault>
-    ensures { result ≡ but_a_mask fault }
+/// The network of the host that a string with a mask is. A mask of length 0 is a network mask as well as a host mask, and
+/// says none where a bit is set.
+pub(crate) fn cleared_host(text: &str) -> Option<IpCidr>
+    ensures { MatchOption result ((host : Host) → ¬ (IsClearedHost text.now host))
+        (λ network. (host : Host) × IsClearedHost text.now host × (network ≡ host_network host)) }
 {
-    match fault {
-        Some(TextFault::MaskForLength) => None,
+    let Some(host) = masked_host(text) else {
+        return None;
+    };
+    equal_hosts_are_the_same();
+    if host.network_length() == 0 && host.first() != host {
+        return None;
+    }
+    Some(host.network())
+}
+
+/// What is wrong with a string where a mask in place of a prefix length is not.
+fn but_a_mask(wrong: Option<Wrong>) -> Option<Wrong>
+    ensures { result ≡ but_a_mask wrong }
+{
+    match wrong {
+        Some(Wrong::Text(TextFault::MaskForLength)) => None,
         other => other,
     }
 }
 
+/// What is wrong with a host by an address and a mask.
+fn wrong_behind(host: IpInet) -> Wrong
+    ensures { result ≡ wrong_behind host }
+{
+    if host.network_length() == 0 {
+        Wrong::EitherMask(host)
+    } else {
+        Wrong::Text(TextFault::HostBits(host.network()))
+    }
+}
+
 /// What is wrong with a string that is no network where masks are read.
-fn mask_fault(text: &str) -> Option<TextFault>
-    ensures { IsMaskFault text.now result }
+fn wrong_with_masks(text: &str) -> Option<Wrong>
+    ensures { IsWrongWithMasks text.now result }
 {
     match masked_host(text) {
-        Some(host) => Some(TextFault::HostBits(host.network())),
-        None => but_a_mask(text_fault(text)),
+        Some(host) => Some(wrong_behind(host)),
+        None => {
+            if has_spaced_address(text) {
+                Some(Wrong::NoMask)
+            } else {
+                but_a_mask(wrong_with(text))
+            }
+        }
     }
 }
 
@@ -132,7 +167,7 @@ pub(crate) fn bad_network(host_bits: HostBits, text: &str) -> BadText
         HostBits::Refused | HostBits::Cleared => BadText::new(text),
         HostBits::RefusedWithMasks | HostBits::ClearedWithMasks => BadText {
             text: excerpt(text),
-            fault: mask_fault(text),
+            wrong: wrong_with_masks(text),
         },
     }
 }

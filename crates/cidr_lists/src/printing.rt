@@ -1,15 +1,13 @@
 //! Networks and addresses as they are printed.
-ghost use Rattle.std.specs.Prelude.{◌≡◌, ◌≤◌, ◌^◌, ℕ, List, length, take, Bool, decimal};
+ghost use Rattle.std.specs.Prelude.{◌≡◌, ◌≤◌, ℕ, List, length, take, Bool};
 ghost use Rattle.cidr.specs.either.IpAddress.{address_family, plain_bits};
 ghost use Rattle.cidr.specs.model.Network.{width_of};
 ghost use Rattle.cidr.specs.texts.Printed.{plain_text};
-ghost use Rattle.cidr_lists.specs.Sets.{count_or_all};
 ghost use Rattle.cidr.specs.model.Bits.{bit_eq};
 
 use arrayvec::ArrayString;
 use cidr::{BitString, IpAddr, Ipv4Addr, Ipv4Cidr, Ipv6Addr, Ipv6Cidr, NetworkBits};
 use cidr_sets::Addressed;
-use itoa::Buffer;
 
 /// A network of one family, as it is printed.
 pub trait Printed: NetworkBits + Copy {
@@ -106,30 +104,5 @@ pub fn block_text(address: &IpAddr, len: u8) -> ArrayString<43>
             network.clip(usize::from(len));
             network.to_text()
         }
-    }
-}
-
-/// 2^128 in decimal: what is left of it by ten, and its last digit.
-#[tactic(auto, using(crate::proofs::SetSteps::last_digit))]
-fn all_of_ipv6() -> ArrayString<41>
-    ensures { result.bytes ≡ decimal (2 ^ 128) }
-{
-    let mut text = ArrayString::new();
-    text.push_str(Buffer::new().format(34028236692093846346337460743176821145u128));
-    text.push_str("6");
-    text
-}
-
-/// A count in decimal, as `address_count` of a set has it: `None` is 2^128. It has at most 39 digits.
-pub fn count_text(count: Option<u128>) -> ArrayString<41>
-    ensures { result.bytes ≡ decimal (count_or_all count) }
-{
-    match count {
-        Some(count) => {
-            let mut text = ArrayString::new();
-            text.push_str(Buffer::new().format(count));
-            text
-        }
-        None => all_of_ipv6(),
     }
 }

@@ -1,16 +1,17 @@
 //! The forms of lists: lines of networks, or the files of the Internet registries.
 ghost use Rattle.std.specs.Prelude.{◌≡◌, ◌⊎◌, ◌+◌, ◌<◌, ◌^◌, List, MatchOption, MatchResult, ℕ};
+ghost use Rattle.std.specs.Bool.{Decides};
 ghost use Rattle.cidr.specs.either.IpAddress.{IsIpText};
 ghost use Rattle.cidr.specs.model.Bits.{number};
 ghost use Rattle.cidr_lists.specs.Lists.{bits_in};
 ghost use Rattle.cidr_lists.specs.Reading.{IsBlock, IsLastBy, ReadsBy};
-ghost use Rattle.cidr_lists.specs.Records.{EndsAt, HasBadFields, IsBadCount, IsBadDelegation, IsCount, IsDelegated, IsRecordContent, has_addresses, record_column};
+ghost use Rattle.cidr_lists.specs.Records.{EndsAt, HasBadFields, IsBadCount, IsBadDelegation, IsCount, IsDelegated, IsNoDelegation, IsRecord, IsRecordContent, IsType, is_version, record_column};
 
 use crate::columns::{Column, Separator, address_in, field_at, is_no_row};
 use crate::errors::LineError;
 use crate::forms::network_with;
 use crate::lines::{Content, HostBits, content_of};
-use cidr::{IpAddr, Ipv4Addr};
+use cidr::{Family, IpAddr, Ipv4Addr};
 use cidr_io::shown::byte_excerpt;
 
 /// How the lines of a list say networks.
@@ -20,7 +21,7 @@ pub enum ListForm {
     Networks(HostBits),
     /// Each is a record of the files in which the Internet registries (RIR) publish what they have delegated, as
     /// `ripencc|DE|ipv4|192.0.2.0|768|20200101|allocated`: a first address, and for IPv4 how many there are, or for IPv6 the
-    /// prefix length. Records of another type and summaries say nothing.
+    /// prefix length. Records of autonomous systems, of what is available or reserved, and summaries say nothing.
     Rir,
 }
 
@@ -46,11 +47,48 @@ fn record_column(place: u64) -> Column
     }
 }
 
-/// Whether a record of a type and a first address is one of addresses.
-fn has_addresses(kind: &[u8], start: &[u8]) -> bool
-    ensures { result ≡ has_addresses kind.now start.now }
+/// What a record is of.
+#[derive(Clone, Copy)]
+pub(crate) enum RecordType {
+    /// Addresses of a family.
+    Addresses(Family),
+    /// Numbers of autonomous systems.
+    AsNumbers,
+}
+
+/// The type that a field says, in letters of either case.
+fn type_of(field: &[u8]) -> Option<RecordType>
+    ensures { MatchOption result ((one : RecordType) → ¬ (IsType field.now one)) (IsType field.now) }
 {
-    (kind == b"ipv4".as_slice() || kind == b"ipv6".as_slice()) && start != b"*".as_slice()
+    if field.eq_ignore_ascii_case(b"ipv4") {
+        return Some(RecordType::Addresses(Family::Ipv4));
+    }
+    if field.eq_ignore_ascii_case(b"ipv6") {
+        return Some(RecordType::Addresses(Family::Ipv6));
+    }
+    if field.eq_ignore_ascii_case(b"asn") {
+        return Some(RecordType::AsNumbers);
+    }
+    None
+}
+
+/// Whether a field begins with a digit, as a version does, which the first line has in place of a registry.
+fn is_version(registry: &[u8]) -> bool
+    ensures { result ≡ is_version registry.now }
+{
+    match registry {
+        [] => false,
+        [first, ..] => 48 <= *first && *first <= 57,
+    }
+}
+
+/// Whether a record of a first address and a status delegates nothing.
+fn is_no_delegation(start: &[u8], status: &[u8]) -> bool
+    ensures { Decides result (IsNoDelegation start.now status.now) }
+{
+    start == b"*".as_slice()
+        || status.eq_ignore_ascii_case(b"available")
+        || status.eq_ignore_ascii_case(b"reserved")
 }
 
 /// The last of so many addresses from a first one on, if there are so many.
@@ -88,33 +126,68 @@ fn block_of(first: Ipv4Addr, value: &[u8]) -> Result<Content, LineError>
     }
 }
 
-/// What a record of an address and a value says.
-fn addresses_from(first: IpAddr, value: &[u8]) -> Result<Content, LineError>
-    ensures { (start : List ℕ) → IsIpText start first → MatchResult result (IsDelegated start value.now) (IsBadDelegation start value.now) }
+/// What a record of a family, a first address, whose field this is, and a value says.
+fn addresses_from(
+    family: Family,
+    first: IpAddr,
+    start: &[u8],
+    value: &[u8],
+) -> Result<Content, LineError>
+    ensures { IsIpText start.now first → MatchResult result (IsDelegated family start.now value.now) (IsBadDelegation family start.now value.now) }
 {
-    match first {
-        IpAddr::V4(first) => block_of(first, value),
-        IpAddr::V6(_) => match network_with(HostBits::Refused, &first, value) {
+    match (family, first) {
+        (Family::Ipv4, IpAddr::V4(first)) => block_of(first, value),
+        (Family::Ipv6, IpAddr::V6(_)) => match network_with(HostBits::Refused, &first, value) {
             Ok(network) => Ok(Content::Network(network)),
             Err(e) => Err(e),
         },
+        (Family::Ipv4, IpAddr::V6(_)) | (Family::Ipv6, IpAddr::V4(_)) => {
+            Err(LineError::OtherType(byte_excerpt(start)))
+        }
     }
 }
 
-/// What a record of addresses says, by the fields of the first one and of the value.
-fn delegation(start: &[u8], value: &[u8]) -> Result<Content, LineError>
-    ensures { MatchResult result (IsDelegated start.now value.now) (IsBadDelegation start.now value.now) }
+/// What a record of addresses of a family says, by the fields of the first one and of the value.
+fn delegation(family: Family, start: &[u8], value: &[u8]) -> Result<Content, LineError>
+    ensures { MatchResult result (IsDelegated family start.now value.now) (IsBadDelegation family start.now value.now) }
 {
     match address_in(start) {
-        Ok(first) => addresses_from(first, value),
+        Ok(first) => addresses_from(family, first, start, value),
         Err(e) => Err(e),
     }
 }
 
-/// What a record says: nothing of a line that is blank or a comment, which begins with `#` or `;`, and of a record that is not
-/// of addresses.
+/// What a record of these fields says.
+fn fields_say(
+    registry: &[u8],
+    kind: &[u8],
+    start: &[u8],
+    value: &[u8],
+    status: &[u8],
+) -> Result<Content, LineError>
+    ensures { (line : List ℕ) → IsRecord line registry.now kind.now start.now value.now status.now
+        → MatchResult result (IsRecordContent line) (HasBadFields line) }
+{
+    if is_version(registry) {
+        return Ok(Content::Blank);
+    }
+    match type_of(kind) {
+        None => Err(LineError::NoType(byte_excerpt(kind))),
+        Some(RecordType::AsNumbers) => Ok(Content::Blank),
+        Some(RecordType::Addresses(family)) => {
+            if is_no_delegation(start, status) {
+                return Ok(Content::Blank);
+            }
+            delegation(family, start, value)
+        }
+    }
+}
+
+/// What a record says: nothing of a line that is blank or a comment, which begins with `#` or `;`, of the first line, whose
+/// first field is a version, and of a record that is not of addresses, a summary, `available` or `reserved`.
 ///
-/// The errors are `NoField` of a line whose fifth field is missing or empty; `NotUtf8` or `NoAddress` of the first address;
+/// The errors are `NoField` of a line whose fifth field is missing or empty; `NoType`; `NotUtf8` or `NoAddress` of the first
+/// address, or `OtherType` of one that is not of the type;
 /// `NotUtf8` or `NoCount` of the value of an IPv4 address; and those of a prefix length, as `row_of` has them for `RowLayout::Pfx2as`.
 fn record_content(line: &[u8]) -> Result<Content, LineError>
     ensures { MatchResult result (IsRecordContent line.now) (HasBadFields line.now) }
@@ -126,16 +199,15 @@ fn record_content(line: &[u8]) -> Result<Content, LineError>
     if value.is_empty() {
         return Err(LineError::NoField);
     }
+    let registry = field_at(record_column(0), line);
+    let kind = field_at(record_column(2), line);
     let start = field_at(record_column(3), line);
-    if has_addresses(field_at(record_column(2), line), start) {
-        delegation(start, value)
-    } else {
-        Ok(Content::Blank)
-    }
+    let status = field_at(record_column(6), line);
+    fields_say(registry, kind, start, value, status)
 }
 
 /// What a line of a list of this form says. The errors are those of `content_of`; of a record they are `NoField` where the
-/// fifth field is missing or empty; of one of addresses `NotUtf8` or `NoAddress` of the first address, then `NotUtf8` or
+/// fifth field is missing or empty, and `NoType`; of one of addresses `NotUtf8`, `NoAddress` or `OtherType` of the first address, then `NotUtf8` or
 /// `NoCount` of their number, or of a prefix length `NoLength`, `NotUtf8` or `NoNetwork`. A line of more than 1 MiB is for the caller to find. It takes time in
 /// the length of the line and allocates nothing.
 pub fn content_in(form: ListForm, line: &[u8]) -> Result<Content, LineError>

@@ -17,11 +17,11 @@ use crate::lines::HostBits;
 use crate::sets::Sets;
 use crate::texts::line_len;
 use cidr::{IpCidr, Ipv4Cidr, Ipv6Cidr, NetworkBits};
+use cidr_io::decimal::decimal_text;
 use cidr_io::lines::is_too_long;
 use cidr_io::shown::{byte_excerpt, shown_char};
 use cidr_sets::NetworkSet;
 use cidr_sets::access::{Action, Rule, Shadow, permitted, shadowed_by};
-use itoa::Buffer;
 use std::alloc::{AllocError, Global};
 
 /// What is done with the addresses of a network, and where it is said.
@@ -161,7 +161,8 @@ fn push_place<C>(
 {
     text.extend_from_slice(file)?;
     text.push(b':')?;
-    text.extend_from_slice(Buffer::new().format(number_at(rules, index)).as_bytes())?;
+    let number = decimal_text(u128::from(number_at(rules, index)));
+    text.extend_from_slice(number.as_str().as_bytes())?;
     Ok(())
 }
 

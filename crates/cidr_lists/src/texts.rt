@@ -12,8 +12,9 @@ ghost use Rattle.cidr_lists.specs.declared.sets.Form.TheVariants.{Counts, Ranges
 use crate::errors::{LineError, ListError};
 use crate::lines::{HostBits, content_of};
 use crate::lists::Lists;
-use crate::printing::{Printed, PrintedAddress, count_text};
+use crate::printing::{Printed, PrintedAddress};
 use crate::sets::{Form, Sets};
+use cidr_io::decimal::count_text;
 use cidr_io::lines::{feed_in, is_too_long};
 use cidr_sets::Ranges;
 use std::alloc::{AllocError, Global};

@@ -1,10 +1,12 @@
 //! Why a run of the program gave no answer.
-ghost use Rattle.std.specs.Prelude.{◌≡◌};
+ghost use Rattle.std.specs.Prelude.{◌≡◌, Some};
 ghost use Rattle.cidr.specs.either.IpAddress.{TellsEqual};
 
+use arrayvec::ArrayString;
 use cidr::AddrParseError;
 use cidr::errors::NetworkParseError;
 use cidr_io::sink::OutputFailed;
+use std::fmt;
 
 /// Why an argument was rejected.
 #[derive(Debug, Drop, PartialEq)]
@@ -13,6 +15,32 @@ pub enum Fault {
     Network(NetworkParseError),
     /// An argument is no address: the error of parsing it.
     Address(AddrParseError),
+}
+
+impl Fault {
+    ghost use Rattle.cidr_tool.specs.Report.{message_of};
+
+    /// The words of what it holds.
+    pub fn to_text(&self) -> ArrayString<99>
+        ensures { result.bytes ≡ message_of self.now }
+    {
+        let mut text = ArrayString::new();
+        match self {
+            Fault::Network(e) => text.push_str(e.to_text().as_str()),
+            Fault::Address(e) => text.push_str(e.to_text().as_str()),
+        }
+        text
+    }
+}
+
+impl fmt::Display for Fault {
+    ghost use Rattle.cidr_tool.specs.Report.{message_of};
+
+    ghost output = { λ fault. Some (message_of fault) };
+
+    fn fmt<W: fmt::Write>(&self, f: &mut fmt::Formatter<W>) -> fmt::Result {
+        f.write_str(self.to_text().as_str())
+    }
 }
 
 /// Why `run` gave no answer.

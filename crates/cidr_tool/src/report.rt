@@ -19,10 +19,7 @@ fn refused_line(fault: &Fault) -> ArrayString<MOST_LINE>
     ensures { result.bytes ≡ refusal_line fault.now }
 {
     let mut line = ArrayString::new();
-    match fault {
-        Fault::Network(e) => line.push_str(e.to_text().as_str()),
-        Fault::Address(e) => line.push_str(e.to_text().as_str()),
-    }
+    line.push_str(fault.to_text().as_str());
     line.push_str("\n");
     line
 }

@@ -11,10 +11,10 @@ use crate::walks::{Ends, write_walk};
 use arrayvec::ArrayString;
 use cidr::parsers::parse_loose_ip;
 use cidr::{AnyIpCidr, Family, IpAddr, IpCidr};
+use cidr_io::decimal::decimal_text;
 use cidr_io::shown::hex_digit;
 use cidr_io::sink::Sink;
 use cidr_io::writing::write_text;
-use itoa::Buffer;
 use std::cmp::Ordering;
 
 /// The most bytes of an answer to `show`: 44 of names and line feeds, 43 of the network, three addresses of 39, a
@@ -56,7 +56,7 @@ fn shown_network(text: &str, network: &IpCidr) -> Shown
     push_line(
         &mut shown,
         "length ",
-        Buffer::new().format(network.network_length()),
+        decimal_text(u128::from(network.network_length())).as_str(),
     );
     push_line(&mut shown, "family ", variant_name(network.family()));
     shown

@@ -1,13 +1,15 @@
 //! A routing table: networks with a next hop each, of which the longest that an address is in decides.
 #![tactic(auto)]
 
-use anyhow::Result;
+mod failure;
+
 use cidr::{Ipv4Addr, Ipv4Cidr};
 use cidr_table::{LpmTable, longest_match};
+use failure::Failure;
 
 type Routes = LpmTable<Ipv4Cidr, Ipv4Addr>;
 
-fn main(rt: HostRuntime) -> Result<()> {
+fn main(rt: HostRuntime) -> Result<(), Failure> {
     let mut routes = Routes::new(rt.alloc());
     routes.set("0.0.0.0/0".parse()?, Ipv4Addr::new(192, 0, 2, 1))?;
     routes.set("10.0.0.0/8".parse()?, Ipv4Addr::new(192, 0, 2, 2))?;
@@ -20,7 +22,7 @@ fn main(rt: HostRuntime) -> Result<()> {
 }
 
 /// Routes that are replaced and removed.
-fn changes(rt: &HostRuntime, table: Routes) -> Result<()> {
+fn changes(rt: &HostRuntime, table: Routes) -> Result<(), Failure> {
     let mut routes = table;
     println!(rt;
         "{:?}",
@@ -40,7 +42,7 @@ fn next_hop(routes: &Routes, address: Ipv4Addr) -> Option<Ipv4Addr> {
 }
 
 /// Networks that are loaded as a table, with their indices.
-fn lists(rt: &HostRuntime) -> Result<()> {
+fn lists(rt: &HostRuntime) -> Result<(), Failure> {
     // the prefix bytes of 10.0.0.0/9, 10.128.0.0/9 and 192.0.2.0/24
     let bytes = [9, 10, 0, 9, 10, 128, 24, 192, 0, 2];
     let table = LpmTable::<Ipv4Cidr, usize>::load(rt.alloc(), &bytes)?;
@@ -58,7 +60,7 @@ fn lists(rt: &HostRuntime) -> Result<()> {
 }
 
 /// A list that is refused.
-fn refused(rt: &HostRuntime) -> Result<()> {
+fn refused(rt: &HostRuntime) -> Result<(), Failure> {
     // a prefix length of 40
     match LpmTable::<Ipv4Cidr, usize>::load(rt.alloc(), &[8, 10, 40]) {
         Ok(table) => println!(rt; "{} rows", table.len())?,

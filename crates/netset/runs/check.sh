@@ -44,9 +44,19 @@ rows() {
     run 0 $'10.0.0.0/8\n' '' '11.0.0.0/8' merge ten ten
     run 2 '' $'-:3: 10.0.0.1/8: host bits set; the network is 10.0.0.0/8\n' '10.0.0.0/8\n\n10.0.0.1/8\nx' merge
     run 2 '' $'-:1: 010.0.0.0/8: a leading zero in an octet\n' '010.0.0.0/8' merge
-    run 2 '' $'-:2: 10.0.0.1 10.0.0.2: couldn\'t parse address in network: invalid IP address syntax\n' '10.0.0.1\n10.0.0.1 10.0.0.2' merge
+    run 2 '' $'-:2: 10.0.0.1 10.0.0.2: more than a network or an address\n' '10.0.0.1\n10.0.0.1 10.0.0.2' merge
+    run 2 '' $'-:1: 10.0.0.0/8 office: more than a network or an address\n' '10.0.0.0/8 office' merge
+    run 2 '' $'-:1: 2001:db8::1\\x09office: more than a network or an address\n' '2001:db8::1\toffice' merge
+    run 2 '' $'-:1: \\ufeff10.0.0.0/8: a byte order mark in front\n' '\xef\xbb\xbf10.0.0.0/8\n' merge
+    run 2 '' $'-:1: 10.0.0.0/255.0.255.0: no contiguous mask of its family\n' '10.0.0.0/255.0.255.0' merge
+    run 2 '' $'-:1: 10.0.0.1-10.0.0.2: a range of addresses\n' '10.0.0.1-10.0.0.2' check
+    run 2 '' $'10.0.0.1-10.0.0.2: a range of addresses\n' '' not --in 10.0.0.1-10.0.0.2
+    run 2 '' $'-:1: \\x89CID\\x01: not UTF-8, as a file of look-ups\n' '\x89CID\x01' merge
     run 2 '' $'bad:1: 10.0.0.0/x: couldn\'t parse length in network: invalid length text\n' '' merge ten bad missing
     run 2 '' $'-:1: \\xff: not UTF-8\n' '\xff' merge
+    run 2 '' $'-:1: x\\u202e\\u2066\\u200b\\ufeff: couldn\'t parse address in network: invalid IP address syntax\n' \
+        'x\xe2\x80\xae\xe2\x81\xa6\xe2\x80\x8b\xef\xbb\xbf' merge
+    run 2 '' $'\\u202etxt: no such file\n' '' merge $'\xe2\x80\xaetxt'
     run 2 '' $'missing: no such file\n' '' merge missing
     run 2 '' $'.: is a directory\n' '' merge .
     run 2 '' $'ten/x: cannot be read\n' '' merge ten/x
@@ -94,7 +104,7 @@ rows() {
     run 2 '' $'\\xff: not UTF-8\n' '' merge $'\xff'
     run 2 '' $'a\\x1b\\xff: not UTF-8\n' '' merge bad $'a\e\xff' $'\xfe'
     run 2 '' $'aaaaaaaaaaaaaaaaaaaaaaaaaaaaaaaaaaaaa..: not UTF-8\n' '' merge $'aaaaaaaaaaaaaaaaaaaaaaaaaaaaaaaaaaaaa\xff'
-    run 0 $'netset 0.1.0\n'"$(rt version)"$'\n' '' '' --version
+    run 0 $'netset 0.1.0\n'"$(rt version | grep -o 'logic .*')"$'\n' '' '' --version
 }
 
 # Options before, behind and between operands, joined, with their values and ended, and the pages of help.
@@ -138,11 +148,12 @@ rows_of_arguments() {
 -k                      each line of a list in error is told, and not only the first
 --skip-bad              each line of a list in error is told, and the answer is that of the other
                         lines; the status is 2 then, or 3; it goes neither with -k nor with -o
---form NAME             how lines are read: those of a list by rir, the records in which the
-                        Internet registries publish what they have delegated; the rows of a
-                        table by pfx2as, an address, its prefix length and the value, as CAIDA
-                        has them, or by routes or routes6, as ip route prints those of IPv4
-                        and of IPv6, and default is all addresses
+--form NAME             how lines are read: those of lists by rir, the records in which the
+                        Internet registries publish what they have delegated; the rows of the
+                        tables of look, compile, same and smallest by pfx2as, an address, its
+                        prefix length and the value, as CAIDA has them, or by routes or
+                        routes6, as ip route prints those of IPv4 and of IPv6, and default is
+                        all addresses
 --format NAME           how the networks are written: plain, json, nft, ipset, iptables,
                         cisco, juniper or bird
 --prefix TEXT, --suffix TEXT
@@ -155,7 +166,7 @@ rows_of_arguments() {
     run 0 "$page" '' '' merge --help
     run 0 "$page" '' '' merge -h ten
     run 0 "$page" '' '' merge -kh ten
-    page=$'netset --version        the version, and the line of the kit that proves the program\n'
+    page=$'netset --version        the version, and the logic in which the program is proved\n'
     run 0 "$page" '' '' help --version
     run 0 "$page" '' '' --help --version
     run 0 "$page" '' '' help -- --version
@@ -335,8 +346,8 @@ rows_of_ranges() {
     run 0 $'10.0.0.1\n10.0.0.2/31\n10.0.0.4/31\n10.0.0.6\n' '' '10.0.0.1 - 10.0.0.6' merge
     run 0 $'10.0.0.1-10.0.0.6\n::1-::2\n' '' '10.0.0.1\t -10.0.0.6\n::1-  ::2 # two' ranges
     run 2 '' $'-:1: 10.0.0.x: invalid IP address syntax\n' '10.0.0.1 - 10.0.0.x' merge
-    run 2 '' $'-:1: 10.0.0.1 10.0.0.2: invalid IP address syntax\n' '10.0.0.1 10.0.0.2 - 10.0.0.6' merge
-    run 2 '' $'-:1: 10.0.0.2-10.0.0.3: invalid IP address syntax\n' '10.0.0.1-10.0.0.2-10.0.0.3' merge
+    run 2 '' $'-:1: 10.0.0.1 10.0.0.2: more than a network or an address\n' '10.0.0.1 10.0.0.2 - 10.0.0.6' merge
+    run 2 '' $'-:1: 10.0.0.2-10.0.0.3: a range of addresses\n' '10.0.0.1-10.0.0.2-10.0.0.3' merge
     run 2 '' $'-:1: : invalid IP address syntax\n' '10.0.0.1-' merge
     run 2 '' $'-:1: : invalid IP address syntax\n' '-' merge
     run 2 '' $'-:1: 10.0.0.x: invalid IP address syntax\n' '::1-10.0.0.x' merge
@@ -463,7 +474,7 @@ rows_of_access_lists() {
     run 2 '' $'-:1: the field is missing or empty\n' 'deny # ::/0' acl -
     run 2 '' $'-:1: 010.0.0.0/8: a leading zero in an octet\n' 'deny 010.0.0.0/8' acl -
     run 2 '' $'-:1: \\xff: not UTF-8\n' 'deny \xff' acl -
-    run 2 '' $'-:1: 10.0.0.1-10.0.0.2: couldn\'t parse address in network: invalid IP address syntax\n' 'permit 10.0.0.1-10.0.0.2' acl -
+    run 2 '' $'-:1: 10.0.0.1-10.0.0.2: a range of addresses\n' 'permit 10.0.0.1-10.0.0.2' acl -
     run 2 '' $'missing: no such file\n' '' acl missing
     run 2 '' $'.: is a directory\n' '' acl .
     run 2 '' $'RULES is missing, see: netset help acl\n' '' acl
@@ -655,7 +666,7 @@ rows_of_findings() {
     run 1 $'ten:1: repeats ten:1\n' '' '' check ten ten
     run 1 $'-:2: inside 2001:db8::/32 at -:1\n-:3: inside 2001:db8::/32 at -:1\n-:3: mergeable with -:2\n-:4: host bits set\n-:4: not in canonical form: 2001:db8:8000::5/33\n-:4: repeats -:3\n-:4: inside 2001:db8::/32 at -:1\n-:4: mergeable with -:2\n' \
         '' "$deep" check
-    run 2 '' $'-:2: 10.0.0.1-10.0.0.2: couldn\'t parse address in network: invalid IP address syntax\n' '10.0.0.1/8\n10.0.0.1-10.0.0.2' check
+    run 2 '' $'-:2: 10.0.0.1-10.0.0.2: a range of addresses\n' '10.0.0.1/8\n10.0.0.1-10.0.0.2' check
     run 2 '' $'bad:1: 10.0.0.0/x: couldn\'t parse length in network: invalid length text\n' '' check ten ten bad
     run 2 '' $'-:1: \\xff: not UTF-8\n' '\xff' check
     run 2 '' $'missing: no such file\n' '' check ten missing
@@ -846,7 +857,11 @@ rows_of_records() {
     run 1 $'-192.0.4.0/24\n-2001:db8::/32\n' '' "$v4|512|1|x\n" diff --form rir delegated -
     run 0 $'0.0.0.0/0\n' '' '# all\r\n ;\n\nx||ipv4|0.0.0.0|4294967296|\r\n' merge --form rir
     run 0 $'255.255.255.255\n' '' ' x | DE | ipv4 | 255.255.255.255 | +1 | 1 ' merge --form rir
-    run 0 '' '' 'x|DE|IPV4|192.0.2.0|768|1|allocated' merge --form rir
+    run 0 $'192.0.2.0/24\n' '' 'x|DE|IPv4|192.0.2.0|256|1|ALLOCATED' merge --form rir
+    run 0 '' '' '2.3|x|1|2|3|4|+0000\nx|DE|ASN|64500|1|1|allocated\nx||ipv4|192.0.2.0|768|1|available|\nx||ipv6|2001:db8::|32||Reserved' merge --form rir
+    run 2 '' $'-:1: 192.0.2.0: not of the type of the record\n' 'x|DE|ipv6|192.0.2.0|24|1|allocated' merge --form rir
+    run 2 '' $'-:1: 2001:db8::: not of the type of the record\n' 'x|DE|ipv4|2001:db8::|256|1|allocated' merge --form rir
+    run 2 '' $'-:1: ipv5: neither ipv4, ipv6 nor asn\n' 'x|DE|ipv5|192.0.2.0|768|1|allocated' merge --form rir
     run 0 $'2001:db8::1\n' '' 'x|DE|ipv6|2001:db8::1|128|1' merge --form rir
     run 2 '' "-:1: $none"$'\n' '10.0.0.0/8' merge --form rir
     run 2 '' "-:1: $none"$'\n' "$v4" merge --form rir
@@ -878,7 +893,7 @@ rows_of_forms() {
     run 0 $'10.0.0.1 10.0.0.0/8 a;b\n' '' '# 10.0.0.0/8\n10.0.0.0/8;a;b' look --table-separator ';' - address
     run 0 $'10.0.0.1 10.0.0.0/8 a b\n' '' '10.0.0.0/8\ta b' look --table-separator $'\t' - address
     run 0 $'a,10.0.0.1,10.0.0.0/8,west\n' '' 'a,10.0.0.1' look --keep --field 2 --separator , --table-separator '|' parted
-    run 2 '' $'-:2: 10.0.0.0/8 west: couldn\'t parse length in network: invalid length text\n' '\n10.0.0.0/8 west' look --table-separator , - address
+    run 2 '' $'-:2: 10.0.0.0/8 west: more than a network or an address\n' '\n10.0.0.0/8 west' look --table-separator , - address
     run 2 '' "-:1: \"10.0.0.0/8\": $quoted"$'\n' '"10.0.0.0/8",west' look --table-separator , - address
     run 2 '' "-:1: \"10.0.0.0/8\": $quoted"$'\n' '"10.0.0.0/8" west' look - address
     run 2 '' "-:1: $none"$'\n' ',west' look --table-separator , - address
@@ -889,6 +904,10 @@ rows_of_forms() {
     run 0 $'10.0.0.1 10.0.0.0/8 west\n' '' '10.0.0.1' look -k --table-separator '|' parted
     run 0 $'10.0.0.1 10.0.0.0/8 west\n' '' '10.0.0.7/8,west' look --host-bits --table-separator , - address
     run 0 $'10.0.0.1 10.0.0.0/8 west\n' '' '10.0.0.0 255.0.0.0,west' look --masks --table-separator , - address
+    run 2 '' $'-:1: 10.0.0.0: the first address of a range, whose last one is the next field\n' '10.0.0.0,10.0.0.255,west' look --table-separator , - address
+    run 2 '' $'-:1: 10.0.0.0: the first address of a range, whose last one is the next field\n' '10.0.0.0\t10.0.0.255\t64500\twest' look - address
+    run 0 $'10.0.0.1 10.0.0.1 192.0.2.1\n' '' '10.0.0.1 192.0.2.1' look - address
+    run 0 $'10.0.0.1 10.0.0.1 10.0.0.9\n' '' '10.0.0.1,10.0.0.9,west' look --table-separator , --table-fields 1,2 - address
     run 2 '' $',,: more or less than one byte, see: netset help look\n' '' look --table-separator ,, missing
     run 2 '' $': more or less than one byte, see: netset help compile\n' '' compile --table-separator= missing out
     run 2 '' $'\u00e9: more or less than one byte, see: netset help look\n' '' look --table-separator $'\u00e9' missing
@@ -1208,6 +1227,7 @@ rows_of_host_bits() {
 
 # Masks in place of prefix lengths in lists: network masks and host masks, behind a slash or white space.
 rows_of_masks() {
+    local other=$'no contiguous mask of its family\n' more=$'more than a network or an address\n'
     local host=$'host bits set; the network is 10.0.0.0/8\n' none=$'couldn\'t parse address in network: invalid IP address syntax\n'
     local length=$'couldn\'t parse length in network: invalid length text\n'
     run 0 $'10.0.0.0/8\n172.16.0.0/12\n192.0.2.0/24\n192.168.0.0/16\n' '' \
@@ -1223,25 +1243,27 @@ rows_of_masks() {
     run 0 $'128.0.0.0/1\n' '' '128.0.0.0 127.255.255.255' merge --masks
     run 2 '' "-:1: 10.0.0.7 255.0.0.0: $host" '10.0.0.7 255.0.0.0' merge --masks
     run 2 '' "-:2: 10.0.0.7/0.255.255.255: $host" '\n10.0.0.7/0.255.255.255' merge --masks
-    run 2 '' $'-:1: 10.0.0.1 0.0.0.0: host bits set; the network is 0.0.0.0/0\n' '10.0.0.1 0.0.0.0' merge --masks
+    run 2 '' $'-:1: 10.0.0.1 0.0.0.0: /0 by a network mask, 10.0.0.1 by a wildcard\n' '10.0.0.1 0.0.0.0' merge --masks
+    run 2 '' $'-:1: 10.0.0.1 0.0.0.0: /0 by a network mask, 10.0.0.1 by a wildcard\n' 'permit 10.0.0.1 0.0.0.0' acl --masks --host-bits -
     run 2 '' $'-:1: 2001:db8::1/ffff:ffff::: host bits set; the network is 2001:db8::/32\n' '2001:db8::1/ffff:ffff::' merge --masks
     run 2 '' "-:1: 10.0.0.7/8: $host" '10.0.0.7/8' merge --masks
-    run 2 '' "-:1: 192.0.2.0 255.0.255.0: $none" '192.0.2.0 255.0.255.0' merge --masks
-    run 2 '' "-:1: 192.0.2.0/0.255.0.255: $length" '192.0.2.0/0.255.0.255' merge --masks
-    run 2 '' "-:1: 192.0.2.0 ffff:ffff::: $none" '192.0.2.0 ffff:ffff::' merge --masks
+    run 2 '' "-:1: 192.0.2.0 255.0.255.0: $other" '192.0.2.0 255.0.255.0' merge --masks
+    run 2 '' "-:1: 192.0.2.0/0.255.0.255: $other" '192.0.2.0/0.255.0.255' merge --masks
+    run 2 '' "-:1: 192.0.2.0 ffff:ffff::: $other" '192.0.2.0 ffff:ffff::' merge --masks
     run 2 '' "-:1: 192.0.2.0/ffff:ffff::: $length" '192.0.2.0/ffff:ffff::' merge --masks
     run 2 '' "-:1: 2001:db8::/255.0.0.0: $length" '2001:db8::/255.0.0.0' merge --masks
     run 2 '' "-:1: x/255.0.0.0: $none" 'x/255.0.0.0' merge --masks
     run 2 '' $'-:1: 010.0.0.0/255.0.0.0: a leading zero in an octet\n' '010.0.0.0/255.0.0.0' merge --masks
-    run 2 '' "-:1: 10.0.0.0 255.0.0.0 x: $none" '10.0.0.0 255.0.0.0 x' merge --masks
-    run 2 '' "-:1: 10.0.0.0 / 255.0.0.0: $none" '10.0.0.0 / 255.0.0.0' merge --masks
-    run 2 '' "-:1: 10.0.0.0 8: $none" '10.0.0.0 8' merge --masks
+    run 2 '' "-:1: 10.0.0.0 255.0.0.0 x: $more" '10.0.0.0 255.0.0.0 x' merge --masks
+    run 2 '' "-:1: 10.0.0.0 / 255.0.0.0: $more" '10.0.0.0 / 255.0.0.0' merge --masks
+    run 2 '' "-:1: 10.0.0.0 8: $more" '10.0.0.0 8' merge --masks
     run 2 '' $'-:1: 10.0.0.0/255.0.0.0: a mask in place of a length\n' '10.0.0.0/255.0.0.0' merge
-    run 2 '' "-:1: 10.0.0.0 255.0.0.0: $none" '10.0.0.0 255.0.0.0' merge
+    run 2 '' "-:1: 10.0.0.0 255.0.0.0: $more" '10.0.0.0 255.0.0.0' merge
     run 2 '' "-:1: 10.0.0.7 255.0.0.0: ${host}-:3: x: $none" '10.0.0.7 255.0.0.0\n11.0.0.0 255.0.0.0\nx' merge -k --masks
     run 0 $'10.0.0.0/8\n192.0.2.0/24\n' '' '10.0.0.7 255.0.0.0\n192.0.2.9/0.0.0.255\n192.0.2.7/24\n10.0.0.9' merge --masks --host-bits
-    run 0 $'0.0.0.0/0\n' '' '10.0.0.1 0.0.0.0' merge --host-bits --masks
-    run 2 '' "-:1: 192.0.2.0 255.0.255.0: $none" '192.0.2.0 255.0.255.0' merge --host-bits --masks
+    run 2 '' $'-:1: 10.0.0.1 0.0.0.0: /0 by a network mask, 10.0.0.1 by a wildcard\n' '10.0.0.1 0.0.0.0' merge --host-bits --masks
+    run 0 $'0.0.0.0/0\n' '' '0.0.0.0 0.0.0.0' merge --host-bits --masks
+    run 2 '' "-:1: 192.0.2.0 255.0.255.0: $other" '192.0.2.0 255.0.255.0' merge --host-bits --masks
     run 2 '' $'-:1: 10.0.0.0/255.0.0.0: a mask in place of a length\n' '10.0.0.0/255.0.0.0' merge --host-bits
     run 0 $'10.128.0.0/9\n' '' '10.0.0.0 255.128.0.0' minus --masks ten -
     run 0 $'10.0.0.0/9\n' '' '10.0.0.0 0.127.255.255' and --masks ten -
@@ -1252,9 +1274,9 @@ rows_of_masks() {
     run 0 $'10.1.0.0-10.1.255.255\n' '' '10.1.0.0 255.255.0.0' ranges --masks
     run 0 $'IPv4 256\nIPv6 0\n' '' '10.1.2.0/255.255.255.0' count --masks
     run 0 $'10.0.0.1 a\n10.2.0.0/16 c\n' '' '10.0.0.0 255.0.0.0' match --masks - seen
-    run 2 '' $'seen:1: 10.0.0.1 a: couldn\'t parse address in network: invalid IP address syntax\n' '' match --masks seen ten
+    run 2 '' $'seen:1: 10.0.0.1 a: more than a network or an address\n' '' match --masks seen ten
     run 0 $'10.0.0.1 10.0.0.0/8 west\n' '' '10.0.0.0/255.0.0.0 west' look --masks - address
-    run 0 $'10.0.0.1 10.0.0.1 255.0.0.0 west\n' '' '10.0.0.1 255.0.0.0 west' look --masks - address
+    run 2 '' $'-:1: 10.0.0.1: the first address of a range, whose last one is the next field\n' '10.0.0.1 255.0.0.0 west' look --masks - address
     run 2 '' $'-:1: 10.0.0.7/255.0.0.0: host bits set; the network is 10.0.0.0/8\n' '10.0.0.7/255.0.0.0 west' look --masks - address
     run 0 '' '' '10.0.0.0/255.0.0.0 west' compile --masks - masked
     run 0 $'10.0.0.1 10.0.0.0/8 west\n' '' '10.0.0.1' look masked
@@ -1281,7 +1303,7 @@ rows_of_all_errors() {
     run 1 $'-10.0.0.0/8\n' '' '' diff -k ten -
     run 2 '' "hosts:1: 10.0.0.7/8: ${host}hosts:1: 10.0.0.7/8: $host" '' diff -k hosts hosts
     run 2 '' "hosts:1: 10.0.0.7/8: $host" '' free -k ten 8 hosts
-    run 2 '' "-:1: x: $none-:2: 10.0.0.1-10.0.0.2: $none" 'x\n10.0.0.1-10.0.0.2\n10.0.0.1/8' check -k
+    run 2 '' "-:1: x: $none-:2: 10.0.0.1-10.0.0.2: a range of addresses"$'\n' 'x\n10.0.0.1-10.0.0.2\n10.0.0.1/8' check -k
     run 2 '' "hosts:1: 10.0.0.7/8: $host" 'x' match -k -v hosts
     run 2 '' "-:1: x: $none" 'x\ny' match -k ten
     run 0 $'10.0.0.1\n' '' '10.0.0.1\n11.0.0.1' match -k ten
@@ -1517,7 +1539,7 @@ le() {
 
 # saved NAME BYTES: whether a file has exactly these bytes, and none is beside it.
 saved() {
-    if ! printf '%b' "$2" | cmp -s - "$room/$1" || [[ -n $(cd "$room" && compgen -G "$1.new*") ]]; then
+    if ! printf '%b' "$2" | cmp -s - "$room/$1" || [[ -n $(cd "$room" && compgen -G ".netset-*") ]]; then
         differs=1
         echo "$build: the file $1 is not as wanted" >&2
     fi
@@ -1554,26 +1576,24 @@ rows_of_compiled_tables() {
     run 2 '' "compiled$same" '' compile -k compiled compiled
     run 2 '' "-$same" 'x' compile - -
     saved compiled "$row"
-    run 3 '' $'.: cannot be written\n' '' compile owners .
-    run 3 '' $'nowhere/compiled: cannot be written\n' '' compile owners nowhere/compiled
+    run 3 '' $'.: cannot be written: is a directory\n' '' compile owners .
+    run 3 '' $'nowhere/compiled: cannot be written: no such directory\n' '' compile owners nowhere/compiled
     run 3 '' $': cannot be written\n' '' compile owners ''
     run 3 '' $'-: cannot be written\n' '' compile owners -
     ln -sfn nowhere "$room/link"
     run 3 '' $'link: cannot be written\n' '' compile owners link
     ln -sfn . "$room/link"
-    run 3 '' $'link: cannot be written\n' '' compile owners link
+    run 3 '' $'link: cannot be written: is a directory\n' '' compile owners link
     run 2 '' $'TABLE is missing, see: netset help compile\n' '' compile
     run 2 '' $'OUT is missing, see: netset help compile\n' '' compile owners
     run 2 '' $'x: one argument too many, see: netset help compile\n' '' compile owners compiled x
     run 2 '' $'-v: no such option, see: netset help compile\n' '' compile -v owners compiled
     saved compiled "$row"
-    # a run that is killed while it writes leaves the old file, and the next one takes another name
+    # a run that is killed while it writes leaves the old file
     { (cd "$room" && ulimit -f 1 && "$program" compile parts compiled) || true; } >/dev/null 2>&1
-    rm "$room/compiled.new0"
+    rm "$room"/.netset-*
     saved compiled "$row"
-    printf 'x' >"$room/compiled.new0"
     run 0 '' '' '' compile nothing compiled
-    rm "$room/compiled.new0"
     saved compiled "$none"
     chmod 604 "$room/compiled"
     ln -sfn compiled "$room/link"
@@ -1677,10 +1697,10 @@ rows_of_outputs() {
     run 0 "$("$program" help merge)"$'\n' '' '' merge -h -o made
     saved made "$old"
     run 2 '' $'-o: no such file\n' '' merge ten -- -o
-    run 3 '' $'.: cannot be written\n' '' merge ten -o .
+    run 3 '' $'.: cannot be written: is a directory\n' '' merge ten -o .
     run 3 '' $'/dev/null: cannot be written\n' '' merge ten -o /dev/null
     run 3 '' $'-: cannot be written\n' '' merge ten -o -
-    run 3 '' $'nowhere/made: cannot be written\n' '' diff ten both -o nowhere/made
+    run 3 '' $'nowhere/made: cannot be written: no such directory\n' '' diff ten both -o nowhere/made
     run 3 '' $': cannot be written\n' '' merge ten -o ''
     saved made "$old"
     # what a link leads to is replaced, also by way of another one, and has the permissions that it had
@@ -1700,14 +1720,12 @@ rows_of_outputs() {
     saved made '10.0.0.0/8\n'
     kept made 400 link
     rm -r "$room/made" "$room/folder" "$room/link"
-    # a run that is killed while it writes leaves the old file, and the next one takes another name
+    # a run that is killed while it writes leaves the old file
     printf 'old' >"$room/made"
     { (cd "$room" && ulimit -f 1 && "$program" split 10.0.0.0/8 20 -o made) || true; } >/dev/null 2>&1
-    rm "$room/made.new0"
+    rm "$room"/.netset-*
     saved made old
-    printf 'x' >"$room/made.new0"
     run 0 '' '' '' merge ten -o made
-    rm "$room/made.new0"
     saved made '10.0.0.0/8\n'
 }
 
@@ -1725,7 +1743,7 @@ rows_of_a_full_disk() {
         echo "netset: no disk can be mounted: a full one was not tried" >&2
         return
     fi
-    if ! { has "$room/full.status" $'3\n' && has "$room/full.made" old && has "$room/full.said" $'full/made: cannot be written\n' &&
+    if ! { has "$room/full.status" $'3\n' && has "$room/full.made" old && has "$room/full.said" $'full/made: cannot be written: no space left\n' &&
         has "$room/full.out" '' && has "$room/full.left" $'made\n'; }; then
         differs=1
         echo "$build: a full disk" >&2
@@ -2029,6 +2047,7 @@ for build in netset netset.by-rattle; do
     rows_of_messages
     long_list
     runs/streams.py "$program" || differs=1
+    runs/saving.py "$program" || differs=1
     if command -v "${CC:-cc}" >/dev/null; then
         rows_without_memory
     fi

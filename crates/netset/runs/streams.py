@@ -239,7 +239,7 @@ def killed_while_it_writes():
             with open("written", "rb") as it:
                 got = it.read()
             wanted(f"{new[0]}, killed after {turn} of 50 parts of its time", got in wholes, len(got))
-            for name in glob.glob("written.new*"):
+            for name in glob.glob(".netset-*"):
                 os.remove(name)
 
 

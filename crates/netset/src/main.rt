@@ -29,7 +29,7 @@ fn main(rt: HostRuntime) -> ExitCode {
     };
     let mut folder = Beside {
         runtime: &rt,
-        refused: false,
+        refused: None,
     };
     let arguments = Given { system: &rt };
     let mut memory = Heap::new(rt.alloc());

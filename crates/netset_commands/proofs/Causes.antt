@@ -24,6 +24,7 @@ use Rattle.netset_commands.specs.declared.output.answers.Verdict.{Verdict}
 use Rattle.netset_commands.specs.declared.errors.ArgumentError.{ArgumentError}
 use Rattle.netset_commands.specs.declared.errors.CommandError.{CommandError}
 use Rattle.netset_commands.specs.declared.errors.CommandError.TheVariants as error
+use Rattle.netset_commands.specs.declared.errors.FileError.TheVariants.{TooLarge, NotSaved, Hole, Unlike, Version, Short, Long, Changed}
 use Rattle.cidr_lists.specs.declared.errors.LineError.{LineError}
 use Rattle.cidr_lists.specs.declared.forms.RowForm.{RowForm}
 use Rattle.netset_commands.specs.declared.errors.ReadError.{ReadError}
@@ -155,6 +156,15 @@ single_cause F refused contents request s t (Ok verdict) h = tt
 single_cause F refused contents request s t (Err e) (inl (same, bad)) = argument_cause F refused _ e bad
 single_cause F refused contents request s t (Err e) (inr (answer, verdict, w, is, written, by)) = output_cause F refused verdict w (Err e) by
 
+-- a table that is to be written over by its own file
+pub same_cause : (F : List ℕ → Type 0) (refused : Bool) (table name : List ℕ) (e : CommandError) → IsSameFile table name e → Cause F refused e
+same_cause F refused table name (error.Argument text why) h = tt
+same_cause F refused table name (error.Line file number why) h = tt
+same_cause F refused table name (error.Input file why) h = absurd h.1
+same_cause F refused table name error.NoMemory h = absurd h.1
+same_cause F refused table name error.Output h = tt
+same_cause F refused table name (error.File file why) h = tt
+
 -- a table that is not compiled, before a file is written
 pub uncompiled : (contents : List ℕ → Option Text) (refused : Refusals) (form : RowForm) (table name : List ℕ) (e : CommandError)
     → IsSameFile table name e ⊎ IsUnreadTable form (contents table) table e → Cause (FileMayFail contents) refused.memory e
@@ -164,8 +174,15 @@ uncompiled contents refused form table name (error.Line file number why) is h = 
 uncompiled contents refused form table name (error.Input file why) is h = h
 uncompiled contents refused form table name error.NoMemory is h = h
 uncompiled contents refused form table name error.Output is h = h
-uncompiled contents refused form table name (error.File file why) (inl same) h = absurd same.1
-uncompiled contents refused form table name (error.File file why) (inr unread) h = absurd unread
+uncompiled contents refused form table name (error.File file (NotSaved why)) (inl (same, is)) h = inl (same, is.1)
+uncompiled contents refused form table name (error.File file (NotSaved why)) (inr unread) h = absurd unread
+uncompiled contents refused form table name (error.File file TooLarge) is h = h
+uncompiled contents refused form table name (error.File file Hole) is h = h
+uncompiled contents refused form table name (error.File file Unlike) is h = h
+uncompiled contents refused form table name (error.File file Version) is h = h
+uncompiled contents refused form table name (error.File file Short) is h = h
+uncompiled contents refused form table name (error.File file Long) is h = h
+uncompiled contents refused form table name (error.File file Changed) is h = h
 
 -- ---- lines that are picked
 ended_cause : (F : List ℕ → Type 0) (refused : Bool) (e : CommandError) (w : Result (Unit {0}) OutputFailed) (r : Result Verdict CommandError)

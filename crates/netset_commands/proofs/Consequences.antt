@@ -17,6 +17,7 @@ use Rattle.netset_commands.specs.declared.commands.AtFault.TheVariants.{Stop, Te
 use Rattle.netset_commands.specs.declared.commands.Reading.{Reading}
 use Rattle.netset_commands.specs.declared.errors.CommandError.{CommandError}
 use Rattle.netset_commands.specs.declared.errors.CommandError.TheVariants as error
+use Rattle.netset_commands.specs.declared.errors.Unsaved.TheVariants as unsaved
 use Rattle.netset_commands.specs.declared.errors.FileError.TheVariants.{TooLarge, NotSaved, Hole, Unlike, Version, Short, Long, Changed}
 use Rattle.cidr_io.proofs.Chains.{whole_none}
 use Rattle.netset_commands.proofs.Telling.{tells_nothing}
@@ -32,7 +33,13 @@ above_one (error.Argument text e) = omega arith
 above_one (error.Line name number e) = omega arith
 above_one (error.Input name why) = omega arith
 above_one (error.File name TooLarge) = omega arith
-above_one (error.File name NotSaved) = omega arith
+above_one (error.File name (NotSaved unsaved.Full)) = omega arith
+above_one (error.File name (NotSaved unsaved.Denied)) = omega arith
+above_one (error.File name (NotSaved unsaved.ReadOnly)) = omega arith
+above_one (error.File name (NotSaved unsaved.NoDirectory)) = omega arith
+above_one (error.File name (NotSaved unsaved.Directory)) = omega arith
+above_one (error.File name (NotSaved unsaved.Same)) = omega arith
+above_one (error.File name (NotSaved unsaved.Unknown)) = omega arith
 above_one (error.File name Hole) = omega arith
 above_one (error.File name Unlike) = omega arith
 above_one (error.File name Version) = omega arith

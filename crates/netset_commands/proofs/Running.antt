@@ -19,6 +19,8 @@ use Rattle.netset_commands.specs.declared.commands.Reading.{Reading}
 use Rattle.netset_commands.specs.declared.commands.table.Verb.{Verb}
 use Rattle.netset_commands.specs.declared.errors.CommandError.{CommandError}
 use Rattle.netset_commands.specs.declared.errors.CommandError.TheVariants as error
+use Rattle.netset_commands.specs.declared.errors.Unsaved.{Unsaved}
+use Rattle.netset_commands.specs.declared.errors.Unsaved.TheVariants.{Denied}
 use Rattle.netset_commands.specs.declared.input.keeping.Kept.{Kept}
 use Rattle.cidr_lists.specs.declared.records.ListForm.{ListForm}
 use Rattle.cidr_lists.specs.declared.forms.Kind.{Kind}
@@ -173,11 +175,11 @@ run_arguments words given contents refused closed out new s t status are (inl ru
 run_arguments words given contents refused closed out new s t status are (inr none) = inr (inr none)
 
 -- ---- an answer that goes to a file
-module _ (name : List ℕ) (reading : Reading) (contents : List ℕ → Option (List ℕ)) (was memory folder : Bool) (request : Request) (start : State) (held : List ℕ × Bool) (s t : State)
+module _ (name : List ℕ) (reading : Reading) (contents : List ℕ → Option (List ℕ)) (was memory : Bool) (folder : Option Unsaved) (request : Request) (start : State) (held : List ℕ × Bool) (s t : State)
     (answered : ℕ) (none : start ≡ empty) where
   -- what was refused before there was the text, in a folder in which nothing is written, and in the end
   abbrev before : Refusals
-  before = record { memory = was; folder = true }
+  before = record { memory = was; folder = Some Denied }
 
   abbrev refused : Refusals
   refused = record { memory = memory; folder = folder }
@@ -204,9 +206,9 @@ module _ (name : List ℕ) (reading : Reading) (contents : List ℕ → Option (
     pub into_told : RunsBefore start → Into t answered
     into_told runs = told_by (subst RunsBefore none runs)
 
-    module _ (u : State) (e : CommandError) (status : ℕ) (few : answered ≤ 1) (unsaved : folder ≡ true) (is : IsNotSaved name e) (says : Reports false (Err e) t u) (ends : status ≡ status_of (Err e)) where
+    module _ (u : State) (e : CommandError) (status : ℕ) (few : answered ≤ 1) (why : Unsaved) (unsaved : folder ≡ Some why) (is : IsNotSaved name why e) (says : Reports false (Err e) t u) (ends : status ≡ status_of (Err e)) where
       unsaved_by : RunsBefore empty → Into u status
-      unsaved_by (inl once) now out = inl (refl, (before, text, t, answered, once, inr (inl (fine, few, unsaved, e, is, says, ends))))
+      unsaved_by (inl once) now out = inl (refl, (before, text, t, answered, once, inr (inl (fine, few, why, unsaved, e, is, says, ends))))
       unsaved_by (inr (left, (same, told, three))) now out =
           let is_three : answered ≡ 3 = three in
           absurd (omega (arith, few, is_three))

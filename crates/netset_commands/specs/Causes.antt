@@ -3,15 +3,16 @@ use Rattle.std.specs.Prelude.{◌≡◌, ℕ, ◌≤◌, Bool, true, List, lengt
 use Rattle.cidr_lists.specs.Lists.{Text}
 use Rattle.netset_commands.specs.declared.errors.CommandError.{CommandError}
 use Rattle.netset_commands.specs.declared.errors.CommandError.TheVariants as error
+use Rattle.netset_commands.specs.declared.errors.Unsaved.{Unsaved}
 use Rattle.netset_commands.specs.declared.errors.ReadError.{ReadError}
 use Rattle.netset_commands.specs.declared.errors.ReadError.TheVariants.{Line, Input, NoMemory}
 use Rattle.netset_commands.specs.declared.commands.look.LookError.{LookError}
 use Rattle.netset_commands.specs.declared.commands.look.LookError.TheVariants.{Reading, Output}
 
--- what was refused to a run: an allocation, and the writing of a file
+-- what was refused to a run: an allocation, and the writing of a file, and why
 pub record Refusals : Type 0 where
   pub memory : Bool
-  pub folder : Bool
+  pub folder : Option Unsaved
 
 -- the bytes are about as many as 64 bits count, so that their lines may be more than there are numbers for
 abbrev pub AreTooMany : List ℕ → Type 0

@@ -22,7 +22,7 @@ use Rattle.netset_commands.specs.Free.{IsBadFree, IsBadLength, IsMost}
 use Rattle.netset_commands.specs.Operands.{IsNoNetworkText, IsUnlisted, IsUnreadOperand, OfOperand}
 use Rattle.cidr_lists.specs.Faults.{AreTellings}
 use Rattle.netset_commands.specs.Keeping.{IsBegun, IsGoodFile, IsLoadError, good_files, kind_of, lined, takes_file}
-use Rattle.cidr_lists.specs.Messages.{fault_line, fault_words}
+use Rattle.cidr_lists.specs.Messages.{fault_line, wrong_words}
 use Rattle.cidr_lists.specs.LookUps.{telling_by}
 use Rattle.cidr_lists.specs.Tables.{IsTable}
 use Rattle.netset_commands.specs.Look.{IsLookCut, IsUnreadTable}
@@ -39,6 +39,8 @@ use Rattle.cidr.specs.either.IpAddress.{IsIpText}
 use Rattle.cidr.specs.declared.addr.ip.IpAddr.{IpAddr}
 use Rattle.netset_commands.specs.declared.errors.ArgumentError.{ArgumentError}
 use Rattle.netset_commands.specs.declared.errors.ArgumentError.TheVariants as bad
+use Rattle.netset_commands.specs.declared.errors.Unsaved.{Unsaved}
+use Rattle.netset_commands.specs.declared.errors.Unsaved.TheVariants as unsaved
 use Rattle.netset_commands.specs.declared.errors.FileError.{FileError}
 use Rattle.netset_commands.specs.declared.errors.FileError.TheVariants.{TooLarge, NotSaved, Hole, Unlike, Version, Short, Long, Changed}
 use Rattle.netset_commands.specs.declared.commands.AtFault.{AtFault}
@@ -76,9 +78,14 @@ abbrev pub IsBadArgument : (List ℕ → ArgumentError → Type 0) → CommandEr
 IsBadArgument IsBad (error.Argument text e) = IsBad text.now e
 IsBadArgument IsBad e = ⊥
 
+-- the error is that the file of this name is not written, for this reason
+abbrev pub IsNotSaved : List ℕ → Unsaved → CommandError → Type 0
+IsNotSaved name why (error.File file (NotSaved reason)) = (file.now ≡ name) × (reason ≡ why)
+IsNotSaved name why e = ⊥
+
 -- the error is that the file to be written is the table that is read
 abbrev pub IsSameFile : List ℕ → List ℕ → CommandError → Type 0
-IsSameFile table name e = (table ≡ name) × IsBadArgument (λ text why. (text ≡ name) × (why ≡ bad.Same)) e
+IsSameFile table name e = (table ≡ name) × IsNotSaved name unsaved.Same e
 
 -- an argument that is wrong whatever the lists say
 abbrev pub IsWrong : Request → CommandError → Type 0
@@ -168,7 +175,7 @@ IsLookUntil contents choice form options table file answer e = (asked : Asked) �
 abbrev pub IsNoFile : RowForm → Option Text → List ℕ → List ℕ → CommandError → Type 0
 IsNoFile form contents table name (error.File file TooLarge) = (file.now ≡ table)
     × ((text : Text) → contents ≡ Some text → (rows : Family → List (List Bool × List ℕ)) × IsTable form text rows × IsTooLarge rows)
-IsNoFile form contents table name (error.File file NotSaved) = file.now ≡ name
+IsNoFile form contents table name (error.File file (NotSaved why)) = file.now ≡ name
 IsNoFile form contents table name e = ⊥
 
 -- what `compile` answers: yes, or the first of these errors; what it leaves in the folder is said in `Leaving`
@@ -191,9 +198,9 @@ AnswersRequest contents (Class operand) old new r =
     AnswersWhole contents (Class operand) old new r ⊎ IsCutShort (IsClassUntil contents operand) operand old new r
 AnswersRequest contents request old new r = AnswersWhole contents request old new r
 
--- a request is given up only for its cause; `compile` alone writes a file
+-- a request is given up only for its cause; `compile` alone writes a file, and not over its table
 abbrev pub IsCaused : (List ℕ → Option Text) → Refusals → Request → Result Verdict CommandError → Type 0
-IsCaused contents refused (Compile form table name) (Err (error.File file NotSaved)) = refused.folder ≡ true
+IsCaused contents refused (Compile form table name) (Err (error.File file (NotSaved why))) = ((table ≡ name) × (why ≡ unsaved.Same)) ⊎ (refused.folder ≡ Some why)
 IsCaused contents refused request r = IfErr r (Cause (FileMayFail contents) refused.memory)
 
 -- the lists of the files, read this way
@@ -216,7 +223,7 @@ headed tables contents name = if has name tables then option_map below_header (c
 
 -- the message of an argument that is wrong
 abbrev pub argument_message : ArgumentError → List ℕ
-argument_message (bad.Network fault e) = fault_words fault (parse_message e)
+argument_message (bad.Network wrong e) = wrong_words wrong (parse_message e)
 argument_message bad.Length = codes "no prefix length inside the network"
 argument_message bad.Index = codes "no index below 2^128"
 argument_message bad.Count = codes "no count below 2^64"
@@ -226,12 +233,21 @@ argument_message bad.NoAddress = codes "no address"
 argument_message bad.AddressOrFile = codes "no address, and no file that can be read"
 argument_message bad.Operand = codes "no network and no address, and no file that can be read"
 argument_message bad.ReadTwice = codes "standard input can be read only once"
-argument_message bad.Same = codes "the same file as TABLE"
+
+-- the message of a file that is not written, as the system tells it
+abbrev pub unsaved_message : Unsaved → List ℕ
+unsaved_message unsaved.Full = codes ": cannot be written: no space left\n"
+unsaved_message unsaved.Denied = codes ": cannot be written: permission denied\n"
+unsaved_message unsaved.ReadOnly = codes ": cannot be written: read-only file system\n"
+unsaved_message unsaved.NoDirectory = codes ": cannot be written: no such directory\n"
+unsaved_message unsaved.Directory = codes ": cannot be written: is a directory\n"
+unsaved_message unsaved.Same = codes ": the same file as TABLE\n"
+unsaved_message unsaved.Unknown = codes ": cannot be written\n"
 
 -- the message of a file of look-ups that is not written, or not read
 abbrev pub file_message : FileError → List ℕ
 file_message TooLarge = codes ": too large for a file of look-ups\n"
-file_message NotSaved = codes ": cannot be written\n"
+file_message (NotSaved why) = unsaved_message why
 file_message Hole = codes ": a value is -, which with --holes stands for none\n"
 file_message Unlike = codes ": no lines, and no file of look-ups\n"
 file_message Version = codes ": a file of look-ups of another version\n"
@@ -280,7 +296,8 @@ abbrev pub status_of : Result Verdict CommandError → ℕ
 status_of (Ok verdict) = answer_status verdict
 status_of (Err error.NoMemory) = 3
 status_of (Err error.Output) = 3
-status_of (Err (error.File name NotSaved)) = 3
+status_of (Err (error.File name (NotSaved unsaved.Same))) = 2
+status_of (Err (error.File name (NotSaved why))) = 3
 status_of (Err e) = 2
 
 -- the run ends with this error, and nothing is written to standard output
@@ -298,7 +315,7 @@ abbrev pub RunsFaulty : Bool → List (List ℕ) → (List ℕ → Option Text) 
 RunsFaulty false names contents refused request closed out new_out err new_err status = (new_out ≡ out) × (new_err ≡ err) × (status ≡ 2)
 RunsFaulty true names contents refused request closed out new_out err new_err status = (read : List ℕ → Option Text) × (answered : ℕ)
     × ((name : List ℕ) → IsGoodFile (has name names) request (contents name) (read name))
-    × RunsAnswer read (record { memory = refused.memory; folder = true }) request closed out new_out err new_err answered × (status ≡ max answered 2)
+    × RunsAnswer read (record { memory = refused.memory; folder = Some unsaved.Denied }) request closed out new_out err new_err answered × (status ≡ max answered 2)
 
 -- a request of whose lists each line in error is told, up to a list that can't be read, and then nothing is written; where
 -- there is none, the request is answered
@@ -343,20 +360,15 @@ RunsOnce reading contents refused request closed out new_out err new_err status 
 abbrev pub empty : State
 empty = record { taken = Some []; failed = false }
 
--- the error is that this file can't be written
-abbrev pub IsNotSaved : List ℕ → CommandError → Type 0
-IsNotSaved name (error.File file NotSaved) = file.now ≡ name
-IsNotSaved name e = ⊥
-
 -- what becomes of a request whose answer goes to the file of this name: nothing is written to standard output, and a text in
--- memory takes the answer. Where there is memory for it, the run ends as the request does, or the file can't be written; else
+-- memory takes the answer. Where there is memory for it, the run ends as the request does, or the file is not written; else
 -- that there is none is the error, and not that the output failed. What the file is then is said in `Leaving`. `before` tells
 -- what was refused before the text was there; `compile`, which writes a file itself, has no `-o`.
 abbrev pub RunsInto : List ℕ → Reading → (List ℕ → Option (List ℕ)) → Refusals → Request → State → State → State → State → ℕ → Type 0
 RunsInto name reading contents refused request out new_out err new_err status = (new_out ≡ out)
     × ((before : Refusals) × (text mid : State) × (answered : ℕ) × RunsOnce reading contents before request text.failed empty text err mid answered
     × (((text.failed ≡ false) × (before.memory ≡ refused.memory) × (new_err ≡ mid) × (status ≡ answered))
-    ⊎ (((text.failed ≡ false) × (answered ≤ 1) × (refused.folder ≡ true) × (e : CommandError) × IsNotSaved name e × Reports false (Err e) mid new_err
+    ⊎ (((text.failed ≡ false) × (answered ≤ 1) × (why : Unsaved) × (refused.folder ≡ Some why) × (e : CommandError) × IsNotSaved name why e × Reports false (Err e) mid new_err
     × (status ≡ status_of (Err e)))
     ⊎ ((text.failed ≡ true) × (refused.memory ≡ true) × Tells mid new_err (codes "no memory\n") × (status ≡ 3)))))
 
@@ -405,5 +417,5 @@ IntoFound name reading contents refused request err new_err status = (closed : B
 abbrev pub RunsGood : List Kept → (List ℕ → Option Text) → Refusals → Request → Bool → State → State → State → State → ℕ → Type 0
 RunsGood lists contents refused request closed out new_out err new_err status = (bits : ListForm) × (answered : ℕ)
     × ((name : List ℕ) (text : Text) → contents name ≡ Some text → text.form ≡ bits)
-    × RunsAnswer (good_files bits lists contents) (record { memory = refused.memory; folder = true }) request closed out new_out err new_err answered
+    × RunsAnswer (good_files bits lists contents) (record { memory = refused.memory; folder = Some unsaved.Denied }) request closed out new_out err new_err answered
     × (status ≡ max answered 2)

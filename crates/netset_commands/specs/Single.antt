@@ -11,9 +11,9 @@ use Rattle.cidr.specs.declared.addr.ip.IpAddr.{IpAddr}
 use Rattle.cidr.specs.declared.cidr.combined.IpCidr.{IpCidr}
 use Rattle.cidr.specs.declared.inet.combined.IpInet.{IpInet}
 use Rattle.cidr_ext.specs.model.Inside.{IsAddressAt}
-use Rattle.cidr_ext.specs.texts.TextFaults.{IsFaultOf}
 use Rattle.cidr_lists.specs.Descriptions.{IsHostLines}
 use Rattle.cidr_lists.specs.Printing.{line}
+use Rattle.cidr_lists.specs.Wrong.{IsWrong}
 use Rattle.netset_commands.specs.declared.output.answers.Verdict.{Verdict}
 use Rattle.netset_commands.specs.declared.output.answers.Verdict.TheVariants.{Yes, No}
 use Rattle.netset_commands.specs.declared.errors.ArgumentError.{ArgumentError}
@@ -45,16 +45,16 @@ IsSingleAnswer (Show text) answer verdict =
 IsSingleAnswer (Nth net place) answer verdict =
     (network : IpCidr) × (i : ℕ) × IsIpNetworkText net network × IsNumber place i × IsNthText network i answer verdict
 
--- the string is no network, and this is its first fault, if it has one, and the first error
+-- the string is no network: what is wrong with it, if that can be told, and the first error
 abbrev pub IsNoNetwork : List ℕ → ArgumentError → Type 0
-IsNoNetwork text (bad.Network fault e) = IsIpRefused text e × ((n : IpCidr) → ¬ (IsIpNetworkText text n)) × IsFaultOf text fault
+IsNoNetwork text (bad.Network wrong e) = IsIpRefused text e × ((n : IpCidr) → ¬ (IsIpNetworkText text n)) × IsWrong text wrong
 IsNoNetwork text e = ⊥
 
 -- the first argument that is wrong, and its error: no network, and else no index below 2^128
 abbrev pub IsBadSingle : SingleRequest → List ℕ → ArgumentError → Type 0
-IsBadSingle (Show host) text (bad.Network fault e) =
-    (text ≡ host) × IsIpHostRefused host e × ((h : IpInet) → ¬ (IsIpHostText host h)) × IsFaultOf host fault
-IsBadSingle (Nth net place) text (bad.Network fault e) = (text ≡ net) × IsNoNetwork net (bad.Network fault e)
+IsBadSingle (Show host) text (bad.Network wrong e) =
+    (text ≡ host) × IsIpHostRefused host e × ((h : IpInet) → ¬ (IsIpHostText host h)) × IsWrong host wrong
+IsBadSingle (Nth net place) text (bad.Network wrong e) = (text ≡ net) × IsNoNetwork net (bad.Network wrong e)
 IsBadSingle (Nth net place) text bad.Index =
     (text ≡ place) × (network : IpCidr) × IsIpNetworkText net network × ((i : ℕ) → IsNumber place i → 2 ^ 128 ≤ i)
 IsBadSingle request text e = ⊥

@@ -1,9 +1,9 @@
 //! Why a list can't be read, and why a command gave no answer.
 
 use cidr::errors::NetworkParseError;
-use cidr_ext::TextFault;
 use cidr_io::lines;
 use cidr_lists::errors::LineError;
+use cidr_lists::wrong::Wrong;
 use std::alloc::AllocError;
 
 /// Why a list can't be read.
@@ -107,8 +107,8 @@ impl From<AllocError> for UsageError<'_> {
 /// Why an argument is wrong.
 #[derive(Drop)]
 pub enum ArgumentError {
-    /// It is no network or no host: its first fault, if it has one, and the error of parsing it.
-    Network(Option<TextFault>, NetworkParseError),
+    /// It is no network or no host: what is wrong with it, if that can be told, and the error of parsing it.
+    Network(Option<Wrong>, NetworkParseError),
     /// It is no prefix length of networks inside the network.
     Length,
     /// It is no network and no address, and no file of this name can be read.
@@ -127,8 +127,25 @@ pub enum ArgumentError {
     Separator,
     /// It is the standard input, which is read already.
     ReadTwice,
-    /// It is the table that is read, and was to be written.
+}
+
+/// Why a file is not written, as far as the system tells it.
+#[derive(Clone, Copy, Drop)]
+pub enum Unsaved {
+    /// There is no room for it.
+    Full,
+    /// It may not be written.
+    Denied,
+    /// Nothing is written in its file system.
+    ReadOnly,
+    /// There is no directory for it.
+    NoDirectory,
+    /// It is a directory.
+    Directory,
+    /// It is the table that is read.
     Same,
+    /// Anything else, as that it is a device, or a link that leads nowhere.
+    Unknown,
 }
 
 /// Why a file is not written, or one of look-ups not read, or its table not told.
@@ -136,8 +153,8 @@ pub enum ArgumentError {
 pub enum FileError {
     /// The table has 2^31 networks of a family or more, or values of 2^32 bytes or more.
     TooLarge,
-    /// The file can't be written; if there was one, it is left as it was.
-    NotSaved,
+    /// The file is not written; if there was one, it is left as it was.
+    NotSaved(Unsaved),
     /// A value of the table is `-`, which is written where addresses have none.
     Hole,
     /// It has the first byte of a file of look-ups, with which no line begins, and not the others of its first word.

@@ -12,6 +12,7 @@ ghost use Rattle.cidr_lists.specs.Formats.{style_in};
 ghost use Rattle.netset_commands.specs.Sets.{Prints};
 ghost use Rattle.cidr_lists.specs.Sets.{networks_of};
 ghost use Rattle.netset_commands.specs.declared.errors.CommandError.{CommandError};
+ghost use Rattle.netset_commands.specs.declared.errors.Unsaved.{Unsaved};
 ghost use Rattle.netset_commands.specs.Program.{AnswersRequest, IntoFound, IsCaused, IsNotSaved, IsReadTwice, IsWrong, KeepsGoing, Runs, RunsFound, RunsGood, contents_in, RunsRequest, contents_of};
 ghost use Rattle.netset_commands.specs.Typed.{AnswersTyped};
 
@@ -37,7 +38,7 @@ use crate::commands::split::split;
 use crate::commands::table::Verb;
 use crate::commands::which::{address_of, which};
 use crate::commands::{AtFault, Command, Reading, name_input_twice};
-use crate::errors::{ArgumentError, CommandError, FileError, UsageError};
+use crate::errors::{ArgumentError, CommandError, FileError, Unsaved, UsageError};
 use crate::input::files::{Files, ReadBy, Sources};
 use crate::input::good::GoodLists;
 use crate::input::headed::Headed;
@@ -56,8 +57,8 @@ use cidr_io::writing::write_text;
 use cidr_lists::formats::Style;
 use cidr_lists::sets::{Form, Sets};
 
-/// The version, and below it the line that `rt version` prints of the kit that proves it.
-pub const VERSION: &str = "netset 0.1.0\nrattle-kit-13f logic dac8208d650f15bf\n";
+/// The version, and below it the logic in which it is proved, as `rt version` names it.
+pub const VERSION: &str = "netset 0.1.0\nlogic dac8208d650f15bf\n";
 
 /// Writes what an operation has made: the networks, their ranges, or how many addresses they have.
 fn write_made<O: Sink>(operation: Operation, sets: &Sets, out: &mut O) -> Result<(), OutputFailed>
@@ -216,7 +217,7 @@ fn answer_good<'a, M: Memory, F: Sources, O: Output, E: Sink>(
     err: &mut E,
 ) -> u8
     ensures above { 2 ≤ result }
-    ensures runs { (folder : Bool) → RunsGood lists.now (F.contents sources.now) (record { memory = M.refused memory.new; folder = folder }) (request_of command.entry)
+    ensures runs { (folder : Option Unsaved) → RunsGood lists.now (F.contents sources.now) (record { memory = M.refused memory.new; folder = folder }) (request_of command.entry)
         (O.closed out.new) (O.Sink.state out.old) (O.Sink.state out.new) (E.state err.old) (E.state err.new) result }
 {
     let good = GoodLists {
@@ -340,11 +341,11 @@ fn answer_once<'a, M: Memory, F: Files, D: Folder, O: Output, E: Sink>(
     answer_read(memory, &headed, folder, reading, command, out, err)
 }
 
-/// The error of a file that can't be written.
-fn unsaved<'a>(name: &'a str) -> CommandError<'a>
-    ensures { IsNotSaved name.now result }
+/// The error of a file that is not written.
+fn unsaved<'a>(name: &'a str, why: Unsaved) -> CommandError<'a>
+    ensures { IsNotSaved name.now why result }
 {
-    CommandError::File(name, FileError::NotSaved)
+    CommandError::File(name, FileError::NotSaved(why))
 }
 
 /// Answers a command whose lists are read this way into memory, writes the answer, if there is one, to the file of a name,
@@ -371,9 +372,9 @@ fn answer_into<'a, M: Memory, F: Files, D: Folder, E: Sink>(
     if status > 1 {
         return status;
     }
-    match folder.replace(name, text.as_slice()) {
+    match folder.replace(name, None, text.as_slice()) {
         Ok(()) => status,
-        Err(_) => report(&Err(unsaved(name)), false, err),
+        Err(why) => report(&Err(unsaved(name, why)), false, err),
     }
 }
 

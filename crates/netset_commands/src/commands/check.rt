@@ -20,13 +20,13 @@ use crate::output::answers::Verdict;
 use arrayvec::ArrayString;
 use cidr::IpCidr;
 use cidr_io::block::Block;
+use cidr_io::decimal::decimal_text;
 use cidr_io::memory::Memory;
 use cidr_io::shown::Part;
 use cidr_io::sink::{OutputFailed, Sink};
 use cidr_lists::entries::{Entry, entry_at};
 use cidr_lists::findings::{Finding, Kind, Note, find};
 use cidr_lists::near::{Near, near_at, near_lines};
-use itoa::Buffer;
 
 /// The parts of the line of a finding: its place and what is found.
 pub fn found_parts<'a>(
@@ -90,9 +90,8 @@ fn push_note<S: Sink>(block: &mut Block, out: &mut S, note: &Note<'_>) -> Result
     ensures { Collects (S.state out.old) (S.state out.new) block.old block.new (note_line note.now) result }
 {
     let file = note.place.file;
-    let mut buffer = Buffer::new();
-    let number = buffer.format(note.place.number);
-    let mut digits = Buffer::new();
+    let digits = decimal_text(u128::from(note.place.number));
+    let number = digits.as_str();
     match &note.finding {
         Finding::HostBits => {
             let parts = found_parts(file, number, ": host bits set", "");
@@ -104,19 +103,19 @@ fn push_note<S: Sink>(block: &mut Block, out: &mut S, note: &Note<'_>) -> Result
             block.push_message(out, &parts)
         }
         Finding::Repeats(place) => {
-            let line = digits.format(place.number);
-            let parts = placed_parts(file, number, ": repeats ", place.file, line);
+            let line = decimal_text(u128::from(place.number));
+            let parts = placed_parts(file, number, ": repeats ", place.file, line.as_str());
             block.push_message(out, &parts)
         }
         Finding::Inside(outer, place) => {
-            let line = digits.format(place.number);
+            let line = decimal_text(u128::from(place.number));
             let words = inside_words(outer);
-            let parts = placed_parts(file, number, words.as_str(), place.file, line);
+            let parts = placed_parts(file, number, words.as_str(), place.file, line.as_str());
             block.push_message(out, &parts)
         }
         Finding::Mergeable(place) => {
-            let line = digits.format(place.number);
-            let parts = placed_parts(file, number, ": mergeable with ", place.file, line);
+            let line = decimal_text(u128::from(place.number));
+            let parts = placed_parts(file, number, ": mergeable with ", place.file, line.as_str());
             block.push_message(out, &parts)
         }
     }

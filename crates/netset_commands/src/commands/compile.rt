@@ -4,7 +4,7 @@ ghost use Rattle.netset_commands.specs.Commands.{Compile};
 ghost use Rattle.netset_commands.specs.Leaving.{Leaves};
 ghost use Rattle.netset_commands.specs.Program.{IsCaused, IsCompiled, IsSameFile};
 
-use crate::errors::{ArgumentError, CommandError, FileError};
+use crate::errors::{CommandError, FileError, Unsaved};
 use crate::input::files::Sources;
 use crate::input::table::read_table;
 use crate::output::answers::Verdict;
@@ -18,7 +18,7 @@ pub fn same_file<'a>(table: &'a str, name: &'a str) -> Option<CommandError<'a>>
     ensures { MatchOption result (table.now ≢ name.now) (IsSameFile table.now name.now) }
 {
     if table == name {
-        return Some(CommandError::Argument(name, ArgumentError::Same));
+        return Some(CommandError::File(name, FileError::NotSaved(Unsaved::Same)));
     }
     None
 }
@@ -46,8 +46,8 @@ pub fn compile<'a, M: Memory, F: Sources, D: Folder>(
     let Some(bytes) = file else {
         return Err(CommandError::File(table, FileError::TooLarge));
     };
-    match folder.replace(name, bytes.as_slice()) {
+    match folder.replace(name, Some(table), bytes.as_slice()) {
         Ok(()) => Ok(Verdict::Yes),
-        Err(_) => Err(CommandError::File(name, FileError::NotSaved)),
+        Err(why) => Err(CommandError::File(name, FileError::NotSaved(why))),
     }
 }

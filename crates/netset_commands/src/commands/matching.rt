@@ -23,6 +23,7 @@ use crate::input::several::read_addresses;
 use crate::output::answers::{Verdict, by_output};
 use crate::output::printing::catch_up;
 use cidr_io::block::Block;
+use cidr_io::decimal::decimal_text;
 use cidr_io::lines::{LineReader, ReadError, is_too_long};
 use cidr_io::memory::Memory;
 use cidr_io::sink::{OutputFailed, Sink};
@@ -31,7 +32,6 @@ use cidr_lists::columns::Column;
 use cidr_lists::errors::LineError;
 use cidr_lists::fields::network_at;
 use cidr_lists::sets::Sets;
-use itoa::Buffer;
 
 /// What is written of the lines that are picked.
 #[derive(Clone, Copy, Drop, PartialEq)]
@@ -351,9 +351,8 @@ impl Gathered {
     {
         match matcher.written {
             Written::Count => {
-                let mut digits = Buffer::new();
-                let count = digits.format(self.count);
-                self.push_named(matcher.name, out, count.as_bytes())
+                let count = decimal_text(u128::from(self.count));
+                self.push_named(matcher.name, out, count.as_str().as_bytes())
             }
             Written::Lines | Written::Nothing => Ok(()),
         }

@@ -15,12 +15,13 @@ use crate::output::answers::{Verdict, by_output};
 use crate::output::report::write_line;
 use arrayvec::ArrayString;
 use cidr::{IpCidr, IpInet};
-use cidr_ext::{AddressReverseName, CidrExt, text_fault};
+use cidr_ext::{AddressReverseName, CidrExt};
+use cidr_io::decimal::decimal_text;
 use cidr_io::sink::{OutputFailed, Sink};
 use cidr_io::writing::write_text;
 use cidr_lists::classes::class_text;
 use cidr_lists::descriptions::{family_name, usable_text};
-use itoa::Buffer;
+use cidr_lists::wrong::wrong_with;
 
 /// A command on one host or network, and its arguments.
 #[derive(Clone, Copy)]
@@ -55,7 +56,7 @@ fn write_host<S: Sink>(
             "\nhostmask ",
             network.host_mask().to_text().as_str(),
             "\nlength ",
-            Buffer::new().format(network.network_length()),
+            decimal_text(u128::from(network.network_length())).as_str(),
             "\nfamily ",
             family_name(network.family()),
             "\nusable ",
@@ -78,7 +79,7 @@ fn show<'a, S: Sink>(text: &'a str, out: &mut S) -> Result<Verdict, CommandError
             let (class, _) = class_text(&host.address());
             by_output(Verdict::Yes, write_host(&host, class, out))
         }
-        Err(e) => Err(CommandError::Argument(text, ArgumentError::Network(text_fault(text), e))),
+        Err(e) => Err(CommandError::Argument(text, ArgumentError::Network(wrong_with(text), e))),
     }
 }
 
@@ -89,7 +90,7 @@ pub fn network_of<'a>(text: &'a str) -> Result<IpCidr, CommandError<'a>>
 {
     match text.parse() {
         Ok(network) => Ok(network),
-        Err(e) => Err(CommandError::Argument(text, ArgumentError::Network(text_fault(text), e))),
+        Err(e) => Err(CommandError::Argument(text, ArgumentError::Network(wrong_with(text), e))),
     }
 }
 

@@ -83,7 +83,7 @@ const SAME: &str =
     "netset same A B         the networks whose addresses have another value, or none, in the table B\n                        than in A, as -NET VALUE by A and +NET VALUE by B\n";
 
 const FREE: &str =
-    "netset free [--all] [--count N] POOL LEN [USED..]\n                        the first network of this prefix length in the addresses of a\n                        network or of a list that no list of USED has, --all all of\n                        them, --count the first N\n";
+    "netset free [--all] [--count N] POOL LEN [USED..]\n                        the first network of this prefix length in the addresses of a\n                        network or of a list that no list of USED has, --all all of\n                        them, --count the first N, which is below 2^64\n";
 
 const ACL: &str =
     "netset acl [--shadowed] [--diff OLD] RULES\n                        the addresses that an access list permits, whose lines are permit NET\n                        and deny NET, and the first that has an address decides; --shadowed\n                        the rules that no address reaches, each with the earlier ones that\n                        cover it; --diff what is permitted more than by OLD, as +NET, and\n                        what less, as -NET, in the format plain or json\n";
@@ -95,10 +95,10 @@ const WHICH: &str =
     "netset which ADDR [FILE..]\n                        the lines of the lists that have an address, which may be hosts too,\n                        and their networks\n";
 
 const MATCH: &str =
-    "netset match [--any] [--field N] [--separator C] [--header] [-v] [-c] [-q] LIST [FILE..]\n                        the lines of FILE whose first field lies in LIST, --field N whose\n                        field N does, --separator C of fields with byte C between them and\n                        not white space; --any the lines that have an address of LIST\n                        anywhere; --header the first line too, which is a header; -v all\n                        the other lines, -c only their number, -q only the status; of more\n                        than one file each line behind its name and a colon\n";
+    "netset match [--any] [--field N] [--separator C] [--header] [-v] [-c] [-q] LIST [FILE..]\n                        the lines of FILE whose first field lies in LIST, --field N whose\n                        field N does, and with it --separator C of fields with byte C between\n                        them and not white space; --any the lines that have an address of LIST\n                        anywhere; --header the first line too, which is a header; -v all\n                        the other lines, -c only their number, -q only the status; of more\n                        than one file each line behind its name and a colon\n";
 
 const LOOK: &str =
-    "netset look [--any] [--field N] [--separator C] [--header] [--keep] [--format plain|json] TABLE [FILE]\n                        the longest network of the first field of each line of FILE in the\n                        rows NET VALUE of TABLE, and its value; --field N of field N,\n                        --separator C of fields with byte C between them, --any of the first\n                        address anywhere; --keep writes the lines of FILE, each with the\n                        network and value behind it; --format json an object of JSON for\n                        each address, whose value has to be UTF-8; --header passes over the\n                        first line, a header, which --keep writes as it is\n";
+    "netset look [--any] [--field N] [--separator C] [--header] [--keep] [--format plain|json] TABLE [FILE]\n                        the longest network of the first field of each line of FILE in the\n                        rows NET VALUE of TABLE, and its value; --field N of field N,\n                        with it --separator C of fields with byte C between them, --any of the first\n                        address anywhere; --keep writes the lines of FILE, each with the\n                        network and value behind it; --format json an object of JSON for\n                        each address, whose value has to be UTF-8; --header passes over the\n                        first line, a header, which --keep writes as it is\n";
 
 const COMPILE: &str =
     "netset compile TABLE OUT\n                        writes the table into the file OUT, which look and match take in the\n                        place of TABLE and LIST, and read none of its lines\n";
@@ -126,7 +126,7 @@ const NTH: &str = "netset nth NET INDEX    the address of a network at an index,
 const HELP: &str = "netset help [COMMAND]   this page, or what it says of a command\n";
 
 const VERSION: &str =
-    "netset --version        the version, and the line of the kit that proves the program\n";
+    "netset --version        the version, and the logic in which the program is proved\n";
 
 pub const HOST_BITS: &str =
     "--host-bits             a bit set behind the prefix of a network in a list is taken as unset,\n                        and is no error\n--masks                 a network in a list may have a mask in place of its prefix length, as\n                        192.0.2.0/255.255.255.0 and 192.0.2.0 0.0.0.255\n";
@@ -138,7 +138,7 @@ pub const SKIP_BAD: &str =
     "--skip-bad              each line of a list in error is told, and the answer is that of the other\n                        lines; the status is 2 then, or 3; it goes neither with -k nor with -o\n";
 
 pub const FORMS: &str =
-    "--form NAME             how lines are read: those of a list by rir, the records in which the\n                        Internet registries publish what they have delegated; the rows of a\n                        table by pfx2as, an address, its prefix length and the value, as CAIDA\n                        has them, or by routes or routes6, as ip route prints those of IPv4\n                        and of IPv6, and default is all addresses\n";
+    "--form NAME             how lines are read: those of lists by rir, the records in which the\n                        Internet registries publish what they have delegated; the rows of the\n                        tables of look, compile, same and smallest by pfx2as, an address, its\n                        prefix length and the value, as CAIDA has them, or by routes or\n                        routes6, as ip route prints those of IPv4 and of IPv6, and default is\n                        all addresses\n";
 
 pub const TABLE_SEPARATOR: &str =
     "--table-separator C     byte C stands between the fields of a row, as in CSV without quotes,\n                        and not white space\n--table-fields N,M      field N of a row is the network and field M its value, from 1 on, and\n                        not the first one and the rest of the row\n--table-header          the first line of a table is a header, whatever it says; not for a file of\n                        look-ups, which has none\n";
@@ -154,7 +154,7 @@ pub const OPTIONS: &str =
     "\nOptions stand anywhere behind the command; those of one letter may be joined, as -vc:\n";
 
 pub const LISTS: &str =
-    "-h, --help              what this page says of the command\n--                      what is behind it are no options\n--host-bits and --masks are for commands that read lists, but check and which, -k for all that read\nlists but acl, --skip-bad for these but compile; --format, --prefix and --suffix are for merge,\nnets, minus, and, not, acl, free and split, -o for these, ranges, count, diff, same, smallest,\nreverse and mask, --form for all with --host-bits but acl, --table-separator and --table-header for\nlook, compile, same and smallest.\n\nA line of a list is a network, an address or a range FIRST-LAST, and may end in a comment\nfrom # or ; on. The file - is the standard input, which is also read where no file is named.\nStatus: 0 done, 1 none, a difference or findings, 2 usage, a wrong argument, a file that\ncannot be read or a line in error, 3 output or memory.\n";
+    "-h, --help              what this page says of the command\n--                      what is behind it are no options\n--host-bits and --masks are for commands that read lists, but check and which, -k for all that read\nlists but acl, --skip-bad for these but compile; --format, --prefix and --suffix are for merge,\nnets, minus, and, not, acl, free and split, -o for these, ranges, count, diff, same, smallest,\nreverse and mask, --form for all with --host-bits but acl, --table-separator, --table-fields and\n--table-header for look, compile, same and smallest.\n\nA line of a list is a network, an address or a range FIRST-LAST, and may end in a comment\nfrom # or ; on. The file - is the standard input, which is also read where no file is named.\nStatus: 0 done, 1 none, a difference or findings, 2 usage, a wrong argument, a file that\ncannot be read or a line in error, 3 output or memory.\n";
 
 /// The commands, in their order on the page.
 pub fn commands() -> &'static [Verb]

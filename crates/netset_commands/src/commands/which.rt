@@ -17,10 +17,10 @@ use crate::input::files::Sources;
 use crate::output::answers::{Verdict, by_output};
 use cidr::IpAddr;
 use cidr_io::block::Block;
+use cidr_io::decimal::decimal_text;
 use cidr_io::memory::Memory;
 use cidr_io::sink::{OutputFailed, Sink};
 use cidr_lists::entries::Entry;
-use itoa::Buffer;
 
 /// The address that an argument is.
 pub fn address_of<'a>(text: &'a str) -> Result<IpAddr, CommandError<'a>>
@@ -58,14 +58,9 @@ fn push_which<S: Sink>(
     if !has_address(entry, address) {
         return Ok(());
     }
-    let mut digits = Buffer::new();
+    let digits = decimal_text(u128::from(entry.place.number));
     let network = entry.host.network().to_text();
-    let parts = found_parts(
-        entry.place.file,
-        digits.format(entry.place.number),
-        ": ",
-        network.as_str(),
-    );
+    let parts = found_parts(entry.place.file, digits.as_str(), ": ", network.as_str());
     block.push_message(out, &parts)
 }
 

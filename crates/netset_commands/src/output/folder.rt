@@ -1,31 +1,33 @@
 //! Where files are written.
-ghost use Rattle.std.specs.Prelude.{◌≡◌, ℕ, Bool, true, List, [], Option, None, Some, OnErr, OnOk};
-ghost use Rattle.netset_commands.specs.Saving.{Saves};
+ghost use Rattle.std.specs.Prelude.{◌≡◌, false, [], Option, None, Some, IfErr, OnOk};
+ghost use Rattle.netset_commands.specs.Command.{given};
+ghost use Rattle.netset_commands.specs.Saving.{Told, Saves};
+ghost use Rattle.netset_commands.specs.declared.errors.Unsaved.{Unsaved};
+ghost use Rattle.netset_commands.specs.declared.errors.Unsaved.TheVariants.{Denied};
 
+use crate::errors::Unsaved;
 use arrayvec::ArrayString;
-use itoa::Buffer;
 use std::alloc::Alloc;
-use std::fs::{OpenFile, OpenOptions, Permissions};
-use std::io::Write;
+use std::fs::{File, Metadata, OpenOptions, Permissions};
+use std::io::{ErrorKind, Write};
+use std::os::unix::fs::{MetadataExt, OpenOptionsExt, PermissionsExt, fchown};
+use std::random::RandomSource;
 use std::{fs, io, rt};
-
-/// A file was not written. If there was one of its name, it is left as it was.
-#[derive(Clone, Copy, Drop)]
-pub struct NotSaved;
 
 /// Where a run writes files, each whole or not at all.
 pub trait Folder {
-    /// The files that were written, each with its name and its bytes, in order, if they are told.
-    ghost saved: { Self → Option (List (List ℕ × List ℕ)) };
+    /// The files that were written, and which names are those of one file, if they are told.
+    ghost saved: { Self → Option Told };
 
-    /// Whether a file was not written.
-    ghost refused: { Self → Bool };
+    /// Why the last file was not written of those that were not, if there is one.
+    ghost refused: { Self → Option Unsaved };
 
-    /// Writes a file of this name, in place of the one that has it. An error is remembered.
-    fn replace(&mut self, name: &str, bytes: &[u8]) -> Result<(), NotSaved>
-        ensures saves { Saves (saved self.old) (saved self.new) name.now bytes.now result }
+    /// Writes a file of this name, in place of the one that has it, but not of the file that was read, if its name is given. An
+    /// error is remembered.
+    fn replace(&mut self, name: &str, read: Option<&str>, bytes: &[u8]) -> Result<(), Unsaved>
+        ensures saves { Saves (saved self.old) (saved self.new) (given read.entry) name.now bytes.now result }
         ensures kept { OnOk result (refused self.new ≡ refused self.old) }
-        ensures refused { OnErr result (refused self.new ≡ true) };
+        ensures refused { IfErr result (λ why. refused self.new ≡ Some why) };
 }
 
 /// A folder in which nothing is written.
@@ -33,123 +35,218 @@ pub trait Folder {
 pub struct Sealed;
 
 impl Folder for Sealed {
-    ghost saved = { λ _. Some [] };
+    ghost saved = { λ _. Some (record { files = []; are_one = λ _ _. false }) };
 
-    ghost refused = { λ _. true };
+    ghost refused = { λ _. Some Denied };
 
-    fn replace(&mut self, _name: &str, _bytes: &[u8]) -> Result<(), NotSaved> {
-        Err(NotSaved)
+    fn replace(&mut self, _name: &str, _read: Option<&str>, _bytes: &[u8]) -> Result<(), Unsaved> {
+        Err(Unsaved::Denied)
     }
 }
-
-/// How many names of new files are tried, of which each may be that of a file that an earlier run left.
-const NAMES: u32 = 100;
 
 /// How many bytes the name of a file has at most.
 const LONGEST: usize = 4096;
 
-/// The files of the system, which nothing is told of. A file is written under another name beside that of the file that
-/// it replaces, with the permissions of that one, and renamed. Where the name is a link, what it leads to is replaced. That has
-/// to be a file: no folder and no device. Of the name `-`, which is that of the standard input elsewhere, no file is written.
+/// The files of the system, which nothing is told of. A file is written under another name in the folder of the one that it
+/// replaces, with the rights of that one as far as it may have them, and renamed. Where the name is a link, what the system
+/// finds behind it is replaced. That has to be a file: no folder and no device. Of the name `-`, which is that of the standard
+/// input elsewhere, no file is written.
 #[derive(Drop)]
 pub struct Beside<'a, R: rt::Files> {
     pub runtime: &'a R,
-    /// Whether a file was not written.
-    pub refused: bool,
+    /// Why a file was not written, if one was not.
+    pub refused: Option<Unsaved>,
 }
 
-impl<R: rt::Files + Alloc> Folder for Beside<'_, R> {
+impl<R: rt::Files<File = File> + RandomSource + Alloc> Folder for Beside<'_, R> {
     ghost saved = { λ _. None };
 
     ghost refused = { λ b. b.refused };
 
-    fn replace(&mut self, name: &str, bytes: &[u8]) -> Result<(), NotSaved> {
-        let written = replace_named(self.runtime, name, bytes);
-        if written.is_err() {
-            self.refused = true;
-        }
-        written
-    }
-}
-
-/// Writes a file of this name, or what it leads to where it is a link, in place of the one that is there.
-fn replace_named<R: rt::Files + Alloc>(
-    files: &R,
-    name: &str,
-    bytes: &[u8],
-) -> Result<(), NotSaved> {
-    if name == "-" {
-        return Err(NotSaved);
-    }
-    match fs::symlink_metadata(files, name) {
-        Ok(there) if there.is_symlink() => {
-            let Ok(path) = fs::canonicalize(files, name) else {
-                return Err(NotSaved);
-            };
-            replace_file(files, path.as_path().as_str(), bytes)
-        }
-        _ => replace_file(files, name, bytes),
-    }
-}
-
-/// Writes a file of this name, which is no link, in place of the one that has it.
-fn replace_file<R: rt::Files>(files: &R, name: &str, bytes: &[u8]) -> Result<(), NotSaved> {
-    let permissions = match fs::symlink_metadata(files, name) {
-        Ok(there) => {
-            if !there.is_file() {
-                return Err(NotSaved);
+    fn replace(&mut self, name: &str, read: Option<&str>, bytes: &[u8]) -> Result<(), Unsaved> {
+        match replace_named(self.runtime, name, read, bytes) {
+            Ok(()) => Ok(()),
+            Err(why) => {
+                self.refused = Some(why);
+                Err(why)
             }
-            Some(there.permissions())
         }
-        Err(_) => None,
-    };
-    let Some((beside, file)) = create_beside(files, name) else {
-        return Err(NotSaved);
-    };
-    let beside = beside.as_str();
-    if fill(file, permissions, bytes).is_err() || fs::rename(files, beside, name).is_err() {
-        let _ = fs::remove_file(files, beside);
-        return Err(NotSaved);
+    }
+}
+
+/// Why the system did not write a file.
+fn why(kind: ErrorKind) -> Unsaved {
+    match kind {
+        ErrorKind::StorageFull | ErrorKind::QuotaExceeded => Unsaved::Full,
+        ErrorKind::PermissionDenied => Unsaved::Denied,
+        ErrorKind::ReadOnlyFilesystem => Unsaved::ReadOnly,
+        ErrorKind::NotFound | ErrorKind::NotADirectory => Unsaved::NoDirectory,
+        ErrorKind::IsADirectory => Unsaved::Directory,
+        _ => Unsaved::Unknown,
+    }
+}
+
+/// What the system says of a file, or that there is none.
+fn found(said: io::Result<Metadata>) -> Result<Option<Metadata>, Unsaved> {
+    match said {
+        Ok(there) => Ok(Some(there)),
+        Err(e) => match e.kind() {
+            ErrorKind::NotFound => Ok(None),
+            kind => Err(why(kind)),
+        },
+    }
+}
+
+/// Whether two files are one.
+fn are_one(one: &Metadata, other: &Metadata) -> bool {
+    one.dev() == other.dev() && one.ino() == other.ino()
+}
+
+/// Whether a file is the one that was read, by the name of that.
+fn was_read<R: rt::Files>(files: &R, there: &Metadata, read: &str) -> Result<bool, Unsaved> {
+    let path = if read == "-" { "/dev/stdin" } else { read };
+    match found(fs::metadata(files, path))? {
+        Some(source) => Ok(are_one(there, &source)),
+        None => Ok(false),
+    }
+}
+
+/// Says why a file can't be replaced: it is none, or it is the one that was read.
+fn check_old<R: rt::Files>(files: &R, there: &Metadata, read: Option<&str>) -> Result<(), Unsaved> {
+    if there.is_dir() {
+        return Err(Unsaved::Directory);
+    }
+    if !there.is_file() {
+        return Err(Unsaved::Unknown);
+    }
+    if let Some(read) = read {
+        if was_read(files, there, read)? {
+            return Err(Unsaved::Same);
+        }
     }
     Ok(())
 }
 
-/// A name beside that of a file, if it is not too long.
-fn name_beside(name: &str, number: u32) -> Option<ArrayString<LONGEST>> {
+/// Writes a file of this name, or what the system finds behind it where it is a link, in place of the one that is there.
+fn replace_named<R: rt::Files<File = File> + RandomSource + Alloc>(
+    files: &R,
+    name: &str,
+    read: Option<&str>,
+    bytes: &[u8],
+) -> Result<(), Unsaved> {
+    if name == "-" || name.is_empty() {
+        return Err(Unsaved::Unknown);
+    }
+    match found(fs::symlink_metadata(files, name))? {
+        None => write_beside(files, name, None, bytes),
+        Some(there) if there.is_symlink() => replace_linked(files, name, read, bytes),
+        Some(there) => {
+            check_old(files, &there, read)?;
+            write_beside(files, name, Some(&there), bytes)
+        }
+    }
+}
+
+/// Writes in place of the file that the system finds behind a link. It decides whether the link may be followed; the path
+/// that is found by reading links has to lead to the same file.
+fn replace_linked<R: rt::Files<File = File> + RandomSource + Alloc>(
+    files: &R,
+    name: &str,
+    read: Option<&str>,
+    bytes: &[u8],
+) -> Result<(), Unsaved> {
+    let Some(there) = found(fs::metadata(files, name))? else {
+        return Err(Unsaved::Unknown);
+    };
+    check_old(files, &there, read)?;
+    let path = match fs::canonicalize(files, name) {
+        Ok(path) => path,
+        Err(e) => return Err(why(e.kind())),
+    };
+    let path = path.as_path().as_str();
+    match found(fs::symlink_metadata(files, path))? {
+        Some(last) if are_one(&last, &there) => write_beside(files, path, Some(&there), bytes),
+        _ => Err(Unsaved::Unknown),
+    }
+}
+
+/// A name in the folder of another that nobody can guess, if there is one that is not too long.
+fn name_beside<R: RandomSource>(source: &R, name: &str) -> Option<ArrayString<LONGEST>> {
     let mut beside = ArrayString::new();
-    beside.try_push_str(name).ok()?;
-    beside.try_push_str(".new").ok()?;
-    beside.try_push_str(Buffer::new().format(number)).ok()?;
+    if let Some((folder, _)) = name.rsplit_once('/') {
+        beside.try_push_str(folder).ok()?;
+        beside.try_push('/').ok()?;
+    }
+    beside.try_push_str(".netset-").ok()?;
+    let mut random = [0u8; 16];
+    source.fill_bytes(&mut random).ok()?;
+    for byte in random.iter() {
+        beside.try_push(char::from(b'a' + byte % 16)).ok()?;
+    }
     Some(beside)
 }
 
-/// Creates a file beside the one of a name, and tells what it is called.
-fn create_beside<R: rt::Files>(files: &R, name: &str) -> Option<(ArrayString<LONGEST>, R::File)> {
+/// Writes a file of this name, which is no link, in place of the one that has it, if there is one.
+fn write_beside<R: rt::Files<File = File> + RandomSource>(
+    files: &R,
+    name: &str,
+    old: Option<&Metadata>,
+    bytes: &[u8],
+) -> Result<(), Unsaved> {
+    let Some(beside) = name_beside(files, name) else {
+        return Err(Unsaved::Unknown);
+    };
+    let beside = beside.as_str();
     let mut options = OpenOptions::new();
     options.write(true).create_new(true);
-    for number in 0..NAMES {
-        let beside = name_beside(name, number)?;
-        match options.open(files, beside.as_str()) {
-            Ok(file) => return Some((beside, file)),
-            Err(e) => {
-                if e.kind() != io::ErrorKind::AlreadyExists {
-                    return None;
-                }
-            }
-        }
+    if old.is_some() {
+        options.mode(0o600);
     }
-    None
+    let file = match options.open(files, beside) {
+        Ok(file) => file,
+        Err(e) => return Err(why(e.kind())),
+    };
+    if let Err(e) = fill(file, old, bytes) {
+        let _ = fs::remove_file(files, beside);
+        return Err(why(e.kind()));
+    }
+    if let Err(e) = fs::rename(files, beside, name) {
+        let _ = fs::remove_file(files, beside);
+        return Err(why(e.kind()));
+    }
+    Ok(())
 }
 
-/// Gives a file its permissions, if some are wanted, writes all its bytes, and waits until they are stored.
-fn fill<F: Write + OpenFile + Drop>(
-    mut file: F,
-    permissions: Option<Permissions>,
-    bytes: &[u8],
-) -> io::Result<()> {
-    if let Some(permissions) = permissions {
-        file.set_permissions(permissions)?;
-    }
+/// Writes all bytes to a new file, gives it the rights of the one that it replaces, if there is one, and waits until all is
+/// stored.
+fn fill(mut file: File, old: Option<&Metadata>, bytes: &[u8]) -> io::Result<()> {
     file.write_all(bytes)?;
+    if let Some(old) = old {
+        take_rights(&file, old)?;
+    }
     file.sync_all()
+}
+
+/// Gives a file the owner and the group of another, or else the group, as far as the system lets it, and the rights that go
+/// with those that it has then.
+fn take_rights(file: &File, old: &Metadata) -> io::Result<()> {
+    if fchown(file, Some(old.uid()), Some(old.gid())).is_err() {
+        let _ = fchown(file, None, Some(old.gid()));
+    }
+    let new = file.metadata()?;
+    let mode = rights(old.mode(), new.uid() == old.uid(), new.gid() == old.gid());
+    file.set_permissions(Permissions::from_mode(mode))
+}
+
+/// The rights of a file in place of one that had these, by whether it has its owner and its group: all of them if it has both.
+/// Else nothing is run as owner or group; and where the group is another, it and all others have what both had before.
+fn rights(old: u32, owner: bool, group: bool) -> u32 {
+    if owner && group {
+        return old & 0o7777;
+    }
+    if group {
+        return old & 0o777;
+    }
+    let both = old & (old >> 3) & 7;
+    (old & 0o700) | (both << 3) | both
 }

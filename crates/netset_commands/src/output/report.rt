@@ -7,16 +7,16 @@ ghost use Rattle.cidr_io.specs.Writing.{Answered, Tells, State};
 ghost use Rattle.cidr_lists.specs.Messages.{fault_line};
 ghost use Rattle.netset_commands.specs.Arguments.{misfit_text};
 ghost use Rattle.netset_commands.specs.Command.{misuse_line};
-ghost use Rattle.netset_commands.specs.Program.{Reports, ReportsUnless, argument_message, error_line, file_message, is_closed_pipe, not_text_line, reason_words, status_of};
+ghost use Rattle.netset_commands.specs.Program.{Reports, ReportsUnless, argument_message, error_line, file_message, is_closed_pipe, not_text_line, reason_words, status_of, unsaved_message};
 
-use crate::errors::{ArgumentError, CommandError, FileError, Misfit, Misuse, Reason};
+use crate::errors::{ArgumentError, CommandError, FileError, Misfit, Misuse, Reason, Unsaved};
 use crate::output::answers::Verdict;
 use arrayvec::ArrayString;
 use cidr_io::block::Block;
+use cidr_io::decimal::decimal_text;
 use cidr_io::shown::{Part, excerpt};
 use cidr_io::sink::{OutputFailed, Sink};
-use cidr_lists::errors::{LineError, fault_words};
-use itoa::Buffer;
+use cidr_lists::errors::{LineError, wrong_words};
 
 /// The message of an argument that is wrong.
 fn argument_message(error: &ArgumentError) -> ArrayString<99>
@@ -24,7 +24,7 @@ fn argument_message(error: &ArgumentError) -> ArrayString<99>
 {
     let mut text = ArrayString::new();
     match error {
-        ArgumentError::Network(fault, e) => return fault_words(fault, e.to_text()),
+        ArgumentError::Network(wrong, e) => return wrong_words(wrong, e.to_text()),
         ArgumentError::Length => text.push_str("no prefix length inside the network"),
         ArgumentError::Index => text.push_str("no index below 2^128"),
         ArgumentError::Count => text.push_str("no count below 2^64"),
@@ -36,7 +36,6 @@ fn argument_message(error: &ArgumentError) -> ArrayString<99>
             text.push_str("no network and no address, and no file that can be read");
         }
         ArgumentError::ReadTwice => text.push_str("standard input can be read only once"),
-        ArgumentError::Same => text.push_str("the same file as TABLE"),
     }
     text
 }
@@ -110,13 +109,28 @@ fn unread_parts<'a>(name: &'a str, why: &'a str) -> [Part<'a>; 4]
     ]
 }
 
+/// What is told of a file that is not written.
+fn unsaved_message(why: Unsaved) -> &'static str
+    ensures { result.now ≡ unsaved_message why }
+{
+    match why {
+        Unsaved::Full => ": cannot be written: no space left\n",
+        Unsaved::Denied => ": cannot be written: permission denied\n",
+        Unsaved::ReadOnly => ": cannot be written: read-only file system\n",
+        Unsaved::NoDirectory => ": cannot be written: no such directory\n",
+        Unsaved::Directory => ": cannot be written: is a directory\n",
+        Unsaved::Same => ": the same file as TABLE\n",
+        Unsaved::Unknown => ": cannot be written\n",
+    }
+}
+
 /// What is told of a file of look-ups that is not written, or not read.
 fn file_message(error: FileError) -> &'static str
     ensures { result.now ≡ file_message error }
 {
     match error {
         FileError::TooLarge => ": too large for a file of look-ups\n",
-        FileError::NotSaved => ": cannot be written\n",
+        FileError::NotSaved(why) => unsaved_message(why),
         FileError::Hole => ": a value is -, which with --holes stands for none\n",
         FileError::Unlike => ": no lines, and no file of look-ups\n",
         FileError::Version => ": a file of look-ups of another version\n",
@@ -144,9 +158,9 @@ pub fn say_fault<E: Sink>(
     ensures { (start : State) (text : List ℕ) → HasSaid start (E.state err.old) block.old text
         → HasSaid start (E.state err.new) block.new (text ++ fault_line file.now (number, error.now)) }
 {
-    let mut digits = Buffer::new();
+    let digits = decimal_text(u128::from(number));
     let message = error.message();
-    let parts = fault_parts(file, digits.format(number), message.as_str());
+    let parts = fault_parts(file, digits.as_str(), message.as_str());
     block.say_message(err, &parts);
 }
 
@@ -178,7 +192,11 @@ fn say<E: Sink>(error: &CommandError<'_>, err: &mut E)
         ),
         CommandError::Line(name, number, e) => write_message(
             err,
-            &fault_parts(name, Buffer::new().format(*number), e.message().as_str()),
+            &fault_parts(
+                name,
+                decimal_text(u128::from(*number)).as_str(),
+                e.message().as_str(),
+            ),
         ),
         CommandError::Input(name, why) => {
             write_message(err, &unread_parts(name, reason_words(*why)))
@@ -215,7 +233,8 @@ fn status_of(error: &CommandError<'_>) -> u8
     match error {
         CommandError::Argument(_, _) | CommandError::Line(_, _, _) | CommandError::Input(_, _) => 2,
         CommandError::NoMemory | CommandError::Output => 3,
-        CommandError::File(_, FileError::NotSaved) => 3,
+        CommandError::File(_, FileError::NotSaved(Unsaved::Same)) => 2,
+        CommandError::File(_, FileError::NotSaved(_)) => 3,
         CommandError::File(_, _) => 2,
     }
 }

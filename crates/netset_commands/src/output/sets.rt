@@ -11,11 +11,11 @@ use crate::errors::CommandError;
 use crate::output::answers::{Verdict, by_output};
 use crate::output::printing::write_networks;
 use crate::output::report::write_line;
+use cidr_io::decimal::count_text;
 use cidr_io::memory::Memory;
 use cidr_io::sink::{OutputFailed, Sink};
 use cidr_io::writing::{flush, write_all};
 use cidr_lists::formats::Style;
-use cidr_lists::printing::count_text;
 use cidr_lists::sets::Sets;
 
 /// Writes the networks, one a line. An output that has failed before gets nothing.

@@ -26,7 +26,7 @@ loop-value-preserved g c =
     let own = map f l.networks.items in
     let p = any_bits c.in-Some.network in
     let more =
-    item_more IsNetworkValue (λ (v : CValue). any_bits (network_in v)) values i (record { high = 0; low = 0; tag = 0 }) ns c.loop-value-test.true
+    item_more IsNetworkValue (λ (v : CValue). any_bits (network_in v)) values i (record { high = 0; low = 0; tag = 0; zero_17 = 0; zero_18 = 0; zero_20 = 0 }) ns c.loop-value-test.true
     l.invariant.0 refl told.0 in
     let same : ns ++ p ∷ [] ≡ bits_in (take (i + 1) values) = ap (λ (n : AnyIpCidr). ns ++ any_bits n ∷ []) told.1 ∙ more.1 in
     let Taken : List (List Bool) → Type 0 = IsTaken family (bits_in (take (i + 1) values)) in

@@ -29,8 +29,8 @@ loop-i-preserved g c =
     let p = any_bits c.args.asked.now in
     let Holds = g.R.Relation.Holds in
     let told = c.in-Some.ensures in
-    let same = at_index Holds networks p l.i (record { high = 0; low = 0; tag = 0 }) c.in-Some.network c.loop-i-test.true told.1 in
-    let fine = All-more IsNetworkValue networks l.i (record { high = 0; low = 0; tag = 0 }) c.loop-i-test.true h.networks told.0 in
+    let same = at_index Holds networks p l.i (record { high = 0; low = 0; tag = 0; zero_17 = 0; zero_18 = 0; zero_20 = 0 }) c.in-Some.network c.loop-i-test.true told.1 in
+    let fine = All-more IsNetworkValue networks l.i (record { high = 0; low = 0; tag = 0; zero_17 = 0; zero_18 = 0; zero_20 = 0 }) c.loop-i-test.true h.networks told.0 in
     elim c.if-holds.branch [
       | then-holds+in-Ok w ↦ record {
         networks = fine;

@@ -10,7 +10,7 @@ loop-i-preserved c =
     let fits : l.i < length l.out = omega (arith, l.invariant.fits) in
     record {
       fits = length-set l.out l.i c.found_in.result ∙ l.invariant.fits;
-      first = one_answered (IsFoundInFile c.args.bytes.now c.args.file.now) l.i (record { high = 0; low = 0; tag = 0 }) c.args.asked.now l.out c.found_in.result
+      first = one_answered (IsFoundInFile c.args.bytes.now c.args.file.now) l.i (record { high = 0; low = 0; tag = 0; zero_17 = 0; zero_18 = 0; zero_20 = 0 }) c.args.asked.now l.out c.found_in.result
           l.invariant.first fits c.found_in.ensures;
       behind = drop-set-lt (length c.args.asked.now) l.out l.i c.found_in.result (omega arith) ∙ l.invariant.behind;
     }

@@ -12,7 +12,7 @@ pub loop-row-preserved : goal.loop-row-preserved
 loop-row-preserved c =
     let told = c.in-Some.ensures in
     let l = c.loop-row in
-    let none : CRow = record { network = record { high = 0; low = 0; tag = 0 }; value = 0 } in
+    let none : CRow = record { network = record { high = 0; low = 0; tag = 0; zero_17 = 0; zero_18 = 0; zero_20 = 0 }; value = 0 } in
     let r = get_or c.args.rows.now l.row-index none in
     let more =
     item_more IsRowValue network_row c.args.rows.now l.row-index none l.listed.items c.loop-row-test.true l.invariant.0 l.invariant.1 told.0 in

@@ -10,7 +10,7 @@ pub loop-value-preserved : goal.loop-value-preserved
 loop-value-preserved c =
     let told = c.in-Some.ensures in
     let so_far = c.loop-value.invariant in
-    let more = line_printed c.args.networks.now c.loop-value.value-index (record { high = 0; low = 0; tag = 0 }) c.as_str.result.now c.loop-value.out
+    let more = line_printed c.args.networks.now c.loop-value.value-index (record { high = 0; low = 0; tag = 0; zero_17 = 0; zero_18 = 0; zero_20 = 0 }) c.as_str.result.now c.loop-value.out
     c.print_line.new.out c.loop-value.end c.in-Some-print_line.next c.loop-value-test.true so_far.1 so_far.2 told.0
     (c.as_str.ensures.value ∙ (c.to_text.ensures.text ∙ ap (λ (n : AnyIpCidr). any_network_text plain_text n) told.1)) c.in-Some-print_line.ensures.line in (
       more.0,
@@ -26,7 +26,7 @@ pub returns-in-None : goal.returns-in-None
 returns-in-None c =
     let told = c.in-Some.ensures in
     let l = c.loop-value in
-    let first : CValue = record { high = 0; low = 0; tag = 0 } in
+    let first : CValue = record { high = 0; low = 0; tag = 0; zero_17 = 0; zero_18 = 0; zero_20 = 0 } in
     let same : c.print_line.new.out ≡ l.out = c.in-None.ensures.line in
     let fits = lines_fit c.args.networks.now l.value-index l.end l.out l.invariant.0 l.invariant.2 in
     let over = line_over c.args.networks.now l.value-index l.end l.out l.invariant.0 l.invariant.2 first c.as_str.result.now c.loop-value-test.true

@@ -13,7 +13,7 @@ loop-i-preserved c =
     let Answers : AnyIpCidr → ℕ → Type 0 = λ n answer. IsYesOrNo answer (IsFull 129 (map any_bits c.in-Ok.set) (any_bits n)) in
     let fits : c.loop-i.i < length c.loop-i.out = omega arith in (
       length-set c.loop-i.out c.loop-i.i c.held.result ∙ c.loop-i.invariant.0,
-      one_more Answers c.loop-i.i (record { high = 0; low = 0; tag = 0 }) c.args.asked.now c.loop-i.out c.held.result c.loop-i.invariant.1 fits told.0
+      one_more Answers c.loop-i.i (record { high = 0; low = 0; tag = 0; zero_17 = 0; zero_18 = 0; zero_20 = 0 }) c.args.asked.now c.loop-i.out c.held.result c.loop-i.invariant.1 fits told.0
           (subst (λ (n : AnyIpCidr). Answers n c.held.result) told.1 c.held.ensures),
       drop-set-lt (length c.args.asked.now) c.loop-i.out c.loop-i.i c.held.result (omega arith) ∙ c.loop-i.invariant.2,
     )

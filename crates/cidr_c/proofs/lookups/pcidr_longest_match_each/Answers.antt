@@ -12,7 +12,7 @@ loop-i-preserved c =
     let told = c.in-Some.ensures in
     let fits : c.loop-i.i < length c.loop-i.out = omega arith in (
       length-set c.loop-i.out c.loop-i.i c.index_of.result ∙ c.loop-i.invariant.0,
-      one_more (IsRowIndex c.in-Ok-lookups.ready) c.loop-i.i (record { high = 0; low = 0; tag = 0 }) c.args.asked.now c.loop-i.out c.index_of.result
+      one_more (IsRowIndex c.in-Ok-lookups.ready) c.loop-i.i (record { high = 0; low = 0; tag = 0; zero_17 = 0; zero_18 = 0; zero_20 = 0 }) c.args.asked.now c.loop-i.out c.index_of.result
           c.loop-i.invariant.1 fits told.0 (subst (λ (n : AnyIpCidr). IsRowIndex c.in-Ok-lookups.ready n c.index_of.result) told.1 c.index_of.ensures),
       drop-set-lt (length c.args.asked.now) c.loop-i.out c.loop-i.i c.index_of.result (omega arith) ∙ c.loop-i.invariant.2,
     )

@@ -15,14 +15,14 @@ pub returns-then-is_for : goal.returns-then-is_for
 returns-then-is_for c =
     let rules = c.args.rules.now in
     let i = c.loop-rule.rule-index in
-    let r = get_or rules i (record { network = record { high = 0; low = 0; tag = 0 }; action = 0 }) in
+    let r = get_or rules i (record { network = record { high = 0; low = 0; tag = 0; zero_17 = 0; zero_18 = 0; zero_20 = 0 }; action = 0 }) in
     one_decides (λ (r : CRule). any_bits (network_in r.network)) action_in rules (any_bits c.args.address.now) i c.loop-rule.invariant
-    r c.loop-rule-test.true (get_or_default rules i (record { network = record { high = 0; low = 0; tag = 0 }; action = 0 }) r c.loop-rule-test.true) c.does_permit.result (c.is_for.ensures.0 c.if-is_for.true) c.does_permit.ensures
+    r c.loop-rule-test.true (get_or_default rules i (record { network = record { high = 0; low = 0; tag = 0; zero_17 = 0; zero_18 = 0; zero_20 = 0 }; action = 0 }) r c.loop-rule-test.true) c.does_permit.result (c.is_for.ensures.0 c.if-is_for.true) c.does_permit.ensures
 
 pub loop-rule-preserved : goal.loop-rule-preserved
 loop-rule-preserved c =
     let rules = c.args.rules.now in
     let i = c.loop-rule.rule-index in
-    let r = get_or rules i (record { network = record { high = 0; low = 0; tag = 0 }; action = 0 }) in
+    let r = get_or rules i (record { network = record { high = 0; low = 0; tag = 0; zero_17 = 0; zero_18 = 0; zero_20 = 0 }; action = 0 }) in
     one_passes (λ (r : CRule). any_bits (network_in r.network)) action_in rules (any_bits c.args.address.now) i c.loop-rule.invariant
-    r c.loop-rule-test.true (get_or_default rules i (record { network = record { high = 0; low = 0; tag = 0 }; action = 0 }) r c.loop-rule-test.true) (λ b. true≢false (sym (c.is_for.ensures.1 b) ∙ c.if-is_for.false))
+    r c.loop-rule-test.true (get_or_default rules i (record { network = record { high = 0; low = 0; tag = 0; zero_17 = 0; zero_18 = 0; zero_20 = 0 }; action = 0 }) r c.loop-rule-test.true) (λ b. true≢false (sym (c.is_for.ensures.1 b) ∙ c.if-is_for.false))

@@ -10,7 +10,7 @@ use Rattle.cidr_c.proofs.rules.rules_of.Goals as goal
 pub loop-rule-preserved : goal.loop-rule-preserved
 loop-rule-preserved c =
     let told = c.in-Some.ensures in
-    let none : CRule = record { network = record { high = 0; low = 0; tag = 0 }; action = 0 } in
+    let none : CRule = record { network = record { high = 0; low = 0; tag = 0; zero_17 = 0; zero_18 = 0; zero_20 = 0 }; action = 0 } in
     let more =
     item_more (λ (r : CRule). IsNetworkValue r.network) rule_in c.args.rules.now c.loop-rule.rule-index none c.loop-rule.out.items c.loop-rule-test.true
     c.loop-rule.invariant.0 c.loop-rule.invariant.1 told.0 in

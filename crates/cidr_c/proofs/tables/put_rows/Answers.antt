@@ -12,7 +12,7 @@ loop-i-preserved g c =
       fits = length-set l.out l.i c.row_in.result ∙ l.invariant.fits;
       found = rows_more
           (IsRowFound g.W.Word.width (map g.W.Word.value c.args.starts.now) c.args.answers.now c.args.level.now c.args.shift c.args.rows)
-          g.W.Family.pair c.args.asked.now l.out l.i (record { high = 0; low = 0; tag = 0 }) c.row_in.result (omega arith) fits c.row_in.ensures l.invariant.found;
+          g.W.Family.pair c.args.asked.now l.out l.i (record { high = 0; low = 0; tag = 0; zero_17 = 0; zero_18 = 0; zero_20 = 0 }) c.row_in.result (omega arith) fits c.row_in.ensures l.invariant.found;
       behind = drop-set-lt (length c.args.asked.now) l.out l.i c.row_in.result (omega arith) ∙ l.invariant.behind;
     }
 

@@ -7,6 +7,6 @@ pub returns-in-Some : goal.returns-in-Some
 returns-in-Some c = (
   c.args.line.now,
   [],
-  address_split c.args.line.now c.in-Some.address (not_empty c.args.line.now _ c.is_empty.ensures c.if-not-is_empty.true) c.in-Some.ensures,
-  c.in-Some.ensures,
+  address_split c.args.line.now c.in-Some.address (not_empty c.args.line.now _ c.is_empty.ensures c.if-not-is_empty.true) c.in-Some.ensures.1,
+  c.in-Some.ensures.1,
 )

@@ -11,3 +11,6 @@ returns-in-None c = (
         | inr masked ↦ c.in-None.ensures host masked
       ],
 )
+
+pub returns-in-Some : goal.returns-in-Some
+returns-in-Some c = let (host, is, same) = c.in-Some.ensures in (host, inr is, same)

@@ -1,4 +1,4 @@
 use Rattle.cidr_lists.proofs.records.delegation.Goals as goal
 
 pub returns-in-Ok : goal.returns-in-Ok
-returns-in-Ok c = c.addresses_from.ensures c.args.start.now c.in-Ok.ensures
+returns-in-Ok c = c.addresses_from.ensures c.in-Ok.ensures

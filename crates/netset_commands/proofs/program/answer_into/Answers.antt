@@ -21,7 +21,7 @@ returns-in-Ok-replace-clause-runs g c =
 pub returns-clause-runs : goal.returns-clause-runs
 returns-clause-runs g c =
     into_unsaved c.args.name.now c.args.reading (g.F.Files.contents c.args.files.now) _ _ _ (request_of c.args.command) _ c.answer_once-status.new.out _ _ _ (rw c.new-held.ensures refl) c.in-Ok.text.items (rw (sym c.in-Ok.ensures.made) at c.finish.ensures) c.in-Ok.ensures.kept
-    (g.E.Sink.state c.report-in-Err.new.err) c.unsaved.result c.report-in-Err.result (omega (arith, c.if-status-gt1.false)) c.in-Err.ensures.refused c.unsaved.ensures c.report-in-Err.ensures.says c.report-in-Err.ensures.status
+    (g.E.Sink.state c.report-in-Err.new.err) c.unsaved.result c.report-in-Err.result (omega (arith, c.if-status-gt1.false)) _ c.in-Err.ensures.refused c.unsaved.ensures c.report-in-Err.ensures.says c.report-in-Err.ensures.status
     c.answer_once-status.ensures.runs
 
 pub returns-in_default-clause-leaves : goal.returns-in_default-clause-leaves
@@ -30,7 +30,7 @@ returns-in_default-clause-leaves g c = inr (no_answer error.NoMemory _ c.report.
 pub returns-in-Ok-replace-clause-leaves : goal.returns-in-Ok-replace-clause-leaves
 returns-in-Ok-replace-clause-leaves g c =
     saved_into c.args.name.now c.args.reading (g.F.Files.contents c.args.files.now) _ (request_of c.args.command) _ c.answer_once-status.new.out _ _ _ (rw c.new-held.ensures refl) c.in-Ok.text.items (rw (sym c.in-Ok.ensures.made) at c.finish.ensures)
-    (g.D.Folder.saved c.args.folder.now) _ (omega (arith, c.if-status-gt1.false)) c.answer_once-status.ensures.runs (rw c.as_slice.ensures.value at c.in-Ok-replace.ensures.saves)
+    (g.D.Folder.saved c.args.folder.now) _ (omega (arith, c.if-status-gt1.false)) c.answer_once-status.ensures.runs (rw c.as_slice.ensures.value at c.in-Ok-replace.ensures.saves.0)
 
 pub returns-clause-leaves : goal.returns-clause-leaves
-returns-clause-leaves g c = inr (no_answer c.unsaved.result _ c.report-in-Err.ensures.status, c.in-Err.ensures.saves)
+returns-clause-leaves g c = inr (no_answer c.unsaved.result _ c.report-in-Err.ensures.status, c.in-Err.ensures.saves.0)

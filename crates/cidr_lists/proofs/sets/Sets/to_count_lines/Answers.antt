@@ -1,14 +1,14 @@
-use Rattle.std.proofs.Common.{ℕ, decimal}
+use Rattle.std.proofs.Common.{ℕ, ◌^◌, decimal, unwrap_or}
 use Rattle.cidr.specs.declared.family.Family.{Family}
 use Rattle.cidr.specs.declared.family.Family.TheVariants.{Ipv4, Ipv6}
-use Rattle.cidr_lists.specs.Sets.{HaveCounts, count_or_all, networks_of}
+use Rattle.cidr_lists.specs.Sets.{HaveCounts, networks_of}
 use Rattle.cidr_lists.proofs.PrintedTexts.{counts_pushed}
 use Rattle.cidr_lists.proofs.SetSteps.{have_count}
 use Rattle.cidr_lists.proofs.sets.Sets.to_count_lines.Goals as goal
 
 pub returns : goal.returns
 returns c =
-    let count : Family → ℕ = elim [ Ipv4 ↦ count_or_all c.address_count.result | Ipv6 ↦ count_or_all c.address_count-2.result ] in
+    let count : Family → ℕ = elim [ Ipv4 ↦ unwrap_or c.address_count.result (2 ^ 128) | Ipv6 ↦ unwrap_or c.address_count-2.result (2 ^ 128) ] in
     let have : HaveCounts (networks_of c.args.self.now) count = elim [
       | Ipv4 ↦ have_count 32 c.args.self.now.v4 c.address_count.result c.address_count.ensures
       | Ipv6 ↦ have_count 128 c.args.self.now.v6 c.address_count-2.result c.address_count-2.ensures

@@ -2,13 +2,14 @@ use Rattle.std.proofs.Common.{inl, inr, refl, sym}
 use Rattle.std.proofs.lemmas.Result.{err_from_is_err_and}
 use Rattle.cidr_lists.specs.Tables.{kept}
 use Rattle.netset_commands.specs.Causes.{FileMayFail}
-use Rattle.netset_commands.proofs.Causes.{argument_cause, uncompiled}
+use Rattle.netset_commands.proofs.Causes.{same_cause, uncompiled}
 use Rattle.netset_commands.proofs.commands.compile.compile.Goals as goal
 
 pub returns-in-Ok-clause-leaves : goal.returns-in-Ok-clause-leaves
 returns-in-Ok-clause-leaves g c = (
   c.in-Some-file.bytes.items,
-  rw c.as_slice.ensures.value at c.in-Ok.ensures.saves,
+  rw c.as_slice.ensures.value at c.in-Ok.ensures.saves.0,
+  c.in-Ok.ensures.saves.1,
   λ text is. (
     kept c.in_ok-rows.rows,
     c.in_ok-rows.ensures.reads text is,
@@ -34,7 +35,7 @@ returns-in-Some-clause-cause g c =
     uncompiled (g.F.Sources.contents c.args.sources.now)
     (record { memory = g.M.Memory.refused c.args.memory.now; folder = g.D.Folder.refused c.args.folder.now }) c.args.form c.args.table.now c.args.name.now c.in-Some.e
     (inl c.in-Some.ensures)
-    (argument_cause (FileMayFail (g.F.Sources.contents c.args.sources.now)) (g.M.Memory.refused c.args.memory.now) _ c.in-Some.e c.in-Some.ensures.1)
+    (same_cause (FileMayFail (g.F.Sources.contents c.args.sources.now)) (g.M.Memory.refused c.args.memory.now) c.args.table.now c.args.name.now c.in-Some.e c.in-Some.ensures)
 
 pub returns-in_err-rows-clause-cause : goal.returns-in_err-rows-clause-cause
 returns-in_err-rows-clause-cause g c =
@@ -49,4 +50,7 @@ returns-in_err-file-clause-cause g c =
     rw (is, same) c.in_err-file.ensures.refused
 
 pub returns-clause-cause : goal.returns-clause-cause
-returns-clause-cause g c = c.in-Err.ensures.refused
+returns-clause-cause g c = inr c.in-Err.ensures.refused
+
+pub returns-clause-leaves : goal.returns-clause-leaves
+returns-clause-leaves g c = c.in-Err.ensures.saves.0

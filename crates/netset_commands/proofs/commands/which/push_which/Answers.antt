@@ -10,4 +10,4 @@ pub returns : goal.returns
 returns g c =
     line_told c.args.address.now c.args.entry.now (g.S.Sink.state c.args.out.now) (g.S.Sink.state c.push_message.new.out) c.args.block.now c.push_message.new.self
     c.push_message.result (sym c.has_address.ensures ∙ c.if-not-has_address.false)
-    (rw (c.found_parts-parts.ensures, c.format.ensures.text, c.as_str.ensures.value, c.to_text-network.ensures.text, c.network.ensures) at c.push_message.ensures)
+    (rw (c.found_parts-parts.ensures, c.as_str.ensures.value, c.decimal_text-digits.ensures.text, c.from.ensures, c.as_str-2.ensures.value, c.to_text-network.ensures.text, c.network.ensures) at c.push_message.ensures)

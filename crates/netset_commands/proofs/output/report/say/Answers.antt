@@ -2,7 +2,7 @@ use Rattle.netset_commands.proofs.output.report.say.Goals as goal
 
 pub returns-in-Line : goal.returns-in-Line
 returns-in-Line g c =
-    rw c.in-Line.is (c.write_message.result, rw (c.fault_parts.ensures, c.format.ensures.text, c.as_str-in-Line.ensures.value, c.message.ensures) at c.write_message.ensures)
+    rw c.in-Line.is (c.write_message.result, rw (c.fault_parts.ensures, c.as_str-in-Line.ensures.value, c.decimal_text.ensures.text, c.from.ensures, c.as_str-in-Line-2.ensures.value, c.message.ensures) at c.write_message.ensures)
 
 pub returns-in-Input : goal.returns-in-Input
 returns-in-Input g c =
