@@ -68,7 +68,7 @@ for each in python3 /usr/bin/python3; do
     if [[ -z $typed ]] && "$each" -m mypy --version >"$room/log" 2>&1; then typed=$each; fi
 done
 if [[ -n $typed ]]; then
-    MYPYPATH=$python "$typed" -m mypy --strict "$python/pcidr" "$python"/examples/*.py || status=1
+    MYPYPATH=$python "$typed" -m mypy --strict "$python/pcidr" "$python"/examples/*.py "$python/tests/test_types.py" || status=1
     "$interpreter" -c 'import doctest, sys; print(doctest.script_from_examples(sys.stdin.read()))' <"$python/README.md" >"$room/page.py"
     MYPYPATH=$python "$typed" -m mypy --strict --allow-redefinition "$room/page.py" || status=1
 else

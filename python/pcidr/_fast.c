@@ -125,9 +125,14 @@ static void shown_dealloc(PyObject *self) {
     Py_DECREF(type);
 }
 
+/* Of its fields as bytes, into whose hash Python mixes a secret of the process, as it doesn't into that of numbers. */
 static Py_hash_t shown_hash(PyObject *self) {
     pcidr_value *value = value_in(self);
-    PyObject *key = Py_BuildValue("(BKK)", value->tag, (unsigned long long)value->high, (unsigned long long)value->low);
+    char fields[sizeof value->high + sizeof value->low + sizeof value->tag];
+    memcpy(fields, &value->high, sizeof value->high);
+    memcpy(fields + sizeof value->high, &value->low, sizeof value->low);
+    fields[sizeof value->high + sizeof value->low] = (char)value->tag;
+    PyObject *key = PyBytes_FromStringAndSize(fields, sizeof fields);
     if (!key) return -1;
     Py_hash_t hash = PyObject_Hash(key);
     Py_DECREF(key);
@@ -586,7 +591,7 @@ static PyGetSetDef network_attributes[] = {
     {"with_prefixlen", string_by, NULL, "The string with its prefix length, also a full one.", &network_with_length},
     {"with_netmask", string_by, NULL, "The string with the mask in place of the prefix length.", &with_mask},
     {"with_hostmask", string_by, NULL, "The string with the inverse of the mask in its place.", &with_host_mask},
-    {"num_addresses", network_num_addresses, NULL, "The number of addresses; `len` stops at 2^63.", NULL},
+    {"num_addresses", network_num_addresses, NULL, "The number of addresses.", NULL},
     {"network_address", address_by, NULL, "The first address.", &first_part},
     {"broadcast_address", address_by, NULL, "The last address, which is that of broadcasts in IPv4.", &last_part},
     {"_first_usable", address_by, NULL, "The first address that a host may have.", &first_usable},

@@ -9,17 +9,16 @@ import os
 import stat
 from array import array
 from bisect import bisect_left
-from collections.abc import Iterable, Sequence
+from collections.abc import Callable, Iterable, Sequence
 from ctypes import byref
 from itertools import accumulate
 from typing import Any, Union
 
 from pcidr._calls import Code, File, FileTable, Found, Value
 from pcidr._kinds import file_finder
-from pcidr._library import PACKED, Buffer, Call, Unpacked, Values, answers, calls, check, message
+from pcidr._library import PACKED, Buffer, Call, Key, Unpacked, Values, answers, calls, check, key_of, message
 
 Path = Union[str, "os.PathLike[str]"]
-Key = tuple[int, int]
 NO_TAG = 63
 
 
@@ -62,10 +61,6 @@ class Part:
         self._lengths = part(table.lengths, self.rows)
         self._offsets = part(table.offsets, 4 * self.rows + 4).cast("I")
 
-    def key(self, row: int) -> Key:
-        """The tag of a row's network, and the number of its first address."""
-        return self.TAGS[self._lengths[row]], self._addresses[row]
-
     def network(self, row: int) -> Value:
         """A row's network."""
         return Value(0, self._addresses[row], self.TAGS[self._lengths[row]])
@@ -76,9 +71,12 @@ class Part:
         return self._content[begin + offsets[row] : begin + offsets[row + 1]]
 
     def find(self, key: Key) -> int | None:
-        """The row of exactly this network. They ascend by first address and then by length."""
-        row = bisect_left(range(self.rows), key[::-1], key=lambda row: self.key(row)[::-1])
-        return row if row < self.rows and self.key(row) == key else None
+        """The row of exactly this network."""
+        row = bisect_left(range(self.rows), key, key=self._key)
+        return row if row < self.rows and self._key(row) == key else None
+
+    def _key(self, row: int) -> Key:
+        return key_of(self.network(row))
 
     def put(self, words: memoryview, octets: memoryview) -> None:
         """Writes all networks, into the words and bytes of values."""
@@ -92,9 +90,6 @@ class WidePart(Part):
     __slots__ = ()
     FAMILY, WIDTH, KIND = 6, 16, "Q"
     TAGS = bytes([*range(64, 193), *[NO_TAG] * 127])
-
-    def key(self, row: int) -> Key:
-        return self.TAGS[self._lengths[row]], self._addresses[2 * row] << 64 | self._addresses[2 * row + 1]
 
     def network(self, row: int) -> Value:
         return Value(self._addresses[2 * row], self._addresses[2 * row + 1], self.TAGS[self._lengths[row]])
@@ -199,40 +194,93 @@ def set_of(networks: Values) -> bytes:
     return _made(calls.set_write, networks)
 
 
-def opened(path: Path, is_checked: bool) -> Stored:
-    """The tables of a file, which is mapped."""
-    with open(path, "rb") as file:
-        is_empty = os.fstat(file.fileno()).st_size == 0  # of which there is no map
-        content: bytes | mmap.mmap = b"" if is_empty else mmap.mmap(file.fileno(), 0, access=mmap.ACCESS_READ)
+def restored(content: bytes, is_checked: bool) -> Stored:
+    """The tables of bytes that may be any, as those of a pickle."""
+    if type(content) is not bytes:
+        raise TypeError(f"no bytes of a file: {type(content).__name__}")
+    stored = Stored(content)
+    if is_checked:
+        stored.check()
+    return stored
+
+
+def opened(path: Path, is_checked: bool, is_mapped: bool) -> Stored:
+    """The tables of a file, whose bytes are copied or mapped. What is no regular file may have no end, or nobody at its
+    other one, and so it is not read."""
+    name = os.fspath(path)  # a number would be a descriptor, which `open` closes
+    with open(name, "rb", buffering=0, opener=lambda name, flags: os.open(name, flags | os.O_NONBLOCK)) as file:
+        found = os.fstat(file.fileno())
+        if not stat.S_ISREG(found.st_mode):
+            raise OSError(errno.EINVAL, _NOT_REGULAR, name)
+        if is_mapped and found.st_size:  # of no bytes there is no map
+            content: bytes | mmap.mmap = mmap.mmap(file.fileno(), 0, access=mmap.ACCESS_READ)
+        else:
+            content = file.read()
     try:
         stored = Stored(content)
         if is_checked:
             stored.check()
     except ValueError as error:
-        raise ValueError(f"{error}: {os.fspath(path)!r}") from None
+        raise ValueError(f"{error}: {name!r}") from None
     return stored
 
 
-def write(path: Path, content: bytes | mmap.mmap) -> None:
-    """Writes a file beside its place, with the permissions of the one that is there, and then renames it: whoever opens
-    it meanwhile gets the old one, and so it stays after an error or an interrupt."""
-    place = os.path.realpath(os.fsdecode(path))
-    beside = f"{place}.{os.urandom(8).hex()}"
+_NOT_REGULAR = "not a regular file"
+
+
+def _replaced(path: Path) -> tuple[str, os.stat_result | None]:
+    """The name without links of the file that a path leads to, and what the system has of it, if it is there. The system
+    follows the links, by its own rules for those in folders where anybody may make one. Where another file or link has
+    come there meanwhile, the two differ, and it looks once more."""
+    name = os.fsdecode(path)
+    for _ in range(100):
+        place = os.path.realpath(name)
+        followed, old = _found(os.stat, name), _found(os.lstat, place)
+        if followed and old and os.path.samestat(followed, old) or followed is old is None:
+            return place, old
+    raise OSError(errno.EBUSY, "other files are put there all the time", name)
+
+
+def _found(look: Callable[[str], os.stat_result], name: str) -> os.stat_result | None:
     try:
-        old = os.stat(place)
+        return look(name)
     except FileNotFoundError:
-        old = None
+        return None
+
+
+def _give_rights(descriptor: int, old: os.stat_result) -> None:
+    """Gives a new file the owner, the group and the permissions of an old one. Where this process may not give the owner or
+    the group, the set-id bits are for others than they were, and with the group so are its permissions: these go."""
+    for owner in (old.st_uid, -1):
+        try:
+            os.fchown(descriptor, owner, old.st_gid)
+            break
+        except OSError:  # which of both it has is looked at below
+            continue
+    made, mode = os.fstat(descriptor), stat.S_IMODE(old.st_mode)
+    if made.st_gid != old.st_gid:
+        mode &= ~stat.S_IRWXG
+    if (made.st_uid, made.st_gid) != (old.st_uid, old.st_gid):
+        mode &= ~(stat.S_ISUID | stat.S_ISGID)
+    os.fchmod(descriptor, mode)
+
+
+def write(path: Path, content: bytes | mmap.mmap) -> None:
+    """Writes a file beside its place, which nobody else can open or has made before, gives it the rights of the one that is
+    there, and then renames it: whoever opens it meanwhile gets the old one, and so it stays after an error or an
+    interrupt. Where there is none, it is as the system makes new files."""
+    place, old = _replaced(path)
     if old and not stat.S_ISREG(old.st_mode):
-        raise OSError(errno.EINVAL, "not a regular file", place)
-    mode = stat.S_IMODE(old.st_mode) if old else 0o666
+        raise OSError(errno.EINVAL, _NOT_REGULAR, place)
+    # a name of its own, since one that is longer than that of the file may be too long
+    beside = os.path.join(os.path.dirname(place), f".pcidr-{os.urandom(8).hex()}")
     try:
-        with open(beside, "xb", opener=lambda name, flags: os.open(name, flags, mode)) as file:
-            if old:
-                with contextlib.suppress(PermissionError):
-                    os.fchown(file.fileno(), old.st_uid, old.st_gid)
-                os.fchmod(file.fileno(), mode)
+        # "x" takes no name that is there, and follows no link
+        with open(beside, "xb", opener=lambda name, flags: os.open(name, flags, 0o600 if old else 0o666)) as file:
             file.write(content)
             file.flush()
+            if old:
+                _give_rights(file.fileno(), old)  # once all is written, since to write takes set-id bits away
             os.fsync(file.fileno())
         os.replace(beside, place)
     except BaseException:

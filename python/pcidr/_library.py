@@ -38,6 +38,14 @@ LEVEL_BITS = 18
 # So many packed addresses are looked up at a time, whose values stay in the nearer caches.
 PACKED = 1 << 13
 
+# A network by which others are looked up, as bytes that are in the order of networks: the family, the halves of its first
+# address, the tag. A `dict` mixes a secret of the process into the hash of bytes, and none into that of numbers.
+Key = bytes
+_KEY = struct.Struct(">BQQB")
+key_at = _KEY.pack
+# By the tags: `any`, then IPv4, then IPv6.
+_FAMILIES = bytes([*[1] * 64, *[2] * 191, 0])
+
 K = TypeVar("K")
 T = TypeVar("T", ctypes.c_size_t, Range, Row, Value)
 Call = Callable[..., int]
@@ -121,9 +129,16 @@ def check(code: int, *given: object) -> None:
         raise ValueError(": ".join([message(code), *map(repr, given)]))
 
 
+def encoded(text: str) -> bytes:
+    """A string in UTF-8. Half of a pair, which UTF-8 does not have, is passed on for the library to refuse."""
+    if not isinstance(text, str):
+        raise TypeError(f"no string: {text!r}")
+    return str.encode(text, "utf-8", "surrogatepass")
+
+
 def read(call: Call, text: str) -> Value:
     """The value of a string."""
-    given = text.encode("utf-8", "surrogatepass")
+    given = encoded(text)
     size, value = len(given), Value()
     code = call(given, SIZES[size] if size < TEXT_ROOM else ctypes.c_size_t(size), byref(value))
     if code:
@@ -143,7 +158,7 @@ def sought(made: Callable[[Value], K], call: Call, *given: object) -> K | None:
 
 def tried(call: Call, text: str) -> tuple[int, Value]:
     """What a call says of a string, and its value."""
-    given, value = text.encode("utf-8", "surrogatepass"), Value()
+    given, value = encoded(text), Value()
     return call(given, len(given), value), value
 
 
@@ -160,15 +175,31 @@ def array(values: Iterable[Value]) -> Values:
     return (Value * len(listed))(*listed)
 
 
-def values_at(keys: Sequence[tuple[int, int]]) -> Values:
-    """An array of values, by their tags and the numbers of their addresses."""
+def key_of(value: Value) -> Key:
+    """The key of a value."""
+    return key_at(_FAMILIES[value.tag], value.high, value.low, value.tag)
+
+
+def value_of(key: Key) -> Value:
+    """The value of a key."""
+    return Value(*_KEY.unpack(key)[1:])
+
+
+def keys_of(values: Values) -> Iterator[Key]:
+    """The keys of an array of values."""
+    tags = tags_of(values)
+    words = memoryview(values).cast("B").cast("Q") if tags else memoryview(b"")
+    return map(key_at, tags.translate(_FAMILIES), words[0::3], words[1::3], tags)
+
+
+def values_at(keys: Sequence[Key]) -> Values:
+    """An array of values, by their keys."""
     out = (Value * len(keys))()
     if keys:
-        octets, low = memoryview(out).cast("B"), 2**64 - 1
-        words = octets.cast("Q")
-        words[0::3] = memoryview(pack("Q", [number >> 64 for _, number in keys]))
-        words[1::3] = memoryview(pack("Q", [number & low for _, number in keys]))
-        octets[16::24] = bytes([tag for tag, _ in keys])
+        octets = memoryview(out).cast("B")
+        words, (_, high, low, tags) = octets.cast("Q"), zip(*_KEY.iter_unpack(b"".join(keys)))
+        words[0::3], words[1::3] = memoryview(pack("Q", high)), memoryview(pack("Q", low))
+        octets[16::24] = bytes(tags)
     return out
 
 
@@ -287,7 +318,7 @@ def read_all(texts: Sequence[str]) -> Values:
     out = (Value * len(texts))()
     if not texts:
         return out
-    given = "\n".join(texts).encode("utf-8", "surrogatepass")
+    given = encoded("\n".join(texts))
     code = calls.read_lines(given, len(given), out, len(texts), ctypes.c_size_t())
     if code:
         for text in texts:  # the first one that is no network, or has a line feed in it
@@ -327,7 +358,7 @@ def filled(kind: type[T], room: int, call: Call, *given: object) -> ctypes.Array
 
 def read_list(text: str | Buffer, strict: bool, masks: bool) -> Values:
     """The networks that a list says; the first line in error raises `ValueError`."""
-    given = text.encode("utf-8", "surrogatepass") if isinstance(text, str) else bytes(memoryview(text))
+    given = encoded(text) if isinstance(text, str) else bytes(memoryview(text))
     if masks:
         host_bits = HOST_BITS_REFUSED_WITH_MASKS if strict else HOST_BITS_CLEARED_WITH_MASKS
     else:

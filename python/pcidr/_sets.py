@@ -9,7 +9,7 @@ from operator import index as integer
 from typing import TypeVar, Union
 
 from pcidr._calls import Code, Halves, Range, Rule, Value
-from pcidr._files import Path, Stored, opened, set_of, write
+from pcidr._files import Path, Stored, opened, restored, set_of, write
 from pcidr._kinds import each_of, values_of
 from pcidr._library import (
     ADDRESS_TAGS,
@@ -183,7 +183,7 @@ class NetworkSet:
     that the set took. `save` writes them into a file, which `open` opens.
     """
 
-    __slots__ = ("_list", "_file")
+    __slots__ = ("_list", "_file", "__weakref__")
     _list: Values | None
     _file: Stored | None
 
@@ -216,10 +216,10 @@ class NetworkSet:
         return cls._of(_covered(read_list(text, strict, masks)), None)
 
     @classmethod
-    def open(cls: type[S], path: Path, *, check: bool = True) -> S:
+    def open(cls: type[S], path: Path, *, check: bool = True, mapped: bool = False) -> S:
         """The set of the addresses in the networks of a file, by `save`, `Table.save` or `netset compile`, which is
         opened as `Table.open` says."""
-        return cls._of(None, opened(path, check))
+        return cls._of(None, opened(path, check, mapped))
 
     def save(self, path: Path) -> None:
         """Writes the set into a file, as `Table.save` does."""
@@ -229,7 +229,7 @@ class NetworkSet:
         return bytes(self._stored.content)
 
     def __setstate__(self, content: bytes) -> None:
-        self._fill(None, Stored(content))
+        self._fill(None, restored(content, True))
 
     @property
     def _values(self) -> Values:
@@ -362,7 +362,8 @@ class NetworkSet:
         return self._free(calls.first_free, prefixlen)
 
     def best_free(self, prefixlen: int) -> Network | None:
-        """The same in the smallest of its networks that has room, so that larger ones stay whole."""
+        """The same in the smallest of its networks that has room, so that larger ones stay whole: the one with the fewest
+        addresses, IPv4 first among equals."""
         return self._free(calls.best_free, prefixlen)
 
     def _free(self, call: Call, prefixlen: int) -> Network | None:

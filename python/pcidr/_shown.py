@@ -3,10 +3,10 @@ from __future__ import annotations
 
 from collections.abc import Callable, Sequence
 from operator import index
-from typing import Any, ClassVar, TypeVar
+from typing import TYPE_CHECKING, Any, ClassVar, TypeVar
 
 from pcidr._calls import MASK_ROOM, NAME_ROOM, Code, Special, Value
-from pcidr._library import Call, Values, array, calls, check, printed, read, sought
+from pcidr._library import Call, Values, array, calls, check, key_of, printed, read, sought
 
 S = TypeVar("S", bound="Shown")
 M = TypeVar("M", bound="_Mapped")
@@ -43,18 +43,15 @@ class Shown:
         """Takes a value, before anybody has seen it."""
         self._value = value
 
-    def _key(self) -> tuple[int, int, int]:
-        return (self._value.tag, self._value.high, self._value.low)
-
     def __str__(self) -> str:
         return printed(type(self)._print, self._value)
 
     def __hash__(self) -> int:
-        return hash(self._key())
+        return hash(key_of(self._value))  # Python mixes a secret of the process into the hash of bytes
 
     def __eq__(self, other: object) -> bool:
         if isinstance(other, Shown) and type(other) is type(self):
-            return self._key() == other._key()
+            return key_of(self._value) == key_of(other._value)
         return NotImplemented
 
     def __lt__(self, other: Any) -> bool:
@@ -201,6 +198,20 @@ class _Addressed(Shown):
 
     __slots__ = ()
 
+    if TYPE_CHECKING:  # they have a family, and a prefix length
+
+        @property
+        def version(self) -> int:
+            ...
+
+        @property
+        def prefixlen(self) -> int:
+            ...
+
+        @property
+        def max_prefixlen(self) -> int:
+            ...
+
     def __int__(self) -> int:
         return self._value.high << 64 | self._value.low
 
@@ -316,7 +327,7 @@ class OfNetwork(_Mapped):
 
     @property
     def num_addresses(self) -> int:
-        """The number of addresses; `len` stops at 2^63."""
+        """The number of addresses."""
         return _counts[self._value.tag]
 
     @property

@@ -8,32 +8,37 @@ import warnings
 from bisect import bisect_left
 from collections.abc import Callable, ItemsView, Iterable, Iterator, Mapping, MutableMapping, Sequence, ValuesView
 from itertools import chain, islice
+from operator import itemgetter
 from typing import Any, NamedTuple, Optional, TypeVar, Union, overload
 
 from pcidr._calls import NO_ROW, Row, Value
-from pcidr._files import Part, Path, Stored, file_of, opened, write
+from pcidr._files import Part, Path, Stored, file_of, opened, restored, write
 from pcidr._kinds import each_of, table_finder
 from pcidr._library import (
     ADDRESS_TAGS,
     Arrays,
     Buffer,
+    Key,
     Values,
     answers,
     array,
     calls,
     check,
     filled,
+    key_at,
+    key_of,
+    keys_of,
     tags_of,
+    value_of,
     values_at,
 )
 from pcidr._sets import listed, values_in
-from pcidr._values import AnyNetwork, Network, network_value
+from pcidr._values import LOW, AnyNetwork, Network, network_value
 
 V = TypeVar("V")
 D = TypeVar("D")
 R = TypeVar("R")
 Rows = Union[Mapping[Any, V], Iterable[tuple[AnyNetwork, V]]]
-Key = tuple[int, int]
 
 
 class _Part(NamedTuple):
@@ -96,6 +101,9 @@ def _finder(ipv4: _Part, ipv6: _Part) -> Any:
 
 
 _ABSENT: Any = object()
+_ANY = key_of(network_value("any"))
+# What comes before the keys of a family, and behind those before it.
+_IPV4, _IPV6 = b"\1", b"\2"
 
 
 class _Items(ItemsView[Network, V]):
@@ -128,6 +136,35 @@ class _Rows(Mapping[Network, V]):
 
     def _listed(self) -> Iterator[tuple[Network, V]]:
         raise NotImplementedError
+
+    def _value_at(self, key: Key) -> V:
+        """The value at a key, or _ABSENT."""
+        raise NotImplementedError
+
+    def __getitem__(self, network: AnyNetwork) -> V:
+        """The value of exactly this network; `lookup` has the longest match."""
+        key = _key_of(network)
+        value = self._value_at(key)
+        if value is _ABSENT:
+            raise _missing(key)
+        return value
+
+    @overload
+    def get(self, network: AnyNetwork, /) -> V | None:
+        ...
+
+    @overload
+    def get(self, network: AnyNetwork, /, default: V | D) -> V | D:
+        ...
+
+    def get(self, network: AnyNetwork, /, default: Any = None) -> Any:
+        """The value of exactly this network, or the default, also for a string that is no network."""
+        value = self._value_at(_key_or_none(network))
+        return default if value is _ABSENT else value
+
+    def __contains__(self, network: object) -> bool:
+        """Whether there is a row of exactly this network. There is none of a string that is no network."""
+        return self._value_at(_key_or_none(network)) is not _ABSENT
 
     def __iter__(self) -> Iterator[Network]:
         return (network for network, _ in self._listed())
@@ -242,7 +279,7 @@ class Table(_Rows[V], MutableMapping[Network, V]):
     def _fill(self, rows: dict[Key, V]) -> None:
         self._rows = rows
         # The tags of all rows, descending, and perhaps of some that were deleted.
-        self._tags = tuple(sorted({tag for tag, _ in self._rows}, reverse=True))
+        self._tags = tuple(sorted({key[-1] for key in rows}, reverse=True))
         # Another object before each change, so that an interrupt behind it is no harm, and after it.
         self._version = object()
         self._snapshot: _Snapshot | None = None
@@ -256,10 +293,11 @@ class Table(_Rows[V], MutableMapping[Network, V]):
         if made is None or made.version is not self._version:
             with _changing:
                 version, rows = self._version, self._rows.copy()
-            held = sorted(rows.items(), key=_row_order)
-            networks = values_at([key for key, _ in held])
+            held = sorted(rows.items(), key=itemgetter(0))
+            keys = [key for key, _ in held]
+            networks = values_at(keys)
             listed = tuple(zip(each_of(Network, networks), [value for _, value in held]))
-            ipv4, ipv6 = (bisect_left(held, family << 136, key=_row_order) for family in (1, 2))
+            ipv4, ipv6 = bisect_left(keys, _IPV4), bisect_left(keys, _IPV6)
             parts = _parts(listed, networks, ipv4, ipv6)
             made = _Snapshot(version, listed, networks, parts, _finder(*parts.values()))
             self._snapshot, self._since = made, 0
@@ -278,8 +316,8 @@ class Table(_Rows[V], MutableMapping[Network, V]):
         """Changes a row, which may be new, by a call of the `dict`."""
         with _changing:
             _kept = self._rows.get(key), self._snapshot
-            if key[0] not in self._tags:
-                self._tags = tuple(sorted((*self._tags, key[0]), reverse=True))
+            if key[-1] not in self._tags:
+                self._tags = tuple(sorted((*self._tags, key[-1]), reverse=True))
             return self._changed(put, key, value)
 
     def __getstate__(self) -> dict[str, Any]:
@@ -303,21 +341,25 @@ class Table(_Rows[V], MutableMapping[Network, V]):
         return self._rows.copy() == other._rows.copy()
 
     @staticmethod
-    def open(path: Path, *, check: bool = True) -> StoredTable:
-        """The table in a file that `save` or `netset compile` wrote, which is mapped and not read into memory.
+    def open(path: Path, *, check: bool = True, mapped: bool = False) -> StoredTable:
+        """The table in a file that `save` or `netset compile` wrote, whose bytes are copied into memory: what becomes of
+        the file is no matter then.
 
-        A file that is none raises `ValueError` with what is wrong first; so does one whose rows are wrong, for which each
-        byte is read once. With ``check=False`` only its header is read: a look-up in wrong rows gives some row or none,
-        or raises `ValueError`, and reads nothing outside of the file.
+        A file that is none, also one that was cut short, raises `ValueError` with what is wrong first; so does one whose
+        rows are wrong. With ``check=False`` only its header is looked at: a look-up in wrong rows gives some row or none,
+        or raises `ValueError`, and reads nothing outside of the file. What is no regular file raises `OSError`.
 
-        Nobody may cut the file short or write into it while it is open, which would end the process: `save` puts another
-        one into its place.
+        With ``mapped=True`` the file is mapped, so that processes share its memory and nothing is copied. Then nobody may
+        write into it while it is open, and whoever cuts it short ends the process by SIGBUS, as ``cp new file`` does;
+        `save` puts another one into its place, which is no harm.
         """
-        return StoredTable(path, check=check)
+        return StoredTable(path, check=check, mapped=mapped)
 
     def save(self, path: Path) -> None:
         """Writes the rows into a file, which `open` opens in any process. It takes the place of the file that is there,
-        with its permissions, once it is whole: an error leaves the old one.
+        once it is whole: an error leaves the old one. It gets the owner, the group and the permissions of that one. Where
+        this process may not give the owner or the group, set-id bits go, and with the group its permissions. Links are
+        followed as the system does. A process that is killed may leave a file named `.pcidr-` and 16 digits beside it.
 
         Values are `bytes`, or strings, which are written in UTF-8 and come back as `bytes`; another one raises
         `TypeError`, and a string that is not Unicode, or a row of `any`, `ValueError`.
@@ -327,29 +369,8 @@ class Table(_Rows[V], MutableMapping[Network, V]):
             raise ValueError("a file has no row of 'any': 0.0.0.0/0 and ::/0 are all addresses, too")
         write(path, file_of(made.networks, [_stored_value(*row) for row in made.rows]))
 
-    def __getitem__(self, network: AnyNetwork) -> V:
-        """The value of exactly this network; `lookup` has the longest match."""
-        key = _key_of(network)
-        value = self._rows.get(key, _ABSENT)
-        if value is _ABSENT:
-            raise _missing(key)
-        return value
-
-    @overload
-    def get(self, network: AnyNetwork, /) -> V | None:
-        ...
-
-    @overload
-    def get(self, network: AnyNetwork, /, default: V | D) -> V | D:
-        ...
-
-    def get(self, network: AnyNetwork, /, default: Any = None) -> Any:
-        """The value of exactly this network, or the default."""
-        return self._rows.get(_key_of(network), default)
-
-    def __contains__(self, network: object) -> bool:
-        """Whether there is a row of exactly this network."""
-        return _key_of(network) in self._rows
+    def _value_at(self, key: Key) -> V:
+        return self._rows.get(key, _ABSENT)
 
     def __setitem__(self, network: AnyNetwork, value: V) -> None:
         self._put(self._rows.__setitem__, _key_of(network), value)
@@ -375,7 +396,7 @@ class Table(_Rows[V], MutableMapping[Network, V]):
 
     def pop(self, network: AnyNetwork, /, default: Any = _ABSENT) -> Any:
         """Deletes the row of exactly this network, and returns its value; where there is none, the default."""
-        key = _key_of(network)
+        key = _key_of(network) if default is _ABSENT else _key_or_none(network)
         with _changing:
             _kept = self._rows.get(key), self._snapshot
             value = self._changed(self._rows.pop, key, _ABSENT) if key in self._rows else _ABSENT
@@ -393,7 +414,7 @@ class Table(_Rows[V], MutableMapping[Network, V]):
         with _changing:
             _kept = self._snapshot
             key, value = self._changed(self._rows.popitem)
-        return _row_network(key), value
+        return Network._of(value_of(key)), value
 
     def __len__(self) -> int:
         return len(self._rows)
@@ -437,7 +458,7 @@ class Table(_Rows[V], MutableMapping[Network, V]):
                     if len(found) == most:
                         break
             if self._version is version:  # else rows of two versions may be among these
-                return [(_row_network(key), held) for key, held in found]
+                return [(Network._of(value_of(key)), held) for key, held in found]
 
     def lookup_each(self, asked: Iterable[AnyNetwork]) -> list[tuple[Network, V] | None]:
         """The same as `lookup` for each of many, by one call of the library for each family."""
@@ -450,11 +471,13 @@ class Table(_Rows[V], MutableMapping[Network, V]):
         made, numbers = self._now(), dict[V, int]()
         rows = made.numbered(numbers)
         found, values = filled(Row, len(rows), calls.smallest, rows, len(rows)), list(numbers)
-        networks = each_of(Network, values_at([_row_key(row.network) for row in found]))
+        networks = each_of(Network, array(row.network for row in found))
         return Table(zip(networks, (values[row.value] for row in found)))
 
     def forwards_same(self, other: Table[V]) -> bool:
         """Whether each address has the same value in both, or none in both."""
+        if not isinstance(other, Table):
+            raise TypeError(f"no table: {other!r}")
         numbers, answer = dict[V, int](), ctypes.c_uint32()
         these, those = self._now().numbered(numbers), other._now().numbered(numbers)
         check(calls.forwards_same(these, len(these), those, len(those), answer))
@@ -499,18 +522,18 @@ class StoredTable(_Rows[bytes]):
     """The table in a file, by `Table.open`: a mapping of networks to bytes, which never changes. ``Table(stored)`` has the
     same rows, and can be changed.
 
-    Its rows stay in the file, of which each look-up reads some bytes, and whose memory processes share; of those that were
-    found last, at most 131,072 of a family are kept as objects. Any threads may look up in it, and a child after `fork`,
-    too. It is pickled by its bytes, and mapped until it is no longer used.
+    Its rows stay in the bytes of the file, of which each look-up reads some; of those that were found last, at most 131,072
+    of a family are kept as objects. Any threads may look up in it, and a child after `fork`, too. It is pickled by its
+    bytes, which are checked again if they were before, and a map lasts until it is no longer used.
     """
 
-    __slots__ = ("_file", "_is_checked", "_kept", "_find")
+    __slots__ = ("_file", "_is_checked", "_kept", "_find", "__weakref__")
     _file: Stored
     _is_checked: bool
     _kept: Mapping[int, _KeptRows]  # by the tags of addresses
 
-    def __init__(self, path: Path, *, check: bool = True) -> None:
-        self._fill(opened(path, check), check)
+    def __init__(self, path: Path, *, check: bool = True, mapped: bool = False) -> None:
+        self._fill(opened(path, check, mapped), check)
 
     def _fill(self, file: Stored, is_checked: bool) -> None:
         self._file, self._is_checked = file, is_checked
@@ -521,7 +544,8 @@ class StoredTable(_Rows[bytes]):
         return bytes(self._file.content), self._is_checked
 
     def __setstate__(self, state: tuple[bytes, bool]) -> None:
-        self._fill(Stored(state[0]), state[1])
+        content, is_checked = state
+        self._fill(restored(content, is_checked), is_checked)
 
     def __repr__(self) -> str:
         return f"<{type(self).__name__} of {len(self)} rows>"
@@ -536,17 +560,14 @@ class StoredTable(_Rows[bytes]):
     def __len__(self) -> int:
         return sum(part.rows for part in self._file.parts.values())
 
-    def __getitem__(self, network: AnyNetwork) -> bytes:
-        """The value of exactly this network; `lookup` has the longest match."""
-        key = _key_of(network)
+    def _value_at(self, key: Key) -> bytes:
         row = self._row(key)
-        if row is None:
-            raise _missing(key)
-        return row[1]
+        value: bytes = _ABSENT if row is None else row[1]
+        return value
 
     def _row(self, key: Key) -> StoredRow | None:
         """The row of exactly this network."""
-        kept = self._kept[32 if key[0] < 64 else 192]
+        kept = self._kept[32 if key < _IPV6 else 192]
         row = kept.part.find(key)
         return None if row is None else kept[row]
 
@@ -611,11 +632,10 @@ def _packed(made: _Snapshot) -> tuple[bytes, list[Any] | None, tuple[Any, ...]]:
 
 def _unpacked(content: bytes, values: list[Any] | None, of_any: tuple[Any, ...]) -> dict[Key, Any]:
     """The same rows."""
-    stored = Stored(content)
-    stored.check()
+    stored = restored(content, True)
     if values is None:
         values = [part.value(row) for part in stored.parts.values() for row in range(part.rows)]
-    keys = [*[(255, 0)] * len(of_any), *map(_row_key, stored.networks())]
+    keys = [*[_ANY] * len(of_any), *keys_of(stored.networks())]
     if len(keys) != len(of_any) + len(values):
         raise ValueError("other counts of networks and values")
     return dict(zip(keys, (*of_any, *values)))
@@ -637,38 +657,33 @@ def _rows_by_key(rows: Rows[V]) -> dict[Key, V]:
     """Rows as a table has them; their networks by one call where all are strings."""
     given = listed(rows.items() if hasattr(rows, "items") else rows)
     values = values_in(network for network, _ in given)
-    return {_row_key(value): row[1] for value, row in zip(values, given)}
+    return dict(zip(keys_of(values), map(itemgetter(1), given)))
 
 
 def _key_of(network: object) -> Key:
-    return _row_key(network_value(network))
+    return key_of(network_value(network))
+
+
+def _key_or_none(network: object) -> Key:
+    """The same, and for a string that is no network what is no key."""
+    try:
+        return _key_of(network)
+    except ValueError:
+        return b""
 
 
 def _missing(key: Key) -> KeyError:
-    return KeyError(str(_row_network(key)))
-
-
-def _row_key(value: Value) -> Key:
-    return value.tag, value.high << 64 | value.low
+    return KeyError(str(Network._of(value_of(key))))
 
 
 def _outer_keys(value: Value, tags: Iterable[int]) -> Iterator[Key]:
     """The keys of the networks of some tags, which descend, that this one is in: itself, and `any` as the last."""
-    tag, number = _row_key(value)
+    tag, number = value.tag, value.high << 64 | value.low
     if tag != 255:
-        shortest, width = (0, 32) if tag < 64 else (64, 128)
+        family, shortest, width = (1, 0, 32) if tag < 64 else (2, 64, 128)
         for outer in tags:
             if shortest <= outer <= tag:
                 rest = width - (outer - shortest)
-                yield outer, number >> rest << rest
-    yield 255, 0
-
-
-def _row_order(row: tuple[Key, object]) -> int:
-    """Where the row stands: `any`, then IPv4, then IPv6; the lower first address, and then the shorter prefix."""
-    tag, number = row[0]
-    return (0 if tag == 255 else 1 if tag < 64 else 2) << 136 | number << 8 | tag
-
-
-def _row_network(key: Key) -> Network:
-    return Network._of(Value(key[1] >> 64, key[1] & (2**64 - 1), key[0]))
+                kept = number >> rest << rest
+                yield key_at(family, kept >> 64, kept & LOW, outer)
+    yield _ANY

@@ -13,7 +13,7 @@ from typing import TYPE_CHECKING, Any, NamedTuple, Union
 
 from pcidr._calls import FAULT_ROOM, NAME_ROOM, Code, Halves, Purpose, Value
 from pcidr._kinds import OfAddress, OfHost, OfNetwork, Shown, each_of, register
-from pcidr._library import array, calls, check, combined, printed, read, tried
+from pcidr._library import array, calls, check, combined, encoded, printed, read, tried
 
 OfIpaddress = Union[ipaddress.IPv4Address, ipaddress.IPv6Address, ipaddress.IPv4Network, ipaddress.IPv6Network]
 Packed = Union[bytes, bytearray]
@@ -34,7 +34,7 @@ _SUBNETS = 256  # so many at a time
 def text_fault(text: str) -> str | None:
     """What is wrong with a string that is no network, address or range, as ``a leading zero in an octet``: the first of
     some faults that are looked for, or None."""
-    given, room = text.encode("utf-8", "surrogatepass"), ctypes.create_string_buffer(FAULT_ROOM)
+    given, room = encoded(text), ctypes.create_string_buffer(FAULT_ROOM)
     count = calls.text_fault(given, len(given), room, FAULT_ROOM)
     return room.raw[:count].decode() or None
 
@@ -180,7 +180,7 @@ class Address(_Common, OfAddress):
     first one, they raise `ValueError`.
     """
 
-    __slots__ = ()
+    __slots__ = ("__weakref__",)
 
     if TYPE_CHECKING:
 
@@ -227,7 +227,7 @@ class Host(_Common, OfHost):
     string that is none raises `ValueError`; an address alone has full prefix length. ``Host((address, 8))`` is another
     way to write it. `ipaddress` calls it an interface."""
 
-    __slots__ = ()
+    __slots__ = ("__weakref__",)
 
     if TYPE_CHECKING:
 
@@ -268,7 +268,7 @@ class Network(_Common, OfNetwork):
     at an index. `any` comes first in the order, then IPv4, then IPv6.
     """
 
-    __slots__ = ()
+    __slots__ = ("__weakref__",)
 
     if TYPE_CHECKING:
 
@@ -393,12 +393,6 @@ class Network(_Common, OfNetwork):
         """The same network of the module `ipaddress`, which has none that is like `any`."""
         parts = int(self.first), self.prefixlen
         return ipaddress.IPv4Network(parts) if self.version == 4 else ipaddress.IPv6Network(parts)
-
-    def __bool__(self) -> bool:
-        return True  # each network has an address; `len`, which `bool` would ask, stops at 2^63
-
-    def __len__(self) -> int:
-        return self.num_addresses
 
     def __getitem__(self, index: int) -> Address:
         given = integer(index)

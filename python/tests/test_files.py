@@ -7,6 +7,7 @@ import random
 import resource
 import signal
 import struct
+import subprocess
 import sys
 import tempfile
 import threading
@@ -73,8 +74,8 @@ class Tables(InFolder):
             table.save(self.path)
             asked = around(table)
             networks = [near_text() for _ in range(20)] + ["any"]
-            for checked in (True, False):
-                stored = Table.open(self.path, check=checked)
+            for checked, mapped in product((True, False), (True, False)):
+                stored = Table.open(self.path, check=checked, mapped=mapped)
                 for held in (stored, *(pickle.loads(pickle.dumps(stored, n)) for n in range(pickle.HIGHEST_PROTOCOL + 1))):
                     self.assertEqual(list(held.items()), list(table.items()))
                     self.assertEqual(held.lookup_each(asked), table.lookup_each(asked))
@@ -147,7 +148,7 @@ class Sets(InFolder):
             Table((network, b"value") for network in networks if network != "any").save(self.folder / "rows of a table")
             made.save(self.path)
             again = NetworkSet.open(self.path)
-            sets = [again, NetworkSet.open(self.path, check=False), copy.copy(again)]
+            sets = [again, NetworkSet.open(self.path, check=False), NetworkSet.open(self.path, mapped=True), copy.copy(again)]
             if networks != ["any"]:
                 sets.append(NetworkSet.open(self.folder / "rows of a table"))
             sets += (pickle.loads(pickle.dumps(held, n)) for held in (made, again) for n in range(pickle.HIGHEST_PROTOCOL + 1))
@@ -225,6 +226,39 @@ class Wrong(InFolder):
             with self.assertRaises(error):
                 Table.open(path)
 
+    def test_what_is_no_regular_file(self):
+        """A pipe that nobody writes into, and a file without an end."""
+        os.mkfifo(self.folder / "pipe")
+        for path, kind, mapped in product((self.folder / "pipe", "/dev/zero"), (Table, NetworkSet), (False, True)):
+            with self.assertRaisesRegex(OSError, "not a regular file"):
+                kind.open(path, mapped=mapped)
+
+    def test_numbers_are_no_names(self):
+        """As of `open` they would be descriptors, which are closed behind it."""
+        with open(self.path, "rb") as file:
+            for number in (file.fileno(), True):
+                for call in (Table.open, StoredTable, NetworkSet.open, self.table.save, NetworkSet(self.table).save):
+                    with self.assertRaises(TypeError):
+                        call(number)
+            self.assertTrue(os.fstat(file.fileno()))
+
+    def test_pickles_of_other_bytes(self):
+        """They are checked as the bytes of a file are, whatever the pickle says."""
+        swapped = bytearray(self.content)
+        at = swapped.rindex((192 << 24 | 2 << 8 | 1).to_bytes(4, "little"))
+        swapped[at : at + 4] = bytes(4)
+        Table.open(self.path, check=False)
+        for wrong in (bytes(swapped), self.content[:-1], b""):
+            for held, state in ((StoredTable, (wrong, True)), (NetworkSet, wrong), (Table, {"_rows": (wrong, None, ())})):
+                with self.assertRaises(ValueError):
+                    held.__new__(held).__setstate__(state)
+        unchecked = StoredTable.__new__(StoredTable)
+        unchecked.__setstate__((bytes(swapped), False))
+        with self.assertRaises(TypeError):
+            unchecked.__setstate__((bytearray(self.content), True))
+        again = pickle.loads(pickle.dumps(self.opened(self.content)))
+        self.assertEqual(dict(again), dict(self.table))
+
 
 class Writing(InFolder):
     def setUp(self):
@@ -256,13 +290,147 @@ class Writing(InFolder):
         self.assertTrue((self.folder / "pipe").is_fifo())
         self.assertEqual(sorted(os.listdir(self.folder)), ["fresh", "link", "pipe", "rows"])
 
-    def test_an_opened_table_stays_as_it_was(self):
-        stored = Table.open(self.path)
+    def seen_at_each_line(self, look):
+        """What is seen at each line that is run while a file is written."""
+        seen = set()
+
+        def at_line(frame, *_):
+            seen.update(look())
+            return at_line if frame.f_code.co_filename == _files.__file__ else None
+
+        before = sys.gettrace()
+        sys.settrace(at_line)
+        try:
+            self.new.save(self.path)
+        finally:
+            sys.settrace(before)
+        return seen
+
+    def test_nobody_else_can_open_what_is_written(self):
+        def modes():
+            return [(each.stat().st_size, each.stat().st_mode & 0o7777) for each in self.folder.iterdir() if each != self.path]
+
+        size = len(self.saved(self.new))
+        mask = os.umask(0)
+        try:
+            for mode in (0o600, 0o666, 0o440, 0o7755):
+                self.old.save(self.path)
+                self.path.chmod(mode)
+                seen = self.seen_at_each_line(modes)
+                self.assertEqual({each for each in seen if each[0] < size}, {(0, 0o600)})
+                self.assertEqual(seen - {(0, 0o600), (size, 0o600)}, {(size, mode)} - {(size, 0o600)})
+                self.assertEqual(self.path.stat().st_mode & 0o7777, mode)
+        finally:
+            os.umask(mask)
+
+    @unittest.skipUnless(os.geteuid() == 0, "only root has files of others")
+    def test_owners_and_groups(self):
+        nobody, group, other = 65534, 4242, 4243
+
+        def written(owner, of_group, mode, groups):
+            """Who has a file and what rights after somebody has written it anew."""
+            os.chown(self.path, owner, of_group)
+            self.path.chmod(mode)
+            child = os.fork()
+            if child == 0:
+                try:
+                    if groups is not None:
+                        os.setgroups(groups)
+                        os.setgid(nobody)
+                        os.setuid(nobody)
+                    self.new.save(self.path)
+                    os._exit(0)
+                finally:
+                    os._exit(1)
+            self.assertEqual(os.waitpid(child, 0)[1], 0)
+            now = self.path.stat()
+            return now.st_uid, now.st_gid, now.st_mode & 0o7777
+
+        os.chown(self.folder, nobody, nobody)
+        for mode in (0o660, 0o6755, 0o604):
+            self.assertEqual(written(nobody, group, mode, None), (nobody, group, mode))
+        self.assertEqual(written(nobody, group, 0o2660, [group]), (nobody, group, 0o2660))
+        self.assertEqual(written(nobody, group, 0o660, []), (nobody, nobody, 0o600))
+        self.assertEqual(written(0, group, 0o660, [other, group]), (nobody, group, 0o660))
+        self.assertEqual(written(0, group, 0o6775, [group]), (nobody, group, 0o775))
+        self.assertEqual(written(0, group, 0o6775, [other]), (nobody, nobody, 0o705))
+        self.assertEqual(written(0, 0, 0o640, []), (nobody, nobody, 0o600))
+
+    def test_names(self):
+        """The longest ones, and those of others, which nobody can tell before."""
+        longest = self.folder / ("n" * os.pathconf(self.folder, "PC_NAME_MAX"))
+        for _ in range(2):
+            self.new.save(longest)
+        self.assertEqual(Table.open(longest)["10.0.0.0/8"], b"new" * 1000)
+        names = [self.seen_at_each_line(lambda: os.listdir(self.folder)) - {"rows", longest.name} for _ in range(5)]
+        self.assertEqual([len(each) for each in names], [1] * 5)
+        self.assertEqual(len(set().union(*names)), 5)
+        self.assertRegex(" ".join(set().union(*names)), "^([.]pcidr-[0-9a-f]{16} ?){5}$")
+        with mock.patch.object(os, "urandom", return_value=bytes(8)):
+            (self.folder / (".pcidr-" + "00" * 8)).symlink_to(self.folder / "led")
+            with self.assertRaises(FileExistsError):
+                self.old.save(self.path)
+        self.assertFalse((self.folder / "led").exists())
+
+    def test_links_that_the_system_does_not_follow(self):
+        """Those of others in a folder where anybody may make some; here the system says so of one of them."""
+        (self.folder / "link").symlink_to("rows")
+        look = os.stat
+
+        def refused(path, **how):
+            if os.fspath(path).endswith("link"):
+                raise PermissionError(13, "Permission denied", path)
+            return look(path, **how)
+
+        with mock.patch.object(os, "stat", refused), self.assertRaises(PermissionError):
+            self.new.save(self.folder / "link")
+        self.assertEqual((sorted(os.listdir(self.folder)), self.path.read_bytes()), (["link", "rows"], self.content))
+
+    def test_a_name_that_leads_elsewhere_meanwhile(self):
+        """A link that is there for a moment, while links are followed, leads nowhere."""
+        (self.folder / "other").write_bytes(b"other")
+        follow, moments = os.path.realpath, iter(range(1))
+
+        def at_a_moment(path):
+            if next(moments, None) is None:
+                return follow(path)
+            return str(self.folder / "other")
+
+        with mock.patch.object(os.path, "realpath", at_a_moment):
+            self.new.save(self.path)
+        self.assertEqual((self.folder / "other").read_bytes(), b"other")
+        self.assertEqual(Table.open(self.path)["10.0.0.0/8"], b"new" * 1000)
+        with mock.patch.object(os.path, "realpath", lambda _: str(self.folder / "other")):
+            with self.assertRaises(OSError):
+                self.old.save(self.path)
+        self.assertEqual((self.folder / "other").read_bytes(), b"other")
+
+    def test_a_file_that_is_cut_short(self):
+        """A table keeps what it has read. One that is mapped ends the process, as the page says."""
+        for kind in (Table, NetworkSet):
+            self.new.save(self.path)
+            stored, unchecked = kind.open(self.path), kind.open(self.path, check=False)
+            os.truncate(self.path, 8)
+            for held in (stored, unchecked):
+                self.assertIn("10.1.2.3" if kind is NetworkSet else "10.0.0.0/8", held)
+            with self.assertRaisesRegex(ValueError, "file is shorter than its header says"):
+                os.truncate(self.path, len(self.content))
+                self.path.write_bytes(self.content[:-1])
+                kind.open(self.path)
         self.new.save(self.path)
-        self.assertEqual((stored.lookup("10.1.2.3")[1], Table.open(self.path)["10.0.0.0/8"]), (b"old", b"new" * 1000))
-        stored.save(self.path)
-        self.path.unlink()
-        self.assertEqual(stored["10.0.0.0/8"], b"old")
+        program = "import os, sys; from pcidr import *; t = Table.open(sys.argv[1], mapped=True); os.truncate(sys.argv[1], 0)"
+        ran = subprocess.run([sys.executable, "-c", program + "; t.lookup('10.1.2.3')", self.path])
+        self.assertEqual(ran.returncode, -signal.SIGBUS)
+
+    def test_an_opened_table_stays_as_it_was(self):
+        for mapped in (False, True):
+            self.old.save(self.path)
+            stored = Table.open(self.path, mapped=mapped)
+            self.new.save(self.path)
+            self.assertEqual((stored.lookup("10.1.2.3")[1], Table.open(self.path)["10.0.0.0/8"]), (b"old", b"new" * 1000))
+            stored.save(self.path)
+            self.path.unlink()
+            self.assertEqual(stored["10.0.0.0/8"], b"old")
 
     def test_an_error_leaves_the_old_file(self):
         for call in ("fsync", "replace", "fchmod"):

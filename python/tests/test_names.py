@@ -395,12 +395,14 @@ class OfIpaddress(unittest.TestCase):
             self.assertEqual(str(raised.exception), message)
         masked = {
             "192.0.2.7 255.255.255.0": "line 1: 192.0.2.7 255.255.255.0: host bits set; the network is 192.0.2.0/24",
-            "::1\n192.0.2.0/255.0.255.0": "line 2: 192.0.2.0/255.0.255.0: couldn't parse length in network: invalid length text",
+            "::1\n192.0.2.0/255.0.255.0": "line 2: 192.0.2.0/255.0.255.0: no contiguous mask of its family",
         }
         for given, message in masked.items():
             with self.assertRaises(ValueError) as raised:
                 NetworkSet.from_text(given, masks=True)
             self.assertEqual(str(raised.exception), message)
+        with self.assertRaises(ValueError):
+            NetworkSet.from_text("10.0.0.1 0.0.0.0", strict=False, masks=True)
         for given in (None, 5, ["10.0.0.0/8"]):
             with self.assertRaises(TypeError):
                 NetworkSet.from_text(given)
@@ -422,6 +424,8 @@ class OfIpaddress(unittest.TestCase):
     def test_lists_of_random_masks(self):
         for _ in range(200):
             hosts = [any_host() for _ in range(RANDOM.randrange(20))]
+            # a mask of no bits clears no bit that is set: it may be the wildcard of a host
+            hosts = [host for host in hosts if host.network.prefixlen > 0 or int(host.ip) == 0]
             lines = []
             for host in hosts:
                 masks = [host.netmask, host.hostmask]
@@ -606,6 +610,9 @@ class OfIPSet(unittest.TestCase):
                         self.assertEqual(found is None, not fitting)
                         if found:
                             self.assertTrue(found in held and found.prefixlen == prefixlen)
+                    if fitting:
+                        smallest = min(fitting, key=lambda network: ipaddress.ip_network(str(network)).num_addresses)
+                        self.assertEqual(held.best_free(prefixlen).first, smallest.first)
         self.assertEqual((NetworkSet(["any"]).size, NetworkSet(["::/0"]).size), (2**32 + 2**128, 2**128))
         self.assertEqual(NetworkSet(["any"]).nth(-1, 6), Address("ffff:ffff:ffff:ffff:ffff:ffff:ffff:ffff"))
         with self.assertRaises(ValueError):
@@ -614,6 +621,7 @@ class OfIPSet(unittest.TestCase):
         self.assertEqual((NetworkSet().ranges(), NetworkSet(["any"]).ranges()), ([], whole))
         with self.assertRaises(ValueError):
             NetworkSet(["::/0"]).first_free(129)
+        self.assertEqual(NetworkSet(["10.0.0.0/24", "2001:db8::/32"]).best_free(32), Network("10.0.0.0"))
 
     def test_access_lists(self):
         for _ in range(300):

@@ -1,10 +1,14 @@
 """The module's values, sets and tables as objects of Python: truth, copies, formats, other types, and wrong ones."""
 import copy
+import gc
 import ipaddress
 import pickle
 import random
+import tempfile
 import unittest
+import weakref
 from collections.abc import ItemsView, KeysView, MutableMapping, ValuesView
+from importlib.util import find_spec
 from unittest import mock
 
 import pcidr
@@ -24,11 +28,73 @@ def near_text():
     return str(kind((number, length)))
 
 
+def colliding(count):
+    """Addresses of IPv6 whose tuples of tag and halves have one hash, which CPython makes of such by xxHash without a
+    secret: the lower half takes back what the upper one did."""
+    first, second, fifth, bits = 11400714785074694791, 14029467366897019727, 2870177450012600261, 2**64
+
+    def lane(before, number):
+        mixed = (before + number * second) % bits
+        return (mixed << 31 | mixed >> 33) % bits * first % bits
+
+    ahead, aim = lane(fifth, 192), 0x123456789ABCDEF0 * pow(first, -1, bits) % bits
+    aim = (aim >> 31 | aim << 33) % bits
+    high, found = 0x20010DB800000000, []
+    while len(found) < count:
+        high += 1
+        low = (aim - lane(ahead, high % (2**61 - 1))) * pow(second, -1, bits) % bits
+        if low < 2**61 - 1:
+            found.append((high, low))
+    return found
+
+
 class Values(unittest.TestCase):
     def test_truth(self):
         for text in ("any", "::/0", "2001:db8::/32", "0.0.0.0"):
             self.assertTrue(Network(text))
         self.assertTrue(Address("0.0.0.0"))
+
+    def test_a_network_is_one_object_of_an_array(self):
+        """As one of `ipaddress`: what has a length beside its indexes is a sequence, whose items arrays have."""
+        for network in (Network("10.0.0.0/22"), Network("any"), ipaddress.ip_network("10.0.0.0/22")):
+            with self.assertRaises(TypeError):
+                len(network)
+            self.assertTrue(network)
+            if find_spec("numpy"):
+                import numpy
+
+                self.assertEqual(numpy.array([network]).shape, (1,))
+
+    def test_hashes_of_chosen_values(self):
+        chosen = colliding(50)
+        if len({hash((192, high, low)) for high, low in chosen}) > 1:
+            self.skipTest("this Python has other hashes of tuples")
+        numbers = [high << 64 | low for high, low in chosen]
+        for kind in (Address, Host, Network):
+            values = {kind(Address.from_int(number, 6)) for number in numbers}
+            self.assertEqual((len(values), len(set(map(hash, values)))), (50, 50))
+        alike = [place * (2**61 - 1) for place in range(50)]
+        for numbers in (numbers, alike):
+            table = Table((Address.from_int(number, 6), number) for number in numbers)
+            self.assertEqual((len(table), len(set(map(hash, table._rows)))), (50, 50))
+        self.assertEqual(set(map(hash, alike)), {0})
+
+    def test_weak_references(self):
+        table = Table({"10.0.0.0/8": b"ten"})
+        with tempfile.TemporaryDirectory() as room:
+            table.save(room + "/rows")
+            stored = Table.open(room + "/rows")
+        sets = NetworkSet(["::/0"]), pcidr.MutableNetworkSet()
+        for held in [Address("::1"), Host("10.0.0.1/8"), Network("any"), *sets, table, stored]:
+            gone = []
+            one = copy.copy(held) if held is table else type(held).__new__(type(held))
+            kept = [weakref.ref(one, gone.append), weakref.proxy(one)]
+            self.assertIs(kept[0](), one)
+            del one
+            gc.collect()
+            self.assertEqual((gone, kept[0]()), ([kept[0]], None))
+        cache = weakref.WeakValueDictionary({"one": (one := Network("10.0.0.0/8"))})
+        self.assertIs(cache["one"], one)
 
     def test_copies(self):
         values = [Address("::1"), Host("10.0.0.5/8"), Host("10.0.0.5"), Network("any"), Network("2001:db8::/32")]
@@ -82,6 +148,23 @@ class Values(unittest.TestCase):
             Host("10.0.0.0/8") in Network("10.0.0.0/8")
         with self.assertRaises(TypeError):
             ipaddress.ip_interface("10.0.0.0/8") in Network("10.0.0.0/8")
+        for wrong in (5, None, b"1.2.3.4", bytearray(b"x"), 1.5, ["::1"], Address("::1"), Network("any")):
+            for call in (pcidr.text_fault, Network.from_reverse_pointer, Table().forwards_same):
+                with self.assertRaises(TypeError):
+                    call(wrong)
+        with self.assertRaises(TypeError):
+            Table().forwards_same({})
+
+    def test_a_string_says_what_it_has(self):
+        """Whatever a class below says of it."""
+
+        class Other(str):
+            def encode(self, *_):
+                return b"::1"
+
+        self.assertIsNone(pcidr.text_fault(Other("10.0.0.0/8")))
+        self.assertEqual(Network.from_reverse_pointer(Other("10.in-addr.arpa")), Network("10.0.0.0/8"))
+        self.assertEqual(Network(Other("10.0.0.9/8"), strict=False), Network("10.0.0.0/8"))
 
     def test_a_class_below_without_its_init(self):
         class Left(Network):
@@ -235,6 +318,28 @@ class Tables(unittest.TestCase):
                 call("10.1.0.0/16")
         with self.assertRaises(TypeError):
             hash(table)
+
+    def test_strings_that_are_no_networks_have_no_row(self):
+        table = Table({"any": b"all", "0.0.0.0/0": b"four", "::/0": b"six"})
+        with tempfile.TemporaryDirectory() as room:
+            Table({"0.0.0.0/0": b"four", "::/0": b"six"}).save(room + "/rows")
+            stored = Table.open(room + "/rows")
+        for rows in (table, Table(), stored):
+            for wrong in ("junk", "", "10.0.0.1/8", "fe80::1%eth0", "\ud800", ipaddress.ip_address("fe80::1%eth0")):
+                self.assertEqual((wrong in rows, wrong in rows.keys(), rows.get(wrong), rows.get(wrong, 5)), (False, False, None, 5))
+                calls = [rows.__getitem__, rows.lookup, rows.covering, lambda key: rows.lookup_each([key])]
+                if rows is not stored:
+                    self.assertEqual(rows.pop(wrong, 5), 5)
+                    calls += [rows.pop, rows.__delitem__, rows.setdefault, lambda key: rows.update({key: 1})]
+                for call in calls:
+                    with self.assertRaises(ValueError):
+                        call(wrong)
+            for wrong in (5, None, b"::", Host("::/64"), ["::/0"]):
+                for call in (rows.__contains__, rows.get, rows.__getitem__, rows.lookup):
+                    with self.assertRaises(TypeError):
+                        call(wrong)
+        self.assertEqual([len(rows) for rows in (table, stored)], [3, 2])
+        self.assertEqual([stored.get("::/0"), "0.0.0.0/0" in stored, "any" in stored], [b"six", True, False])
 
     def test_changes_are_those_of_a_dict(self):
         """The same random calls of a table and a dict return the same, raise the same and leave the same rows."""

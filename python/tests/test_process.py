@@ -92,6 +92,15 @@ print("as wanted")
 """
 
 
+# What the dicts of a process have of values, and of the rows of a table.
+HASHES = """
+from pcidr import Address, Host, Network, NetworkSet, Table
+text = "2001:db8::"
+values = Address(text), Host(text), Network(text), NetworkSet([text]), *Table({text: 1, "any": 2, "10.0.0.0/8": 3})._rows
+print(*map(hash, values))
+"""
+
+
 def output(program: str, **environment: str) -> str:
     """What a program in another process prints."""
     words = [sys.executable, "-c", program]
@@ -102,6 +111,21 @@ class Process(unittest.TestCase):
     @unittest.skipIf(sys.version_info < (3, 11), "there is no extension")
     def test_two_interpreters(self):
         self.assertEqual(sorted(output(TWO_INTERPRETERS).split()), ["first", "second"])
+
+    @unittest.skipIf(sys.version_info < (3, 11), "there is no extension")
+    def test_an_isolated_interpreter(self):
+        """It has the module where it can have `ctypes`, which one of Python 3.12 can't."""
+        isolated = TWO_INTERPRETERS.replace('create("legacy")', "create()").replace("create(isolated=False)", "create()")
+        ran = subprocess.run([sys.executable, "-c", isolated], capture_output=True, text=True)
+        if sys.version_info[:2] == (3, 12):
+            self.assertIn("module _ctypes does not support loading in subinterpreters", ran.stderr)
+        else:
+            self.assertEqual(sorted(ran.stdout.split()), ["first", "second"])
+
+    def test_hashes_have_a_secret_of_the_process(self):
+        one, again, other = (output(HASHES, PYTHONHASHSEED=seed).split() for seed in "112")
+        self.assertEqual((one, len(one)), (again, 7))
+        self.assertFalse([each for each, another in zip(one, other) if each == another])
 
     def test_entries_of_the_registries(self):
         for way in ("by_threads", "by_opcodes"):

@@ -1,12 +1,9 @@
 /* file FILE ADDRESS..: writes the value of the longest network of a look-up table in a file that each address is in. */
-#define _POSIX_C_SOURCE 200809L
-#include <fcntl.h>
+#include <errno.h>
 #include <pcidr.h>
 #include <stdio.h>
+#include <stdlib.h>
 #include <string.h>
-#include <sys/mman.h>
-#include <sys/stat.h>
-#include <unistd.h>
 
 /* Says what is wrong with a name, and returns 1. */
 static int wrong(const char *name, uint32_t code) {
@@ -16,43 +13,65 @@ static int wrong(const char *name, uint32_t code) {
     return 1;
 }
 
-/* Maps the file read-only: its bytes, or null. */
-static const uint8_t *mapped(const char *name, size_t *length) {
-    struct stat about;
-    int handle = open(name, O_RDONLY);
-    if (handle < 0) return NULL;
-    void *bytes = MAP_FAILED;
-    if (fstat(handle, &about) == 0) {
-        *length = (size_t)about.st_size;
-        bytes = mmap(NULL, *length, PROT_READ, MAP_PRIVATE, handle, 0);
+/* Reads the whole file into memory, which stays as it is where the file is cut short: its bytes, or null. */
+static uint8_t *contents(const char *name, size_t *length) {
+    FILE *file = fopen(name, "rb");
+    uint8_t *bytes = NULL;
+    size_t room = 0, count = 1;
+    *length = 0;
+    while (file && count > 0) {
+        if (*length == room) {
+            uint8_t *larger = realloc(bytes, room = 2 * room + 65536);
+            if (!larger) break;
+            bytes = larger;
+        }
+        count = fread(bytes + *length, 1, room - *length, file);
+        *length += count;
     }
-    close(handle);
-    return bytes == MAP_FAILED ? NULL : bytes;
+    if (file && count == 0 && !ferror(file)) {
+        fclose(file);
+        return bytes;
+    }
+    if (file) fclose(file);
+    free(bytes);
+    return NULL;
 }
 
-int main(int argc, char **argv) {
-    size_t length = 0;
-    const uint8_t *bytes = argc > 1 ? mapped(argv[1], &length) : NULL;
-    if (!bytes) {
-        fprintf(stderr, "usage: %s FILE ADDRESS..\n", argv[0]);
-        return 2;
-    }
+/* Looks the addresses up in the file of this name and these bytes: 0, or 1 after an error. */
+static int look(const char *name, const uint8_t *bytes, size_t length, char **texts, int count) {
     pcidr_file file;
     uint32_t code = pcidr_file_open(bytes, length, &file);
     if (code == PCIDR_OK) code = pcidr_file_check(bytes, length);
-    if (code != PCIDR_OK) return wrong(argv[1], code);
+    if (code != PCIDR_OK) return wrong(name, code);
     int status = 0;
-    for (int i = 2; i < argc; i++) {
+    for (int i = 0; i < count; i++) {
         pcidr_value address;
         pcidr_found found;
-        code = pcidr_read_address(argv[i], strlen(argv[i]), &address);
+        code = pcidr_read_address(texts[i], strlen(texts[i]), &address);
         if (code != PCIDR_OK) {
-            status = wrong(argv[i], code);
+            status = wrong(texts[i], code);
         } else if (pcidr_file_lookup(bytes, length, &file, &address, &found)) {
-            printf("%s: %.*s\n", argv[i], (int)found.value_len, (const char *)bytes + found.value);
+            printf("%s: %.*s\n", texts[i], (int)found.value_len, (const char *)bytes + found.value);
         } else {
-            printf("%s: none\n", argv[i]);
+            printf("%s: none\n", texts[i]);
         }
     }
+    return status;
+}
+
+int main(int argc, char **argv) {
+    if (argc < 2) {
+        fprintf(stderr, "usage: %s FILE ADDRESS..\n", argv[0]);
+        return 2;
+    }
+    size_t length;
+    uint8_t *bytes = contents(argv[1], &length);
+    int status = 1;
+    if (bytes && length > 0) {
+        status = look(argv[1], bytes, length, argv + 2, argc - 2);
+    } else {
+        fprintf(stderr, "%s: %s\n", argv[1], bytes ? "file is empty" : strerror(errno));
+    }
+    free(bytes);
     return status;
 }

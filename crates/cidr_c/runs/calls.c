@@ -1,6 +1,7 @@
-/* Calls around networks, of names, faults, lists, masks, IPv4 inside IPv6, special purposes, ranges, sets, pools and access
- * lists, on values whose answers stand in RFCs or are counted by hand, and with arguments that are none. */
+/* Calls around networks, of names, faults, loose addresses, lists, masks, IPv4 inside IPv6, special purposes, ranges, sets,
+ * pools and access lists, on values whose answers stand in RFCs or are counted by hand, and with arguments that are none. */
 #include <pcidr.h>
+#include <stddef.h>
 #include <stdio.h>
 #include <string.h>
 
@@ -29,10 +30,22 @@ static pcidr_value value(const char *text) {
 
 static int is_same(pcidr_value a, pcidr_value b) { return a.high == b.high && a.low == b.low && a.tag == b.tag; }
 
-/* Whether `out` is the host or the network of a string; sets the mark again. */
+/* Whether the bytes behind the tag of a value are zeros. */
+static int is_word(const pcidr_value *written) {
+    static const uint8_t zeros[sizeof *written - offsetof(pcidr_value, tag) - 1];
+    return memcmp(&written->tag + 1, zeros, sizeof zeros) == 0;
+}
+
+/* Sets the mark, with other bytes behind its tag. */
+static void set_mark(void) {
+    memset(&out, 0xaa, sizeof out);
+    out.high = mark.high, out.low = mark.low, out.tag = mark.tag;
+}
+
+/* Whether `out` is the host or the network of a string, with zeros behind its tag; sets the mark again. */
 static int is(const char *text) {
-    int same = is_same(out, value(text));
-    out = mark;
+    int same = is_same(out, value(text)) && is_word(&out);
+    set_mark();
     return same;
 }
 
@@ -242,6 +255,17 @@ static int is_bad(const char *text, uint32_t code, uint64_t number, const char *
     return same && networks == 77;
 }
 
+static void loose(void) {
+    static const char *const taken[] = {"127.1", "0x7f000001", "0177.1", "+127.1", "127.+1"};
+    for (size_t i = 0; i < sizeof taken / sizeof *taken; i++)
+        WANT(pcidr_read_loose_address(taken[i], strlen(taken[i]), &out) == PCIDR_OK && is("127.0.0.1"));
+    WANT(pcidr_read_loose_address("010.1", 5, &out) == PCIDR_OK && is("8.0.0.1"));
+    WANT(pcidr_read_loose_address("+010.1", 6, &out) == PCIDR_OK && is("10.0.0.1"));
+    static const char *const refused[] = {"127.1 ", "-1", "0x+1", "+0x1", "++1"};
+    for (size_t i = 0; i < sizeof refused / sizeof *refused; i++)
+        WANT(pcidr_read_loose_address(refused[i], strlen(refused[i]), &out) == PCIDR_NOT_ADDRESS && is_left());
+}
+
 static void lists(void) {
     const char *const nothing[] = {NULL};
     const char *const mixed[] = {"10.0.0.0/8", "192.0.2.1", "2001:db8::/32", "::1", NULL};
@@ -293,7 +317,7 @@ static void inside_ipv6(void) {
     pcidr_value four = value("192.0.2.1"), net = value("192.0.2.0/24"), host = value("192.0.2.1/24"), any = value("any");
     pcidr_value mapped = value("::ffff:192.0.2.1"), wide = value("::ffff:0:0/95"), block = value("::ffff:0:0/96");
     pcidr_value site = value("2002:c000:201::1"), translated = value("64:ff9b::192.0.2.33"), other = value("::192.0.2.1");
-    out = mark;
+    set_mark();
     WANT(pcidr_ipv6_mapped(&four, &out) == PCIDR_OK && is("::ffff:192.0.2.1"));
     WANT(pcidr_ipv6_mapped(&net, &out) == PCIDR_OK && is("::ffff:192.0.2.0/120"));
     WANT(pcidr_ipv6_mapped(&host, &out) == PCIDR_OK && is("::ffff:192.0.2.0/120"));
@@ -347,10 +371,13 @@ static void ranges_and_pools(void) {
     WANT(pcidr_summarize(&last, &first, room, 4, &count) == PCIDR_OK && count == 0);
     WANT(pcidr_summarize(&first, &pair, room, 4, &count) == PCIDR_NO_VALUE && count == 0);
     pool[0] = value("10.0.2.0/23"), pool[1] = value("10.0.1.64/26"), pool[2] = value("10.0.0.0/24");
-    out = mark;
+    set_mark();
     WANT(pcidr_first_free(pool, 3, 26, &out) == PCIDR_OK && is("10.0.0.0/26"));
     WANT(pcidr_best_free(pool, 3, 26, &out) == PCIDR_OK && is("10.0.1.64/26"));
     WANT(pcidr_best_free(pool, 3, 22, &out) == PCIDR_NONE && is_left());
+    pcidr_value both[] = {value("2001:db8::/32"), value("10.0.0.0/24")};
+    WANT(pcidr_best_free(both, 2, 32, &out) == PCIDR_OK && is("10.0.0.0"));
+    WANT(pcidr_best_free(both, 2, 33, &out) == PCIDR_OK && is("2001:db8::/33"));
     WANT(pcidr_first_free(pool, 3, 255, &out) == PCIDR_NONE && is_left());
     WANT(pcidr_first_free(NULL, 0, 0, &out) == PCIDR_NONE && is_left());
     pool[1] = none;
@@ -381,6 +408,35 @@ static int is_range(pcidr_range range, const char *first, const char *last) {
     return is_same(range.first, value(first)) && is_same(range.last, value(last));
 }
 
+/* Each value of the lists that calls write has zeros behind its tag. */
+static void words(void) {
+    pcidr_value first = value("10.0.0.1"), last = value("10.0.0.6"), all = value("10.0.0.0/8"), room[64];
+    pcidr_row rows[2] = {{value("10.0.0.0/9"), 1}, {value("2001:db8::/32"), 2}}, fewer[2];
+    pcidr_range ranges[2];
+    pcidr_rule rule = {value("10.0.0.0/8"), 1};
+    uint64_t line;
+    char message[PCIDR_MESSAGE_ROOM];
+    size_t count = 0;
+#define WANT_WORDS(call, most)                                                                      \
+    do {                                                                                            \
+        memset(room, 0xaa, sizeof room);                                                            \
+        WANT((call) == PCIDR_OK && count > 0 && count <= (most));                                   \
+        for (size_t i = 0; i < count; i++) WANT(is_word(&room[i]));                                 \
+    } while (0)
+    WANT_WORDS(pcidr_read_lines("10.0.0.0/8\n2001:db8::/32\nany", 28, room, 64, &count), 3);
+    WANT_WORDS(pcidr_read_list("10.0.0.0/8\n10.0.0.1-10.0.0.9\n::", 31, 0, room, 64, &count, &line, message, sizeof message), 64);
+    WANT_WORDS(pcidr_subnets(&all, 10, 0, 1, room, 64, &count), 3);
+    WANT_WORDS(pcidr_summarize(&first, &last, room, 64, &count), 4);
+    WANT_WORDS(pcidr_union(&first, 1, &last, 1, room, 64, &count), 2);
+    WANT_WORDS(pcidr_complement(&first, 1, &all, room, 64, &count), 24);
+    WANT_WORDS(pcidr_permitted(&rule, 1, room, 64, &count), 1);
+    WANT_WORDS((room[0] = last, memset(&room[0].tag + 1, 0xaa, 7), count = 1, pcidr_union_in_place(room, 64, &count, &first, 1)), 2);
+    WANT(pcidr_ranges(&all, 1, ranges, 2, &count) == PCIDR_OK && is_word(&ranges[0].first) && is_word(&ranges[0].last));
+    memset(fewer, 0xaa, sizeof fewer);
+    WANT(pcidr_smallest(rows, 2, fewer, 2, &count) == PCIDR_OK && count == 2);
+    WANT(is_word(&fewer[0].network) && is_word(&fewer[1].network));
+}
+
 static void addresses_of_sets(void) {
     pcidr_value all = value("any"), six = value("::/0"), networks[4];
     pcidr_range room[3] = {{mark, mark}, {mark, mark}, {mark, mark}};
@@ -405,7 +461,7 @@ static void addresses_of_sets(void) {
     WANT(pcidr_count_ipv6(&all, 1, &number) == PCIDR_NONE && pcidr_count_ipv6(&six, 1, &number) == PCIDR_NONE);
     WANT(pcidr_count_ipv6(&none, 1, &number) == PCIDR_NO_VALUE && number.high == 7 && number.low == 0);
     WANT(pcidr_count_ipv6(NULL, 0, &number) == PCIDR_OK && number.high == 0 && number.low == 0);
-    out = mark;
+    set_mark();
     WANT(pcidr_nth_ipv4(networks, 4, 0, 31, &out) == PCIDR_OK && is("10.0.0.31"));
     WANT(pcidr_nth_ipv4(networks, 4, 0, 32, &out) == PCIDR_OK && is("10.0.1.0"));
     WANT(pcidr_nth_ipv4(networks, 4, 0, 34, &out) == PCIDR_NONE && pcidr_nth_ipv4(networks, 4, 1, 0, &out) == PCIDR_NONE && is_left());
@@ -487,18 +543,20 @@ static void access_lists(void) {
 }
 
 int main(void) {
-    out = mark;
+    set_mark();
     around();
     subnets();
     beside();
     masks_and_names();
     zones();
     faults();
+    loose();
     lists();
     inside_ipv6();
     purposes();
     ranges_and_pools();
     sets();
+    words();
     addresses_of_sets();
     covering();
     forwarding();

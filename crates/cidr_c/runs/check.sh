@@ -18,7 +18,7 @@ mkdir "$room/top" "$room/home"
 ln -s "$(dirname "$crate")" "$(realpath "$python")" "$room/top"
 sed -n '/^```sh$/,/^```$/{/^```/!p}' "$crate/README.md" >"$room/commands"
 (cd "$room/top" && HOME=$room/home bash -eu "$room/commands" >"$room/printed") || status=1
-cat "$here/networks.txt" "$here/python.txt" | cmp - "$room/printed" || status=1
+cat "$here/networks.txt" "$here/networks.txt" "$here/python.txt" | cmp - "$room/printed" || status=1
 lib=$room/home/pcidr
 strict=(-Wall -Wextra -pedantic -Werror "-I$lib")
 
@@ -85,6 +85,11 @@ same file.txt
 head -c 100 "$room/names" >"$room/short"
 ! "$room/file.checked" "$room/short" 10.1.2.3 2>"$room/file.err" || wrong "a file that is cut short is read"
 [[ $(cat "$room/file.err") == "$room/short: file is shorter than its header says" ]] || wrong "the message of a file that is cut short"
+: >"$room/empty"
+! "$room/file.checked" "$room/empty" 10.1.2.3 2>"$room/file.err" || wrong "an empty file is read"
+[[ $(cat "$room/file.err") == "$room/empty: file is empty" ]] || wrong "the message of an empty file"
+"$compiler" -std=c11 "${strict[@]}" -o "$room/cut" "$here/cut.c" "$lib/libpcidr.a"
+"$room/cut" "$room/cut.file" || wrong "a file that is cut short while a program has a copy of it, or has it mapped"
 "$room/calls.checked" || wrong "a call around networks, of a pool or an access list"
 "$room/wrong.checked" || wrong "a call with a wrong argument"
 "$room/memory.checked" || wrong "a call without memory"
