@@ -56,10 +56,16 @@ fn slices_of_other_lengths() {
 
 #[test]
 fn lists_that_are_no_sets() {
-    let descending = [network("11.0.0.0/8"), network("10.0.0.0/8")];
+    let descending = [network("12.0.0.0/8"), network("10.0.0.0/8")];
     let nested = [network("10.0.0.0/8"), network("10.1.0.0/16")];
     let halves = [network("10.0.0.0/9"), network("10.128.0.0/9")];
     panics("least_cover_in_place", move || least_cover_in_place(&mut { descending }));
+    // A set: of other halves, and of half a network beside less.
+    for set in [["10.128.0.0/9", "11.0.0.0/9"], ["10.0.0.0/9", "10.128.0.0/16"], ["10.0.0.0/16", "10.128.0.0/9"]] {
+        let mut out = [Ipv4Cidr::null(); 2];
+        slices::union(&set.map(network), &[], &mut out);
+        assert_eq!(out, set.map(network));
+    }
     for list in [descending, nested, halves] {
         panics("union", move || slices::union(&list, &[], &mut [Ipv4Cidr::null(); 4]));
         panics("intersection", move || slices::intersection(&list, &[], &mut [Ipv4Cidr::null(); 4]));

@@ -70,8 +70,9 @@ CALLS_OF = {
         "InetPair": ("inet_pair/combined.rs", "IpInetPair"),
     }
 }
-# What is said of proofs, and what of it holds in Rust.
+# What is said of proofs and of other crates, and what of it holds in Rust.
 SAID = [
+    (", and where a `u32` for each row is enough, the forwarding table of `cidr_fib`, which seldom reads a row and takes less time", ""),
     ("has to prove", "has to ensure"),
     (", and `laws` has laws for the proofs of callers", ""),
     (": [`laws::networks`](crate::laws::networks) says both", ""),

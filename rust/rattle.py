@@ -35,6 +35,8 @@ def gone(text):
 CLAUSE = re.compile(r"\b(?:requires|ensures)\*?(?:[ \t]+\w+)?\s*(?=\{)")
 GHOST_USE = re.compile(r"\bghost\s+use\s[^;]*;")
 GHOST_ITEM = re.compile(r"\b(?:pub(?:\([a-z ]+\))?\s+)?ghost\s+[A-Za-z_]\w*\s*[:=]\s*(?=\{)")
+# What one of these, or a text that is held, begins with.
+START = re.compile(r"""//|b?["']|\b(?:requires|ensures|ghost|pub)\b""")
 DOC_OF_GHOST = re.compile(r"(?:///[^\n]*\n\s*)+(?=(?:pub(?:\([a-z ]+\))?\s+)?ghost\b)")
 
 
@@ -51,8 +53,9 @@ def end_of_term(text, start):
 def without_proofs(text):
     """The text without clauses and ghost items, with the comments that document these."""
     out, i = [], 0
-    while i < len(text):
-        start = i
+    while begun := START.search(text, i):
+        out.append(text[i : begun.start()])
+        start = i = begun.start()
         if found := DOC_OF_GHOST.match(text, i) or GHOST_USE.match(text, i):
             i = found.end()
         elif found := CLAUSE.match(text, i):
@@ -68,7 +71,7 @@ def without_proofs(text):
             out.append(text[start:i])
             continue
         out.append(gone(text[start:i]))
-    return LAW.sub(lambda law: gone(law.group()), "".join(out))
+    return LAW.sub(lambda law: gone(law.group()), "".join([*out, text[i:]]))
 
 
 # Laws that stand outside of `laws`, beside what they are of, with their comments.

@@ -20,6 +20,7 @@ EDITS = [
     ("proved parsing", "parsers/loose.rs", "s.parse::<Ipv4Addr>()", "crate::addr::v4::read_v4(s)"),
     ("proved parsing", "parsers/short.rs", "(s, Ipv4Addr::from_str,", "(s, crate::addr::v4::read_v4,"),
     ("proved parsing", "parsers/short.rs", "(s, IpAddr::from_str,", "(s, crate::addr::ip::read_ip,"),
+    ("proved parsing", "parsers/any.rs", "(s, IpAddr::from_str)", "(s, crate::addr::ip::read_ip)"),
     ("std's error", "parsers/short.rs", "AddrParseError::ipv4()", "crate::addr::error::ipv4()"),
 
     # Errors are those of `core::net` and `core::num`, with their messages, kinds and sources.

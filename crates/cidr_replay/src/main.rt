@@ -1,7 +1,7 @@
 //! Replays operations on the crates `cidr`, `cidr_table`, `cidr_sets` and `cidr_ext`: it reads one a line and writes an
 //! answer line for each.
 //!
-//! README.md beside `src` has the format.
+//! `rust/replay/README.md` has the format.
 #![tactic(auto)]
 
 mod addresses;

@@ -1,12 +1,10 @@
-//! Tests of the libraries through their public calls, of what neither a contract nor a row of the replay says, and Rust
-//! would not show: `rust/cases` has the others. The expected values come from outside the libraries.
+//! Tests of the libraries through their public calls, of what the kit's build alone shows: how often closures are called,
+//! values that own memory, and how large values are. `rust/cases` has the others.
 #![tactic(auto)]
 
 #[cfg(test)]
-mod parsers;
+mod calls;
 #[cfg(test)]
-mod support;
+mod sizes;
 #[cfg(test)]
 mod tables;
-#[cfg(test)]
-mod values;

@@ -1,4 +1,4 @@
-//! Tables: their keys and values, and rows whose values own memory.
+//! A table whose values own memory.
 use cidr::{Ipv4Addr, Ipv4Cidr};
 use cidr_table::LpmTable;
 use std::alloc::{AllocError, Global};
@@ -33,25 +33,5 @@ fn values_that_own_memory_stay_with_their_keys(rt: HostRuntime) -> Result<(), Fa
         let wanted = last_string(rt.alloc(), key.first_address().to_bits())?;
         assert!(rt; *text == wanted);
     }
-    Ok(())
-}
-
-#[test]
-fn keys_and_values_are_those_of_the_rows_from_both_ends(rt: HostRuntime) -> Result<(), Fail> {
-    let mut routes = LpmTable::new(rt.alloc());
-    for (number, value) in [(7_u32, 1), (5, 2), (9, 3)] {
-        routes.set(host(number), value)?;
-    }
-    let mut keys = routes.keys();
-    let found = [keys.next(), keys.next_back(), keys.next(), keys.next_back()];
-    assert!(rt; found == [Some(&host(5)), Some(&host(9)), Some(&host(7)), None]);
-    let mut values = routes.values();
-    let found = [
-        values.next(),
-        values.next_back(),
-        values.next(),
-        values.next(),
-    ];
-    assert!(rt; found == [Some(&2), Some(&3), Some(&1), None]);
     Ok(())
 }

@@ -11,7 +11,8 @@
 //! let mut set: NetworkSet<_> = halves.into_iter().collect();
 //! set.extend(["192.0.2.0/24".parse().unwrap()]);
 //! assert_eq!(format!("{set:?}"), "[10.0.0.0/8, 192.0.2.0/24]");
-//! assert_eq!(set.clone().into_iter().count(), 2);
+//! assert!(set.clone() == set && NetworkSet::<Ipv4Cidr>::default().is_empty());
+//! assert!((&set).into_iter().eq(set.as_slice()) && set.clone().into_iter().eq((&set).into_iter().copied()));
 //! ```
 
 pub use cidr_support::alloc::{AllocError, Global};

@@ -1,10 +1,12 @@
-//! Values of the libraries to the standard library and as they are printed, and what parsers make of closures that
-//! refuse and of strings of a hundred thousand characters.
+//! Values of the libraries to the standard library and as they are printed, pairs with every length, and what parsers make
+//! of closures and of strings of a hundred thousand characters.
 
+mod calls;
 mod copies;
 mod debug_output;
 mod errors;
 mod hashes;
+mod lengths;
 mod long_loose_texts;
 mod long_texts;
 mod order;

@@ -8,6 +8,12 @@ use core::fmt;
 pub struct Global;
 
 /// No memory was left.
+///
+/// ```
+/// # use cidr_support::alloc::*;
+/// assert_eq!(AllocError.to_string(), "memory allocation failed");
+/// assert_eq!(AllocFailed { value: 1 }.to_string(), "memory allocation failed");
+/// ```
 #[derive(Clone, Copy, Debug, PartialEq, Eq)]
 pub struct AllocError;
 

@@ -1,7 +1,7 @@
 //! A string whose calls return an error where memory runs out, for tests and programs. It is the `String` of `alloc`
 //! inside.
 
-use crate::alloc::{AllocError, AllocFailed, Global};
+use crate::alloc::{AllocError, Global};
 use crate::vec::Vec;
 use core::fmt;
 use core::ops::Deref;
@@ -70,7 +70,8 @@ impl String {
     /// # use cidr_support::{alloc::*, string::String, vec::Vec};
     /// let mut text = String::new(Global);
     /// text.push('/')?;
-    /// assert_eq!(text.as_str(), "/");
+    /// text.push('8')?;
+    /// assert_eq!(format!("{text:>3}"), " /8");
     /// # Ok::<(), AllocError>(())
     /// ```
     pub fn push(&mut self, c: char) -> Result<(), AllocError> {
@@ -81,9 +82,9 @@ impl String {
     ///
     /// ```
     /// # use cidr_support::{alloc::*, string::String, vec::Vec};
-    /// let mut text = String::new(Global);
+    /// let mut text = String::from_str(Global, "::")?;
     /// write!(text, "/{}", 8)?;
-    /// assert_eq!(text.as_str(), "/8");
+    /// assert_eq!(text.as_str(), "::/8");
     /// # Ok::<(), AllocError>(())
     /// ```
     pub fn write_fmt(&mut self, args: fmt::Arguments<'_>) -> Result<(), AllocError> {
@@ -113,19 +114,6 @@ impl String {
     pub fn clear(&mut self) {
         self.0.clear();
     }
-
-    /// Leaves the first `len` bytes.
-    ///
-    /// ```
-    /// # use cidr_support::{alloc::*, string::String, vec::Vec};
-    /// let mut text = String::from_str(Global, "10/8")?;
-    /// text.truncate(2);
-    /// assert_eq!(text.as_str(), "10");
-    /// # Ok::<(), AllocError>(())
-    /// ```
-    pub fn truncate(&mut self, len: usize) {
-        self.0.truncate(len);
-    }
 }
 
 impl fmt::Write for String {
@@ -142,21 +130,9 @@ impl Deref for String {
     }
 }
 
-impl fmt::Debug for String {
-    fn fmt(&self, f: &mut fmt::Formatter<'_>) -> fmt::Result {
-        self.0.fmt(f)
-    }
-}
-
 impl fmt::Display for String {
     fn fmt(&self, f: &mut fmt::Formatter<'_>) -> fmt::Result {
         self.0.fmt(f)
-    }
-}
-
-impl<T> From<AllocFailed<T>> for fmt::Error {
-    fn from(_: AllocFailed<T>) -> fmt::Error {
-        fmt::Error
     }
 }
 

@@ -33,6 +33,7 @@ impl<const CAP: usize> ArrayString<CAP> {
     /// text.push_str("192.");
     /// text.push_str("0");
     /// assert_eq!(text.as_str(), "192.0");
+    /// assert!(std::panic::catch_unwind(move || text.push_str(".2.0")).is_err());
     /// ```
     #[inline]
     pub fn push_str(&mut self, text: &str) {
@@ -47,7 +48,8 @@ impl<const CAP: usize> ArrayString<CAP> {
     /// # use cidr_support::arrayvec::*;
     /// let mut text = ArrayString::<8>::new();
     /// text.push('/');
-    /// assert_eq!(text.as_str(), "/");
+    /// text.push('²');
+    /// assert_eq!(text.as_str(), "/²");
     /// ```
     #[inline]
     pub fn push(&mut self, c: char) {
@@ -61,7 +63,10 @@ impl<const CAP: usize> ArrayString<CAP> {
     /// let mut text = ArrayString::<8>::new();
     /// text.push_str("10/8");
     /// text.truncate(2);
+    /// text.truncate(3);
     /// assert_eq!(text.as_str(), "10");
+    /// text.push('²');
+    /// assert!(std::panic::catch_unwind(move || text.truncate(3)).is_err());
     /// ```
     #[inline]
     pub fn truncate(&mut self, len: usize) {
@@ -86,49 +91,6 @@ impl<const CAP: usize> ArrayString<CAP> {
             Err(_) => unreachable!(),
         }
     }
-
-    /// The bytes of the string.
-    ///
-    /// ```
-    /// # use cidr_support::arrayvec::*;
-    /// let mut text = ArrayString::<8>::new();
-    /// text.push_str("::1");
-    /// assert_eq!(text.as_bytes(), b"::1");
-    /// ```
-    #[inline]
-    pub fn as_bytes(&self) -> &[u8] {
-        &self.bytes[..self.len]
-    }
-
-    /// The number of bytes.
-    ///
-    /// ```
-    /// # use cidr_support::arrayvec::*;
-    /// let mut text = ArrayString::<8>::new();
-    /// text.push_str("::1");
-    /// assert_eq!(text.len(), 3);
-    /// ```
-    #[inline]
-    pub fn len(&self) -> usize {
-        self.len
-    }
-
-    /// Whether there are no bytes.
-    ///
-    /// ```
-    /// # use cidr_support::arrayvec::*;
-    /// assert!(ArrayString::<8>::new().is_empty());
-    /// ```
-    #[inline]
-    pub fn is_empty(&self) -> bool {
-        self.len == 0
-    }
-}
-
-impl<const CAP: usize> Default for ArrayString<CAP> {
-    fn default() -> Self {
-        ArrayString::new()
-    }
 }
 
 impl<const CAP: usize> Deref for ArrayString<CAP> {
@@ -140,9 +102,21 @@ impl<const CAP: usize> Deref for ArrayString<CAP> {
     }
 }
 
+/// ```
+/// # use cidr_support::arrayvec::*;
+/// let (mut text, mut other) = (ArrayString::<8>::new(), ArrayString::<8>::new());
+/// text.push_str("10/8");
+/// other.push_str("10/9");
+/// assert!(text == text && text != other);
+/// assert_eq!(format!("{text:>6}, {text:?}, {}", text.len()), "  10/8, \"10/8\", 4");
+/// text.truncate(2);
+/// assert!(text != other);
+/// other.truncate(2);
+/// assert!(text == other);
+/// ```
 impl<const CAP: usize> PartialEq for ArrayString<CAP> {
     fn eq(&self, other: &Self) -> bool {
-        self.as_bytes() == other.as_bytes()
+        self.as_str() == other.as_str()
     }
 }
 
@@ -157,17 +131,6 @@ impl<const CAP: usize> fmt::Display for ArrayString<CAP> {
 impl<const CAP: usize> fmt::Debug for ArrayString<CAP> {
     fn fmt(&self, f: &mut fmt::Formatter<'_>) -> fmt::Result {
         self.as_str().fmt(f)
-    }
-}
-
-/// What `write!` calls: an error where there is no room.
-impl<const CAP: usize> fmt::Write for ArrayString<CAP> {
-    fn write_str(&mut self, text: &str) -> fmt::Result {
-        if text.len() > CAP - self.len {
-            return Err(fmt::Error);
-        }
-        self.push_str(text);
-        Ok(())
     }
 }
 
@@ -199,9 +162,11 @@ impl<T, const CAP: usize> ArrayVec<T, CAP> {
     ///
     /// ```
     /// # use cidr_support::arrayvec::*;
-    /// let mut list = ArrayVec::<u8, 3>::new();
+    /// let mut list = ArrayVec::<u8, 2>::new();
     /// list.push(8);
-    /// assert_eq!(list.as_slice(), [8]);
+    /// list.push(10);
+    /// assert_eq!(list.as_slice(), [8, 10]);
+    /// assert!(std::panic::catch_unwind(move || list.push(0)).is_err());
     /// ```
     #[inline]
     pub fn push(&mut self, item: T) {
@@ -215,6 +180,7 @@ impl<T, const CAP: usize> ArrayVec<T, CAP> {
     /// # use cidr_support::arrayvec::*;
     /// let mut list = ArrayVec::from([8, 10, 0]);
     /// list.truncate(2);
+    /// list.truncate(3);
     /// assert_eq!(list.as_slice(), [8, 10]);
     /// ```
     #[inline]
@@ -231,12 +197,6 @@ impl<T, const CAP: usize> ArrayVec<T, CAP> {
     #[inline]
     pub fn as_slice(&self) -> &[T] {
         &self.items[..self.len]
-    }
-}
-
-impl<T: Copy + Default, const CAP: usize> Default for ArrayVec<T, CAP> {
-    fn default() -> Self {
-        ArrayVec::new()
     }
 }
 
@@ -257,6 +217,16 @@ impl<T, const CAP: usize> Deref for ArrayVec<T, CAP> {
     }
 }
 
+/// ```
+/// # use cidr_support::arrayvec::*;
+/// let (mut list, mut other) = (ArrayVec::from([8, 10, 0]), ArrayVec::from([8, 10, 1]));
+/// assert!(list == list && list != other);
+/// assert_eq!(format!("{list:?} {}", list.len()), "[8, 10, 0] 3");
+/// list.truncate(2);
+/// assert!(list != other);
+/// other.truncate(2);
+/// assert!(list == other);
+/// ```
 impl<T: PartialEq, const CAP: usize> PartialEq for ArrayVec<T, CAP> {
     fn eq(&self, other: &Self) -> bool {
         self.as_slice() == other.as_slice()

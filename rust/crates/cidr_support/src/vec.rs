@@ -141,9 +141,10 @@ impl<T> Vec<T> {
     ///
     /// ```
     /// # use cidr_support::{alloc::*, vec::Vec};
-    /// let mut list = Vec::with_capacity(Global, 1)?;
+    /// let mut list = Vec::with_capacity(Global, 2)?;
     /// list.push_reserved(7);
-    /// assert_eq!(list.as_slice(), [7]);
+    /// list.push_reserved(8);
+    /// assert_eq!(list.as_slice(), [7, 8]);
     /// # Ok::<(), AllocError>(())
     /// ```
     #[inline]
@@ -190,9 +191,9 @@ impl<T> Vec<T> {
     ///
     /// ```
     /// # use cidr_support::{alloc::*, vec::Vec};
-    /// let mut list = Vec::from_array(Global, [3, 1, 2])?;
+    /// let mut list = Vec::from_array(Global, [3, 1, 2, 4])?;
     /// assert_eq!(list.remove(1), 1);
-    /// assert_eq!(list.as_slice(), [3, 2]);
+    /// assert_eq!(list.as_slice(), [3, 2, 4]);
     /// # Ok::<(), AllocError>(())
     /// ```
     pub fn remove(&mut self, index: usize) -> T {
@@ -205,40 +206,12 @@ impl<T> Vec<T> {
     /// # use cidr_support::{alloc::*, vec::Vec};
     /// let mut list = Vec::from_array(Global, [3, 1, 2])?;
     /// list.truncate(2);
+    /// list.truncate(9);
     /// assert_eq!(list.as_slice(), [3, 1]);
     /// # Ok::<(), AllocError>(())
     /// ```
     pub fn truncate(&mut self, len: usize) {
         self.0.truncate(len);
-    }
-
-    /// Removes the last item.
-    ///
-    /// ```
-    /// # use cidr_support::{alloc::*, vec::Vec};
-    /// let mut list = Vec::from_array(Global, [3, 1, 2])?;
-    /// assert_eq!(list.pop(), Some(2));
-    /// # Ok::<(), AllocError>(())
-    /// ```
-    pub fn pop(&mut self) -> Option<T> {
-        self.0.pop()
-    }
-
-    /// Sorts the items, and leaves equal ones in their order.
-    ///
-    /// ```
-    /// # use cidr_support::{alloc::*, vec::Vec};
-    /// let mut list = Vec::from_array(Global, [3, 1, 2])?;
-    /// list.sort()?;
-    /// assert_eq!(list.as_slice(), [1, 2, 3]);
-    /// # Ok::<(), AllocError>(())
-    /// ```
-    pub fn sort(&mut self) -> Result<(), AllocError>
-    where
-        T: Ord,
-    {
-        self.0.sort();
-        Ok(())
     }
 
     /// Sorts the items by a key, and leaves those of equal keys in their order. Where there is no room for as many items, it
@@ -249,6 +222,9 @@ impl<T> Vec<T> {
     /// let mut list = Vec::from_array(Global, [(3, 1), (1, 2), (3, 0)])?;
     /// list.sort_by_key(|item| item.0)?;
     /// assert_eq!(list.as_slice(), [(1, 2), (3, 1), (3, 0)]);
+    /// let mut long = Vec::from((0..200).map(|n| (n % 3, n)).collect::<std::vec::Vec<_>>());
+    /// long.sort_by_key(|item| item.0)?;
+    /// assert!(long.is_sorted());
     /// # Ok::<(), AllocError>(())
     /// ```
     pub fn sort_by_key<K: Ord>(&mut self, key: impl FnMut(&T) -> K) -> Result<(), AllocError> {
@@ -303,9 +279,9 @@ impl<T> Vec<T> {
     ///
     /// ```
     /// # use cidr_support::{alloc::*, vec::Vec};
-    /// let mut list = Vec::from_array(Global, [10, 11, 20])?;
-    /// list.dedup_by(|item, before| *item / 10 == *before / 10);
-    /// assert_eq!(list.as_slice(), [10, 20]);
+    /// let mut list = Vec::from_array(Global, [10, 11, 20, 19])?;
+    /// list.dedup_by(|item, before| *item == *before + 1);
+    /// assert_eq!(list.as_slice(), [10, 20, 19]);
     /// # Ok::<(), AllocError>(())
     /// ```
     pub fn dedup_by(&mut self, same: impl FnMut(&mut T, &mut T) -> bool) {
@@ -353,12 +329,22 @@ impl<T> DerefMut for Vec<T> {
     }
 }
 
+/// ```
+/// # use cidr_support::{alloc::*, vec::Vec};
+/// assert_eq!(format!("{:?}", Vec::from_array(Global, [3, 1, 2])?), "[3, 1, 2]");
+/// # Ok::<(), AllocError>(())
+/// ```
 impl<T: fmt::Debug> fmt::Debug for Vec<T> {
     fn fmt(&self, f: &mut fmt::Formatter<'_>) -> fmt::Result {
         self.0.fmt(f)
     }
 }
 
+/// ```
+/// # use cidr_support::vec::Vec;
+/// let items: std::vec::Vec<u8> = Vec::from(vec![3, 1, 2]).into();
+/// assert_eq!(items, [3, 1, 2]);
+/// ```
 impl<T> From<vec::Vec<T>> for Vec<T> {
     fn from(items: vec::Vec<T>) -> Vec<T> {
         Vec(items)
@@ -390,6 +376,15 @@ impl<T> IntoIterator for Vec<T> {
 }
 
 /// The items of a list by value, from both ends.
+///
+/// ```
+/// # use cidr_support::{alloc::*, vec::Vec};
+/// let list = Vec::from_array(Global, [3, 1, 2])?;
+/// assert!((&list).into_iter().eq(&[3, 1, 2]));
+/// let mut items = list.into_iter();
+/// assert_eq!((items.len(), items.next(), items.next_back(), items.len()), (3, Some(3), Some(2), 1));
+/// # Ok::<(), AllocError>(())
+/// ```
 pub struct IntoIter<T, A>(vec::IntoIter<T>, PhantomData<A>);
 
 impl<T, A> Iterator for IntoIter<T, A> {

@@ -7,11 +7,13 @@
 //! use cidr::Ipv4Cidr;
 //! use cidr_table::LpmTable;
 //!
-//! let rows = [("10.0.0.0/8".parse::<Ipv4Cidr>().unwrap(), 1), ("10.1.0.0/16".parse().unwrap(), 2)];
+//! let rows = [("10.0.0.0/8", 1), ("10.1.0.0/16", 2), ("10.0.0.0/8", 4)];
+//! let rows = rows.map(|(network, value)| (network.parse::<Ipv4Cidr>().unwrap(), value));
 //! let mut routes: LpmTable<_, _> = rows.into_iter().collect();
-//! routes.extend([("10.0.0.0/8".parse().unwrap(), 3)]);
+//! assert_eq!(format!("{routes:?}"), "{10.0.0.0/8: 4, 10.1.0.0/16: 2}");
+//! routes.extend([("10.0.0.0/8".parse().unwrap(), 6), ("10.0.0.0/8".parse().unwrap(), 3)]);
 //! assert_eq!(format!("{routes:?}"), "{10.0.0.0/8: 3, 10.1.0.0/16: 2}");
-//! assert_eq!(routes.clone(), routes);
+//! assert!(routes.clone() == routes && LpmTable::<Ipv4Cidr, u8>::default().is_empty());
 //! ```
 
 pub use cidr_support::alloc::{AllocError, Global};

@@ -14,8 +14,7 @@ use cidr_support::alloc::{AllocError, Global};
 /// rows get no links and no hints, and are looked up as by `lookup` of the table.
 ///
 /// Take it where the row is wanted, its key or a value of any type. Where rows change between look-ups, take `lookup`
-/// of the table, and where a `u32` for each row is enough, the forwarding table of `cidr_fib`, which seldom reads a row
-/// and takes less time.
+/// of the table.
 pub struct Lookups<'a, C: NetworkBits + Copy, V> {
     rows: &'a [(C, V)],
     /// For each row, how many rows there are up to that of the longest key above its own, or 0 where there is none.
