@@ -92,7 +92,8 @@ export function loadSync(source) {
 }
 
 function bound(c, module) {
-    // The memory grows in calls that allocate, and then its old views have no bytes.
+    // The memory grows in calls that allocate, and then its old views have no bytes: behind each such call stands `look`, or `check`,
+    // `found` or `number`, which look.
     let bytes = new Uint8Array(c.memory.buffer), words = new Uint32Array(c.memory.buffer);
     function look() {
         if (bytes.buffer === c.memory.buffer) return;
@@ -135,7 +136,9 @@ function bound(c, module) {
         const length = written(string, (at, n) => Number(c.pcidr_text_fault(at, n, out, BIG[4 * WIDE])));
         return length ? read(length, out) : null;
     }
+    /** Throws the error of a call that has one. The memory may have grown in any call. */
     function check(code, string) {
+        look();
         if (code === OK) return;
         throw errorOf(code, string === undefined ? message(code) : `${shown(string)}: ${textFault(string) ?? message(code)}`);
     }
@@ -215,6 +218,7 @@ function bound(c, module) {
     const address = (given) => (given instanceof Address ? given : given instanceof Network && given.prefixlen === given.maxPrefixlen ? given : new Address(given));
     const host = (given) => (isValue(given) ? given : new Host(given));
     const found = (code, kind) => {
+        look();
         if (code === NONE) return null;
         check(code);
         return got(kind);
@@ -247,6 +251,7 @@ function bound(c, module) {
     };
     /** The index or the count of a call, or null. */
     const number = (code) => {
+        look();
         if (code === NONE) return null;
         check(code);
         return halves(out);
@@ -483,7 +488,6 @@ function bound(c, module) {
             const given = bytesOf(listed(others)), n = given.length / WIDE;
             return lent([this.#bytes, given, new Uint8Array(8 * n)], (at, to, places) => {
                 check(c.pcidr_longest_match_each(at, big(this.length), to, big(n), places, big(n)));
-                look();
                 return Int32Array.from(new BigInt64Array(bytes.slice(places, places + 8 * n).buffer), Number);
             });
         }
@@ -535,25 +539,20 @@ function bound(c, module) {
             const given = bytesOf(listed(others)), n = given.length / WIDE;
             return lent([bytesOf(this), given, new Uint8Array(n)], (at, to, answers) => {
                 check(c.pcidr_contains_each(at, big(this.length), to, big(n), answers, big(n)));
-                look();
                 return Array.from(bytes.subarray(answers, answers + n), (answer) => answer === 1);
             });
         }
         numAddresses(version) {
             const call = family(version) === 4 ? c.pcidr_count_ipv4 : c.pcidr_count_ipv6;
             return lent([bytesOf(this)], (at) => {
-                const code = call(at, big(this.length), out);
-                look();
-                return number(code) ?? 1n << 128n; // what the two halves have no room for
+                return number(call(at, big(this.length), out)) ?? 1n << 128n; // what the two halves have no room for
             });
         }
         nth(index, version) {
             index = wide(index);
             const call = family(version) === 4 ? c.pcidr_nth_ipv4 : c.pcidr_nth_ipv6;
             return lent([bytesOf(this)], (at) => {
-                const code = call(at, big(this.length), index >> 64n, index & LOW, out);
-                look();
-                return found(code, Address);
+                return found(call(at, big(this.length), index >> 64n, index & LOW, out), Address);
             });
         }
         ranges() {
@@ -571,16 +570,13 @@ function bound(c, module) {
         const these = bytesOf(set), those = bytesOf(listed(other));
         return lent([these, those], (a, b) => {
             check(call(a, big(these.length / WIDE), b, big(those.length / WIDE), count));
-            look();
             return words[count >>> 2] === 1;
         });
     }
     function free(call, set, prefixlen) {
         narrow(prefixlen, 8);
         return lent([bytesOf(set)], (at) => {
-            const code = call(at, big(set.length), prefixlen, out);
-            look();
-            return found(code, Network);
+            return found(call(at, big(set.length), prefixlen, out), Network);
         });
     }
     const listed = (given) => (given instanceof NetworkList ? given : new NetworkList(given));
@@ -593,7 +589,6 @@ function bound(c, module) {
     }
     const covered = (list) => lent([bytesOf(list)], (at) => {
         check(c.pcidr_cover(at, big(list.length), count));
-        look();
         return bytes.slice(at, at + counted() * WIDE);
     });
     function textOf(given, { strict = true, masks = false }) {
@@ -701,7 +696,6 @@ function bound(c, module) {
             const numbers = new Map(), these = numbered(this.#networks, this.#values, numbers), those = numbered(other.#networks, other.#values, numbers);
             return lent([these, those], (a, b) => {
                 check(c.pcidr_forwards_same(a, big(these.length / 32), b, big(those.length / 32), count));
-                look();
                 return words[count >>> 2] === 1;
             });
         }
@@ -731,9 +725,7 @@ function bound(c, module) {
             if (!(content instanceof Uint8Array)) throw new TypeError("not a Uint8Array");
             if (isChecked) {
                 lent([content], (at) => {
-                    const code = c.pcidr_file_check(at, big(content.length));
-                    look();
-                    check(code);
+                    check(c.pcidr_file_check(at, big(content.length)));
                 });
             }
             this.#held = new Held(content);

@@ -1,0 +1,67 @@
+// node memory.mjs PACKAGE: memory is refused at each growth of it in turn. A call that gets none throws a NoMemoryError, what there was
+// stays as it was, and the next call is answered rightly.
+import { readFileSync } from "node:fs";
+import { pathToFileURL } from "node:url";
+
+const { errors, loadSync } = await import(`${pathToFileURL(process.argv[2])}/pcidr.js`);
+const whole = readFileSync(`${process.argv[2]}/pcidr.wasm`);
+
+/** A number of the binary format, and how many bytes it has. */
+function leb(at) {
+    let n = 0, i = 0;
+    do n |= (whole[at + i] & 127) << (7 * i); while (whole[at + i++] & 128);
+    return [n, i];
+}
+const asLeb = (n) => (n < 128 ? [n] : [(n & 127) | 128, ...asLeb(n >>> 7)]);
+/** The module with a memory of at most so many pages more than it begins with. */
+function limited(more) {
+    for (let at = 8; ; ) {
+        const [size, width] = leb(at + 1), begin = at + 1 + width;
+        if (whole[at] === 5) {
+            const least = leb(begin + 2)[0], memory = [1, 1, ...asLeb(least), ...asLeb(least + more)];
+            return Buffer.concat([whole.subarray(0, at), Buffer.from([5, ...asLeb(memory.length), ...memory]), whole.subarray(begin + size)]);
+        }
+        at = begin + size;
+    }
+}
+
+const strings = Array.from({ length: 2500 }, (_, i) => `${10 + (i % 3)}.${(i >> 8) & 255}.${i & 255}.0/24`);
+const text = strings.join("\n");
+/** What is done in one module: each call that takes memory. It tells how many were refused. */
+function run(pages) {
+    const { NetworkList, NetworkSet, Table, StoredTable, permitted, summarizeAddressRange, deciding } = loadSync(limited(pages));
+    const small = new NetworkSet(["10.0.0.0/9", "192.0.2.0/24"]), list = new NetworkList(strings), table = small && new Table([["10.0.0.0/8", 1]]);
+    const kept = list.toValues(), file = table.toFile();
+    let refused = 0;
+    const rules = strings.slice(0, 200).map((network, i) => [network, i % 2 === 0]);
+    for (const call of [() => new NetworkSet(list).length, () => new NetworkSet(list).union(list).length, () => small.difference(list).length,
+        () => new NetworkSet(list).ranges().length, () => new NetworkSet(list).numAddresses(4), () => new NetworkSet(list).hasEach(list).length,
+        () => new Table(strings.map((network) => [network, network])).lookup("10.0.0.1")[1], () => list.longestMatchEach(list)[7],
+        () => NetworkList.fromText(text).length, () => list.toText().length, () => list.order().length, () => list.covered("10.0.0.0/8").length,
+        () => new Table(strings.map((network) => [network, network])).toFile().length, () => new StoredTable(file).size, () => permitted(rules).length,
+        () => deciding(rules, "10.0.0.0/8").length, () => summarizeAddressRange("10.0.0.1", "12.0.0.0").length, () => small.complement().length]) {
+        try {
+            call();
+        } catch (error) {
+            if (!(error instanceof errors.NoMemoryError)) throw error;
+            refused++;
+        }
+        const right = table.lookup("10.200.0.1")[1] === 1 && table.lookup("11.0.0.0") === null && String(small.intersection(["10.64.0.0/10", "192.0.2.7"])) === "10.64.0.0/10,192.0.2.7";
+        if (!right || Buffer.compare(kept, list.toValues())) throw new Error(`wrong after a call without memory, at ${pages} pages: ${call}`);
+    }
+    return refused;
+}
+let runs = 0, refused = 0;
+for (let pages = 0; ; pages++) {
+    let here;
+    try {
+        here = run(pages);
+    } catch (error) {
+        if (!(error instanceof errors.NoMemoryError) || pages > 8) throw error; // not even what is small has room
+        here = 1;
+    }
+    runs++;
+    refused += here;
+    if (here === 0) break;
+}
+console.log(`memory refused in ${runs - 1} modules of ${runs} at one growth each: ${refused} calls, and right answers behind each`);

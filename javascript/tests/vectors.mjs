@@ -1,0 +1,83 @@
+// node vectors.mjs PACKAGE: what the package says of 200,000 strings, whose sums are those of vectors.txt, which vectors.py has made with
+// Python's `ipaddress`. With a number behind it, it prints the lines of that block, as `vectors.py show` does.
+import { createHash } from "node:crypto";
+import { readFileSync } from "node:fs";
+import { pathToFileURL } from "node:url";
+
+const { load, PcidrError } = await import(`${pathToFileURL(process.argv[2])}/pcidr.js`);
+const { Network } = await load();
+const EACH = 1000;
+
+/** The generator `mulberry32`. */
+function numbers(seed) {
+    let state = seed;
+    return (below) => {
+        state = (state + 0x6d2b79f5) >>> 0;
+        let t = Math.imul(state ^ (state >>> 15), state | 1);
+        t = (t ^ ((t + Math.imul(t ^ (t >>> 7), t | 61)) >>> 0)) >>> 0;
+        return ((t ^ (t >>> 14)) >>> 0) % below;
+    };
+}
+const quarter = (n) => [24n, 16n, 8n, 0n].map((shift) => (n >> shift) & 255n).join(".");
+function string(next) {
+    const width = next(2) === 0 ? 32 : 128;
+    let n = 0n;
+    for (let i = 0; i < width / 16; i++) {
+        const kinds = [0, next(65536), next(65536) & next(65536), next(16)];
+        n = (n << 16n) | BigInt(kinds[next(4)]);
+    }
+    const length = next(width + 1), behind = BigInt(width - length);
+    if (next(100) < 85) n = (n >> behind) << behind;
+    let s;
+    if (width === 32) {
+        s = quarter(n);
+    } else {
+        const kind = next(5), groups = Array.from({ length: 8 }, (_, i) => (n >> BigInt(112 - 16 * i)) & 0xffffn);
+        const shown = groups.map((group) => (kind === 0 ? group.toString(16).padStart(4, "0") : kind === 1 ? group.toString(16).toUpperCase() : group.toString(16)));
+        if (next(8) === 0) shown.splice(6, 2, quarter(n));
+        const begin = next(8);
+        let end = begin;
+        while (end < 8 && groups[end] === 0n && end < shown.length) end++;
+        s = end > begin && kind && (shown.length === 8 || end <= 6) ? `${shown.slice(0, begin).join(":")}::${shown.slice(end).join(":")}` : shown.join(":");
+    }
+    if (next(100) < 85) s += `/${next(50) === 0 && length < 100 ? "0" : ""}${length}`;
+    if (next(100) < 12) {
+        const at = next(s.length), cut = next(2);
+        s = s.slice(0, at) + ["", ".", ":", "/", "0", "f", "g", "-", " ", "::", "256", "%1", "\u0663", "x"][next(14)] + s.slice(at + cut);
+    }
+    return s;
+}
+function* block(number) {
+    const next = numbers(number);
+    let before = new Network("10.0.0.0/8");
+    for (let i = 0; i < EACH; i++) {
+        const s = string(next), index = next(65536);
+        let n;
+        try {
+            n = new Network(s);
+        } catch (error) {
+            if (!(error instanceof PcidrError)) throw error;
+            yield `${s} -\n`;
+            continue;
+        }
+        const halves = n.halves();
+        yield [s, n, n.withPrefixlen, n.networkAddress, n.broadcastAddress, n.netmask, n.hostmask, n.numAddresses, n.networkAddress.toBigInt(), n.version,
+            n.prefixlen, n.supernet() ?? "-", halves ? halves.join() : "-", n.exploded, n.nth(index) ?? "-", Number(n.contains(before)),
+            Number(n.overlaps(before)), Number(n.compare(before) < 0), n.supernet(n.prefixlen >> 1)].join(" ") + "\n";
+        before = n;
+    }
+}
+if (process.argv[3] !== undefined) {
+    process.stdout.write([...block(Number(process.argv[3]))].join(""));
+} else {
+    const sums = readFileSync(new URL("vectors.txt", import.meta.url), "utf8").trim().split("\n");
+    let networks = 0, wrong = 0;
+    sums.forEach((sum, number) => {
+        const lines = [...block(number)];
+        networks += lines.filter((line) => !line.endsWith(" -\n")).length;
+        const got = createHash("sha256").update(lines.join("")).digest("hex").slice(0, 32);
+        if (got !== sum && wrong++ < 5) console.log(`block ${number} differs: compare \`vectors.py show ${number}\` with \`vectors.mjs PACKAGE ${number}\``);
+    });
+    console.log(`${EACH * sums.length} strings, ${networks} of them networks: ${wrong} of ${sums.length} blocks differ from Python's ipaddress`);
+    process.exit(wrong ? 1 : 0);
+}
