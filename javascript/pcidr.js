@@ -466,6 +466,33 @@ function bound(c, module) {
             }
             return listOf(own);
         }
+        static readEach(strings) {
+            const all = [...strings], failed = [], good = [];
+            for (const string of all) {
+                if (typeof string !== "string") throw new TypeError(`not a string: ${string}`);
+            }
+            // (a line feed would begin a line; no network has one, nor what stands for it here)
+            const encoded = encoder.encode(all.map((string) => (string.includes("\n") ? "?" : string)).join("\n"));
+            const values = new Uint8Array(all.length * WIDE);
+            lent([encoded, values], (at, to) => {
+                let begin = 0;
+                for (let i = 0; i < all.length; ) {
+                    const code = c.pcidr_read_lines(at + begin, big(encoded.length - begin), to, big(all.length), count), read = counted();
+                    values.set(bytes.subarray(to, to + read * WIDE), good.length * WIDE);
+                    for (let k = 0; k < read; k++) good.push(i + k);
+                    i += read;
+                    for (let k = 0; k <= read && i < all.length; k++) begin = encoded.indexOf(10, begin) + 1;
+                    if (i >= all.length) break;
+                    try {
+                        check(code, all[i]);
+                    } catch (error) {
+                        failed.push({ index: i, error });
+                    }
+                    i++;
+                }
+            });
+            return { networks: listOf(values.slice(0, good.length * WIDE)), indexes: Uint32Array.from(good), errors: failed };
+        }
         get length() { return this.#bytes.length / WIDE; }
         at(index) {
             if (!(Number.isInteger(index) && index >= 0 && index < this.length)) return undefined;

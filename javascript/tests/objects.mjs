@@ -146,6 +146,10 @@ assert.deepEqual([set.has("10.0.0.5"), set.has("10.0.2.0"), set.isSupersetOf(["1
 assert.deepEqual(text([set.union(["10.0.1.2/31"]), set.symmetricDifference(["10.0.0.0/27"]), new NetworkSet().complement()]), [["10.0.0.0/27", "10.0.1.0/30"], ["10.0.1.0/31"], ["any"]]);
 assert.deepEqual(text(NetworkSet.fromText("10.0.0.0/9  # ours\r\n\n10.128.0.0-10.255.255.255\n2001:db8::/32")), ["10.0.0.0/8", "2001:db8::/32"]);
 assert.deepEqual(text(NetworkList.fromText("192.0.2.0/255.255.255.0\n198.51.100.7 0.0.0.255", { masks: true, strict: false })), ["192.0.2.0/24", "198.51.100.0/24"]);
+const each = NetworkList.readEach(["10.0.0.0/8", "x", "10.0.0.1/8", "", "::1", "any", "10.0.0.0/8\n11.0.0.0/8", "1.1.1.1"]);
+assert.deepEqual([text(each.networks), [...each.indexes], each.errors.map(({ index, error }) => [index, error.code])], [["10.0.0.0/8", "::1", "any", "1.1.1.1"], [0, 4, 5, 7], [[1, 2], [2, 5], [3, 2], [6, 2]]]);
+assert.equal(each.errors[1].error.message, '"10.0.0.1/8": host bits set; the network is 10.0.0.0/8');
+assert.equal(NetworkList.readEach([]).networks.length, 0);
 const unsorted = new NetworkList(["10.1.0.0/16", "::1", "10.0.0.0/8", "any", "10.0.0.0/8"]);
 assert.deepEqual([...unsorted.order()], [3, 2, 4, 0, 1]);
 assert.deepEqual([...unsorted.longestMatchEach(["10.1.2.3", "10.2.0.0", "192.0.2.1", "::1"])], [0, 4, 3, 1]);

@@ -1,0 +1,161 @@
+// compute.js: what a plan's text says. All about networks comes from the library; here are lines, fields and names.
+
+const FAULTS = 200; // so many wrong lines are told, and of the others their number
+const NETWORK = /^(network|prefix|cidr|subnet|address|range|ip)$/i;
+const NAMES = [/^name$/i, /^description$/i, /^(comment|label|usage|site)$/i]; // the first that a header has
+
+/** The fields of a line of CSV, as RFC 4180 has them within a line. */
+function fields(line, separator) {
+    const found = [];
+    for (let at = 0; at <= line.length; ) {
+        if (line[at] === '"') {
+            let field = "", end = at + 1;
+            for (;;) {
+                const quote = line.indexOf('"', end);
+                if (quote < 0) {
+                    field += line.slice(end);
+                    end = line.length;
+                    break;
+                }
+                field += line.slice(end, quote);
+                end = quote + 1;
+                if (line[end] !== '"') break;
+                field += '"';
+                end++;
+            }
+            found.push(field.trim());
+            const next = line.indexOf(separator, end);
+            at = next < 0 ? line.length + 1 : next + 1;
+        } else {
+            const next = line.indexOf(separator, at), end = next < 0 ? line.length : next;
+            found.push(line.slice(at, end).trim());
+            at = end + 1;
+        }
+    }
+    return found;
+}
+
+/** Which columns a header names: null where the line is none. */
+function header(line) {
+    for (const separator of [",", ";", "\t"]) {
+        const names = fields(line, separator), network = names.findIndex((name) => NETWORK.test(name));
+        if (network >= 0 && names.length > 1) {
+            const name = Math.max(-1, ...NAMES.map((kind) => names.findIndex((it) => kind.test(it))).filter((column) => column >= 0).slice(0, 1));
+            return { separator, network, name };
+        }
+    }
+    return null;
+}
+
+/** The rows of a text: of each the string that is to be a network or a range, the name, and the number of the line from 0 on. */
+export function rowsOf(text) {
+    const strings = [], names = [], lines = [];
+    let columns, begin = 0;
+    for (let number = 0; begin <= text.length; number++) {
+        const feed = text.indexOf("\n", begin), end = feed < 0 ? text.length : feed;
+        const line = text.slice(begin, end);
+        begin = end + 1;
+        if (columns === undefined && /\S/.test(line) && !/^\s*[#;]/.test(line)) {
+            columns = header(line.trim());
+            if (columns) continue;
+        }
+        if (columns) {
+            if (!/\S/.test(line) || line[0] === "#") continue;
+            const found = fields(line.trimEnd(), columns.separator);
+            strings.push(found[columns.network] ?? "");
+            names.push(columns.name >= 0 ? found[columns.name] ?? "" : "");
+            lines.push(number);
+            continue;
+        }
+        const comment = line.search(/[#;]/), said = (comment < 0 ? line : line.slice(0, comment)).trim();
+        if (said === "") continue;
+        // a network, or a range with or without white space around its hyphen, and the name behind it
+        const space = said.search(/[\s,]/), first = space < 0 ? said : said.slice(0, space), rest = space < 0 ? "" : said.slice(space).replace(/^[\s,]+/, "");
+        const range = /^-\s*([0-9a-fA-F.:]+)(?:[\s,]+|$)(.*)$/.exec(rest) ?? (first.endsWith("-") ? /^()([0-9a-fA-F.:]+)(?:[\s,]+|$)(.*)$/.exec(rest) : null);
+        if (range) {
+            strings.push(`${first.replace(/-$/, "")}-${range[1] || range[2]}`);
+            names.push(range[range.length - 1]);
+        } else {
+            strings.push(first);
+            names.push(rest);
+        }
+        lines.push(number);
+    }
+    return { strings, names, lines, isCsv: Boolean(columns) };
+}
+
+/** What a text says, as arrays that can be sent to another thread: the rows in the order of their networks, and of each the nearest row
+ * around it, how many are around it, whether it has rows inside, and whether the one before it is of the same network. `told` is
+ * called with the part that is done. */
+export function readPlan({ NetworkList, NetworkSet, PcidrError, summarizeAddressRange }, text, told = () => {}) {
+    const { strings, names, lines } = rowsOf(text), faults = [];
+    told(0.15);
+    const read = NetworkList.readEach(strings), networks = [], from = [];
+    for (let i = 0; i < read.indexes.length; i++) from.push(read.indexes[i]);
+    let wrong = 0, ranges = [];
+    for (const { index, error } of read.errors) {
+        const [first, last, more] = strings[index].split("-");
+        try {
+            if (last === undefined || more !== undefined) throw error;
+            const made = summarizeAddressRange(first, last);
+            if (made.length === 0) throw new PcidrError(29, `"${strings[index]}": the first address of the range is above the last one`);
+            ranges.push(made);
+            for (let i = 0; i < made.length; i++) from.push(index);
+        } catch (fault) {
+            if (wrong++ < FAULTS) faults.push({ line: lines[index], message: fault.message });
+        }
+    }
+    let list = read.networks;
+    if (ranges.length) list = joined(NetworkList, [list, ...ranges]);
+    told(0.3);
+    const order = list.order(), sorted = list.pick(order);
+    told(0.6);
+    const count = order.length, outer = new Int32Array(count).fill(-1), depth = new Uint16Array(count), leaf = new Uint8Array(count).fill(1), twice = new Uint8Array(count);
+    // the rows around each row are a stack, since in this order they come outermost first
+    const open = [];
+    let inside = 0, repeated = 0, i = 0;
+    for (const network of sorted) {
+        while (open.length && !open[open.length - 1].network.contains(network)) open.pop();
+        const around = open[open.length - 1];
+        if (around) {
+            outer[i] = around.row;
+            depth[i] = open.length;
+            inside++;
+            if (around.network.equals(network)) {
+                twice[i] = 1;
+                repeated++;
+            } else {
+                // of those that repeat all have rows inside
+                for (let row = around.row; ; row = outer[row]) {
+                    leaf[row] = 0;
+                    if (!twice[row]) break;
+                }
+            }
+        }
+        open.push({ network, row: i++ });
+    }
+    told(0.75);
+    const cover = new NetworkSet(sorted), leaves = new NetworkSet(sorted.pick(order.map((_, row) => row).filter((row) => leaf[row])));
+    told(0.9);
+    const groups = new Map(), colours = new Uint8Array(count), lineOf = new Uint32Array(count), nameOf = new Array(count);
+    for (let row = 0; row < count; row++) {
+        const at = from[order[row]], name = names[at], end = name.search(/[\s,]/), word = end < 0 ? name : name.slice(0, end);
+        let group = groups.get(word);
+        if (group === undefined) groups.set(word, (group = groups.size));
+        colours[row] = group % 8;
+        lineOf[row] = lines[at];
+        nameOf[row] = name;
+    }
+    return { values: sorted.toValues(), cover: cover.toValues(), leaves: leaves.toValues(), names: nameOf, lines: lineOf, outer, depth, leaf, twice, colours, faults, wrong, inside, repeated };
+}
+
+/** Lists one behind the other. */
+function joined(NetworkList, lists) {
+    const parts = lists.map((list) => list.toValues()), to = new Uint8Array(parts.reduce((sum, part) => sum + part.length, 0));
+    let at = 0;
+    for (const part of parts) {
+        to.set(part, at);
+        at += part.length;
+    }
+    return NetworkList.fromValues(to);
+}
