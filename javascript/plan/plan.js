@@ -522,17 +522,16 @@ async function page(pcidr, script) {
         kinds: { name: () => "Special", items: () => ofRows((plan.kinds ??= tab === "kinds" ? allRows().filter((row) => kindsOf(plan.list.at(row))) : null) ?? [], (row) => [`${kindsOf(plan.list.at(row))}: ${plan.names[row]}`, ""]) },
     };
     const sizeOf = (network) => (network.numAddresses > 10n ** 15n ? "" : many(network.numAddresses));
-    /** The free networks of the asked length, of many the first ones. */
+    /** The free networks of the asked length: how many, and, where they are looked at, of many the first ones. */
     function ofLength() {
-        const length = Number($("length").value), key = `${view} ${length}`;
-        if (plan.fit?.key !== key) {
-            const found = [];
-            let count = 0n;
+        const length = Number($("length").value), key = `${view} ${length}`, isShown = tab === "fit";
+        if (plan.fit?.key !== key || (isShown && !plan.fit.found)) {
+            let count = 0n, found = isShown ? [] : null;
             if (Number.isInteger(length) && length >= 0 && length <= view.maxPrefixlen) {
                 for (const network of freeHere()) {
                     if (network.prefixlen > length) continue;
                     count += 1n << BigInt(length - network.prefixlen);
-                    if (found.length >= MOST) continue;
+                    if (!found || found.length >= MOST) continue;
                     if (network.prefixlen === length) found.push(network);
                     else for (const each of network.subnets(length)) if (found.push(each) >= MOST) break;
                 }
@@ -540,7 +539,7 @@ async function page(pcidr, script) {
             plan.fit = { key, found, count };
         }
         const { found, count } = plan.fit;
-        return { length: found.length, count, at: (i) => found[i], label: (i) => [String(found[i]), "", ""], isFree: true };
+        return { length: found?.length ?? 0, count, at: (i) => found[i], label: (i) => [String(found[i]), "", ""], isFree: true };
     }
     function tabs() {
         $("tabs").replaceChildren(...Object.entries(LISTS).map(([key, { name, items }]) => {
