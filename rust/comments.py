@@ -213,7 +213,7 @@ def with_tests(text, crate):
     An example may call the functions that others in the same comment are.
     """
     routes = re.search(r"`Routes` is `([^`]*)`", text)
-    head = HEADS[crate] + ([f"type Routes = {routes[1] if routes else 'LpmTable<Ipv4Cidr, u32>'};"] if crate == "cidr_table" else [])
+    head = HEADS.get(crate, []) + ([f"type Routes = {routes[1] if routes else 'LpmTable<Ipv4Cidr, u32>'};"] if crate == "cidr_table" else [])
     out, tests, shown = [], 0, 0
     for comment in re.findall(r"(?:\s*//[/!][^\n]*\n)+|[^\n]*\n", text):
         parts = re.split(r"^(\s*//[/!] ?)```(\w*)\n(.*?\n)(\s*//[/!] ?```)$", comment, flags=re.S | re.M)

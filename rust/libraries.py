@@ -21,11 +21,11 @@ def conditions():
 
 
 def texts(name):
-    """The text of each file of a library, but of its laws. A form that no rule knows ends the program."""
+    """The text of each file of a library, but of its laws and tests. A form that no rule knows ends the program."""
     source, asserted, made = REPOSITORY / "crates" / name / "src", conditions(), {}
     for file in sorted(source.rglob("*.rt")):
         place = file.relative_to(source).with_suffix("")
-        if place.parts[0] == "laws":
+        if place.parts[0] in ("laws", "tests"):
             continue
         try:
             made[place.with_suffix(".rs")] = rattle.rust_of(file.read_text(), asserted[f"{name}/{place}"])

@@ -75,8 +75,8 @@ def without_proofs(text):
 
 
 # Laws that stand outside of `laws`, beside what they are of, with their comments.
-LAWS_BESIDE = ("equal_sets_permit_the_same", "shadowed_rules_are_decided_earlier")
-LAW = re.compile(rf"^(?:///[^\n]*\n)*(?:#\[tactic[^\n]*\n)?pub fn (?:{'|'.join(LAWS_BESIDE)})\(\)[\s\x01]*\{{\}}", re.M)
+LAWS_BESIDE = ("equal_sets_permit_the_same", "shadowed_rules_are_decided_earlier", "equal_errors_are_the_same")
+LAW = re.compile(rf"^(?:///[^\n]*\n)*(?:#\[tactic[^\n]*\n)?pub fn (?:{'|'.join(LAWS_BESIDE)})\(\)[\s\x01]*\{{(?:\s*cidr::laws::[\w:]+\(\);\s*)?\}}", re.M)
 USE = re.compile(r"^(?:pub(?:\(\w+\))? )?use ([^;]*);", re.M)
 
 
@@ -123,6 +123,16 @@ RULES = [
     ("a formatter is of one type", r"<W: fmt::Write>|,\s*W: fmt::Write(?=[,>])", ""),
     ("a formatter is of one type", r"\bfmt::Formatter<W>", "fmt::Formatter<'_>"),
     ("what allocates returns an error, as in `cidr_support`", r"\bstd::(alloc|vec|string)\b", r"cidr_support::\1"),
+    ("the system is that of `cidr_system`", r"\bstd::(io|fs|rt|env|process|os|random)\b", r"cidr_system::\1"),
+    ("the system is that of `cidr_system`", r"\bstd::(?=\{fs, io, rt\})", "cidr_system::"),
+    ("C calls `main`, and a macro of `cidr_system` makes it", r"\bfn main\(rt: HostRuntime\)",
+     "cidr_system::main!(run);\n\nfn run(rt: HostRuntime)"),
+    ("what is printed of the build", rf"(\bVERSION: &str = )({HELD});", r"\1cidr_system::version!(\2);"),
+    ("tests in Rattle are proved", r"^#\[cfg\(test\)\]\nmod tests;\n", GONE),
+    ("what is proved is asserted", r"\bprove!\(", "assert!("),
+    ("a value is dropped where it is", r"\bfn drop\(self\)", "fn drop(&mut self)"),
+    ("a clone that allocates is `try_clone`", r"(: Result<_, _> = \w+)\.clone\(\)", r"\1.try_clone()"),
+    ("`collect` of an allocator", r"\.collect\(alloc\)", ".collect_in(alloc)"),
     ("strings and lists of a fixed room are of `cidr_support`", r"\barrayvec::", "cidr_support::arrayvec::"),
     ("the crates need no operating system", r"\bstd::", "core::"),
 ]
@@ -148,6 +158,10 @@ def without_unused_imports(code, source):
 IN_SCOPE = {
     r"\bString\b": "cidr_support::string::String",
     r"\bVec\b": "cidr_support::vec::Vec",
+    r"\bvec!": "cidr_support::vec",
+    r"\.collect_in\(": "cidr_support::vec::CollectIn",
+    r"\bHostRuntime\b": "cidr_system::rt::HostRuntime",
+    r"\bformat!": "cidr_support::format",
     r"\.(?:carrying_add|borrowing_sub)\(": "cidr_support::carry::Carrying",
 }
 
@@ -156,11 +170,14 @@ def with_imports(code, given):
     """What is in scope everywhere in Rattle, and is not in Rust, or not in that of before 1.91, is imported."""
     for form, path in (IN_SCOPE | {rf"\b{path.rpartition('::')[2]}\b": path for path in given}).items():
         if re.search(form, USE.sub("", code)) and not re.search(form, " ".join(USE.findall(code))):
-            code = USE.sub(lambda first: f"use {path};\n{first.group()}", code, count=1)
+            if USE.search(code):
+                code = USE.sub(lambda first: f"use {path};\n{first.group()}", code, count=1)
+            else:
+                code = re.sub(r"\A(?:\x00\n|\x01|\s)*", lambda head: f"{head.group()}use {path};\n", code, count=1)
     return code
 
 
-LEFT = re.compile(r"\b(?:ghost|requires|ensures|Model|tactic|prove|Drop|HostRuntime|rt)\b|[^\x00-\x7f]")
+LEFT = re.compile(r"\b(?:ghost|requires|ensures|Model|tactic|prove)\b|[^\x00-\x7f]")
 
 
 def in_code(text, change):

@@ -51,3 +51,21 @@ impl<T> From<AllocFailed<T>> for AllocError {
         AllocError
     }
 }
+
+/// Has memory.
+pub trait Alloc {
+    /// Where it comes from.
+    ///
+    /// ```
+    /// # use cidr_support::{alloc::*, vec::Vec};
+    /// struct Heap;
+    ///
+    /// impl Alloc for Heap {
+    ///     fn alloc(&self) -> Global {
+    ///         Global
+    ///     }
+    /// }
+    /// assert_eq!(Vec::<u8>::new(Heap.alloc()).len(), 0);
+    /// ```
+    fn alloc(&self) -> Global;
+}

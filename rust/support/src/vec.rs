@@ -214,6 +214,52 @@ impl<T> Vec<T> {
         self.0.truncate(len);
     }
 
+    /// A copy of the list.
+    ///
+    /// ```
+    /// # use cidr_support::{alloc::*, vec::Vec};
+    /// let list = Vec::from_array(Global, [3, 1])?;
+    /// assert_eq!(list.try_clone()?, list);
+    /// # Ok::<(), AllocError>(())
+    /// ```
+    pub fn try_clone(&self) -> Result<Vec<T>, AllocError>
+    where
+        T: Clone,
+    {
+        let mut list = Vec::with_capacity(Global, self.0.len())?;
+        list.0.extend_from_slice(&self.0);
+        Ok(list)
+    }
+
+    /// Leaves `len` items: the first ones, and behind these copies of `item`.
+    ///
+    /// ```
+    /// # use cidr_support::{alloc::*, vec::Vec};
+    /// let mut list = Vec::from_array(Global, [3, 1])?;
+    /// list.resize(3, 9)?;
+    /// assert_eq!(list.as_slice(), [3, 1, 9]);
+    /// # Ok::<(), AllocError>(())
+    /// ```
+    pub fn resize(&mut self, len: usize, item: T) -> Result<(), AllocError>
+    where
+        T: Clone,
+    {
+        self.reserve(len.saturating_sub(self.0.len()))?;
+        self.0.resize(len, item);
+        Ok(())
+    }
+
+    /// Removes the last item.
+    ///
+    /// ```
+    /// # use cidr_support::{alloc::*, vec::Vec};
+    /// assert_eq!(Vec::from_array(Global, [3, 1, 2])?.pop(), Some(2));
+    /// # Ok::<(), AllocError>(())
+    /// ```
+    pub fn pop(&mut self) -> Option<T> {
+        self.0.pop()
+    }
+
     /// Sorts the items by a key, and leaves those of equal keys in their order. Where there is no room for as many items, it
     /// is an error, and they stay as they were.
     ///
@@ -408,3 +454,39 @@ impl<T, A> DoubleEndedIterator for IntoIter<T, A> {
 impl<T, A> ExactSizeIterator for IntoIter<T, A> {}
 
 impl<T, A> FusedIterator for IntoIter<T, A> {}
+
+/// `collect` into a list of an allocator.
+pub trait CollectIn: Iterator + Sized {
+    /// The items.
+    ///
+    /// ```
+    /// # use cidr_support::{alloc::*, vec::{CollectIn, Vec}};
+    /// let list: Result<Vec<u8>, AllocError> = [3, 1].into_iter().collect_in(Global);
+    /// assert_eq!(list?.as_slice(), [3, 1]);
+    /// # Ok::<(), AllocError>(())
+    /// ```
+    fn collect_in(self, alloc: Global) -> Result<Vec<Self::Item>, AllocError> {
+        let mut list = Vec::with_capacity(alloc, self.size_hint().0)?;
+        for item in self {
+            list.push(item)?;
+        }
+        Ok(list)
+    }
+}
+
+impl<I: Iterator> CollectIn for I {}
+
+/// What writes to a list of bytes appends them. Where there is no memory, it is an error, and the list stays as it was.
+#[cfg(feature = "std")]
+impl std::io::Write for Vec<u8> {
+    fn write(&mut self, bytes: &[u8]) -> std::io::Result<usize> {
+        match self.extend_from_slice(bytes) {
+            Ok(()) => Ok(bytes.len()),
+            Err(AllocError) => Err(std::io::ErrorKind::OutOfMemory.into()),
+        }
+    }
+
+    fn flush(&mut self) -> std::io::Result<()> {
+        Ok(())
+    }
+}

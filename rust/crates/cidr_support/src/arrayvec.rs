@@ -42,6 +42,34 @@ impl<const CAP: usize> ArrayString<CAP> {
         self.len = end;
     }
 
+    /// Appends a string, if there is room for all of it.
+    ///
+    /// ```
+    /// # use cidr_support::arrayvec::*;
+    /// let mut text = ArrayString::<3>::new();
+    /// assert!(text.try_push_str("192").is_ok() && text.try_push_str(".").is_err());
+    /// ```
+    #[inline]
+    pub fn try_push_str(&mut self, text: &str) -> Result<(), CapacityError> {
+        if text.len() > CAP - self.len {
+            return Err(CapacityError);
+        }
+        self.push_str(text);
+        Ok(())
+    }
+
+    /// Appends a character, if there is room for it.
+    ///
+    /// ```
+    /// # use cidr_support::arrayvec::*;
+    /// let mut text = ArrayString::<1>::new();
+    /// assert!(text.try_push('a').is_ok() && text.try_push('b').is_err());
+    /// ```
+    #[inline]
+    pub fn try_push(&mut self, c: char) -> Result<(), CapacityError> {
+        self.try_push_str(c.encode_utf8(&mut [0; 4]))
+    }
+
     /// Appends a character. Panics where there is no room.
     ///
     /// ```
@@ -134,6 +162,10 @@ impl<const CAP: usize> fmt::Debug for ArrayString<CAP> {
     }
 }
 
+/// There is no room.
+#[derive(Clone, Copy, Debug, PartialEq, Eq)]
+pub struct CapacityError;
+
 /// A list of at most `CAP` items.
 #[derive(Clone, Copy)]
 pub struct ArrayVec<T, const CAP: usize> {
@@ -172,6 +204,51 @@ impl<T, const CAP: usize> ArrayVec<T, CAP> {
     pub fn push(&mut self, item: T) {
         self.items[self.len] = item;
         self.len += 1;
+    }
+
+    /// Appends some items, if there is room for all of them.
+    ///
+    /// ```
+    /// # use cidr_support::arrayvec::*;
+    /// let mut list = ArrayVec::<u8, 3>::new();
+    /// assert!(list.try_extend_from_slice(&[8, 9]).is_ok() && list.try_extend_from_slice(&[1, 2]).is_err());
+    /// assert_eq!(list.as_slice(), [8, 9]);
+    /// ```
+    #[inline]
+    pub fn try_extend_from_slice(&mut self, items: &[T]) -> Result<(), CapacityError>
+    where
+        T: Copy,
+    {
+        if items.len() > CAP - self.len {
+            return Err(CapacityError);
+        }
+        self.items[self.len..self.len + items.len()].copy_from_slice(items);
+        self.len += items.len();
+        Ok(())
+    }
+
+    /// Whether there is room for no more.
+    ///
+    /// ```
+    /// # use cidr_support::arrayvec::*;
+    /// assert!(ArrayVec::from([8, 10]).is_full());
+    /// ```
+    #[inline]
+    pub fn is_full(&self) -> bool {
+        self.len == CAP
+    }
+
+    /// Removes all items.
+    ///
+    /// ```
+    /// # use cidr_support::arrayvec::*;
+    /// let mut list = ArrayVec::from([8, 10]);
+    /// list.clear();
+    /// assert!(list.as_slice().is_empty());
+    /// ```
+    #[inline]
+    pub fn clear(&mut self) {
+        self.len = 0;
     }
 
     /// Leaves the first `len` items. A shorter list stays as it is.

@@ -1,0 +1,42 @@
+//! `cidr` for C and Python: values by value, strings by pointer and length.
+#![no_std]
+#![deny(unsafe_code)]
+#![allow(unused_imports, unused_variables, unstable_name_collisions, dead_code)]
+extern crate std;
+
+mod exports;
+mod pointers;
+
+mod around;
+mod batches;
+mod bytes;
+mod codes;
+mod comparing;
+mod counting;
+mod covering;
+mod entries;
+mod exploded;
+mod faults;
+mod files;
+mod finding;
+mod forwarding;
+mod inside_ipv6;
+mod labels;
+mod lines;
+mod lists;
+mod lookups;
+mod mask_texts;
+mod masks;
+mod names;
+mod parts;
+mod pools;
+mod printing;
+mod ranges;
+mod reading;
+mod rules;
+mod sets;
+mod special;
+mod subnets;
+mod tables;
+mod values;
+mod writing;

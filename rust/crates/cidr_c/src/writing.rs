@@ -1,0 +1,136 @@
+//! Files of look-up tables, written.
+
+use cidr_support::vec::CollectIn;
+use cidr_support::vec;
+use cidr_support::vec::Vec;
+use crate::codes::{NO_MEMORY, NO_ROOM, NO_VALUE, OK, TOO_MANY, VALUES};
+use crate::tables::keys_in;
+use crate::values::{CValue, is_ipv4};
+use cidr_arrays::first_refused;
+use cidr_files::{Ipv4Bytes, Ipv6Bytes, Rows, are_offsets, written};
+use cidr_support::alloc::{AllocError, Global};
+
+/// Writes the file of networks and their values: 0, and `count` becomes how many bytes stand in the front of `out`. The
+/// value of row i is what `values` has from offset i up to the next one. Else the number of the first error: too many
+/// networks; the values; a network, and `count` becomes its index; the room, and `count` becomes how much is enough; of
+/// memory at any place before. An error leaves `out` as it was.
+///
+/// It takes O(n), and a pass over the bytes, and allocates them and as much again.
+pub fn pcidr_file_write(
+    alloc: Global,
+    networks: &[CValue],
+    offsets: &[u32],
+    values: &[u8],
+    out: &mut [u8],
+    count: &mut usize,
+) -> u32 {
+    if networks.len() >= 1 << 31 {
+        return TOO_MANY;
+    }
+    if values.len() >= 1 << 32 {
+        return VALUES;
+    }
+    if !are_offsets(offsets, networks.len(), values.len()) {
+        return VALUES;
+    }
+    put_file(alloc, networks, offsets, values, out, count)
+}
+
+/// Writes the file of a set: the same with empty values.
+#[inline]
+pub fn pcidr_set_write(
+    alloc: Global,
+    networks: &[CValue],
+    out: &mut [u8],
+    count: &mut usize,
+) -> u32 {
+    if networks.len() >= 1 << 31 {
+        return TOO_MANY;
+    }
+    let Ok(offsets) = vec![in alloc; 0; networks.len() + 1] else {
+        return NO_MEMORY;
+    };
+    pcidr_file_write(alloc, networks, offsets.as_slice(), &[], out, count)
+}
+
+/// Writes the file of networks whose values lie one behind the other.
+fn put_file(
+    alloc: Global,
+    networks: &[CValue],
+    offsets: &[u32],
+    values: &[u8],
+    out: &mut [u8],
+    count: &mut usize,
+) -> u32 {
+    let split = ipv4_rows(networks);
+    let Ok(ipv4) = keys_in::<Ipv4Bytes>(alloc, &networks[..split]) else {
+        return NO_MEMORY;
+    };
+    let Ok(ipv6) = keys_in::<Ipv6Bytes>(alloc, &networks[split..]) else {
+        return NO_MEMORY;
+    };
+    let ipv4_keys = ipv4.as_slice();
+    let ipv6_keys = ipv6.as_slice();
+    if let Some(place) = first_refused(ipv4_keys) {
+        *count = place;
+        return NO_VALUE;
+    }
+    if let Some(place) = first_refused(ipv6_keys) {
+        *count = split + place;
+        return NO_VALUE;
+    }
+    let from = offsets[split];
+    let (front, back) = parted(values, from);
+    let Ok(moved) = moved(alloc, &offsets[split..], from) else {
+        return NO_MEMORY;
+    };
+    let ipv4_table = Rows {
+        keys: ipv4_keys,
+        offsets: &offsets[..split + 1],
+        values: front,
+    };
+    let ipv6_table = Rows {
+        keys: ipv6_keys,
+        offsets: moved.as_slice(),
+        values: back,
+    };
+    match written(alloc, &ipv4_table, &ipv6_table) {
+        Ok(bytes) => put_bytes(bytes.as_slice(), out, count),
+        Err(_) => NO_MEMORY,
+    }
+}
+
+/// The bytes before a place, and those from it on.
+#[inline]
+fn parted(bytes: &[u8], place: u32) -> (&[u8], &[u8]) {
+    (&bytes[..place as usize], &bytes[place as usize..])
+}
+
+/// How many values there are before the first that is no IPv4 value.
+#[inline]
+fn ipv4_rows(networks: &[CValue]) -> usize {
+    networks
+        .iter()
+        .position(|value| !is_ipv4(value))
+        .unwrap_or(networks.len())
+}
+
+/// Offsets, counted from one of them.
+#[inline]
+fn moved(alloc: Global, offsets: &[u32], from: u32) -> Result<Vec<u32>, AllocError> {
+    offsets
+        .iter()
+        .map(|offset| offset.saturating_sub(from))
+        .collect_in(alloc)
+}
+
+/// Writes bytes into the front of a room that has enough, and says how many they are.
+#[inline]
+fn put_bytes(bytes: &[u8], out: &mut [u8], count: &mut usize) -> u32 {
+    *count = bytes.len();
+    if out.len() < bytes.len() {
+        return NO_ROOM;
+    }
+    out[..bytes.len()].copy_from_slice(bytes);
+    OK
+}

@@ -1,0 +1,114 @@
+//! Whether the parts of a file are tables.
+
+use cidr_support::vec::Vec;
+use crate::family::{Family, Ipv4Bytes, Ipv6Bytes};
+use crate::faults::{Fault, TableFault};
+use crate::layout::{Part, Table};
+use crate::opening::open;
+use cidr_arrays::{Index, Key, Word};
+use cidr_support::alloc::{AllocError, Global};
+
+/// The tables of a file, by [`open`] and by [`check`](crate::check) of both, in the time and memory of these. The error
+/// is the first of those that [`Fault`] names, in its order, but that `NoMemory` of a table may come before what else is
+/// wrong with it.
+///
+/// ```text
+/// let table = checked(Global, file.as_slice())?;
+/// assert_eq!(format!("{:?}", name(&table, Ipv4Addr::new(10, 1, 2, 3))), "Some(\"inner\")");
+/// assert_eq!(format!("{:?}", name(&table, Ipv4Addr::new(192, 0, 3, 0))), "None");
+/// ```
+pub fn checked(alloc: Global, bytes: &[u8]) -> Result<Table<'_>, Fault> {
+    let table = open(bytes)?;
+    if let Err(fault) = check::<Ipv4Bytes>(alloc, &table.ipv4) {
+        return Err(Fault::Ipv4(fault));
+    }
+    if let Err(fault) = check::<Ipv6Bytes>(alloc, &table.ipv6) {
+        return Err(Fault::Ipv6(fault));
+    }
+    Ok(table)
+}
+
+/// Whether the parts are a table: the arrays are those of the keys, and the values lie one behind the other. The error
+/// is the first of those that [`TableFault`] names, in its order, but that `NoMemory` may come before any.
+///
+/// It takes O(n) for n rows, and O(1) for each entry of the first level. It allocates the keys, the answers and the first
+/// level, and frees them.
+pub fn check<W: Family>(alloc: Global, part: &Part<'_>) -> Result<(), TableFault> {
+    let starts = W::addresses(part.starts);
+    let addresses = W::addresses(part.addresses);
+    let Ok(keys) = keys_of(alloc, addresses, part.lengths) else {
+        return Err(TableFault::NoMemory);
+    };
+    let Ok(answers) = numbers_of(alloc, part.answers) else {
+        return Err(TableFault::NoMemory);
+    };
+    let Ok(level) = numbers_of(alloc, part.level) else {
+        return Err(TableFault::NoMemory);
+    };
+    if let Err(fault) = cidr_arrays::check(
+        keys.as_slice(),
+        starts,
+        answers.as_slice(),
+        level.as_slice(),
+        part.shift,
+    ) {
+        return Err(TableFault::Arrays(fault));
+    }
+    let (offsets, _) = part.offsets.as_chunks::<4>();
+    if !are_offsets(offsets, keys.len(), part.values.len()) {
+        return Err(TableFault::Offsets);
+    }
+    Ok(())
+}
+
+/// The keys of addresses and lengths.
+fn keys_of<W: Word>(
+    alloc: Global,
+    addresses: &[W],
+    lengths: &[u8],
+) -> Result<Vec<Key<W>>, AllocError> {
+    let count = addresses.len().min(lengths.len());
+    let mut keys = Vec::with_capacity(alloc, count)?;
+    for i in 0..count {
+        keys.push(Key {
+            address: addresses[i],
+            len: u32::from(lengths[i]),
+        })?;
+    }
+    Ok(keys)
+}
+
+/// The numbers that bytes spell.
+#[inline]
+fn numbers_of(alloc: Global, bytes: &[u8]) -> Result<Vec<u32>, AllocError> {
+    let (spelled, _) = bytes.as_chunks::<4>();
+    let mut numbers = Vec::with_capacity(alloc, spelled.len())?;
+    for i in 0..spelled.len() {
+        numbers.push(u32::from_le_bytes(spelled[i]))?;
+    }
+    Ok(numbers)
+}
+
+/// Whether offsets are those of so many values that lie one behind the other and have so many bytes together: there is
+/// one more of them than rows, the first is 0, none is below the one before it, and the last is the size. One pass, up
+/// to the first that is not so: O(n).
+///
+/// The caller has to ensure that there are fewer than 2^63 rows.
+pub fn are_offsets<I: Index>(offsets: &[I], rows: usize, size: usize) -> bool {
+    assert!(rows < usize::MAX / 2);
+    if offsets.len() != rows + 1 {
+        return false;
+    }
+    if offsets[0].as_index() != 0 {
+        return false;
+    }
+    let mut before = 0;
+    for i in 0..offsets.len() {
+        let offset = offsets[i].as_index();
+        if offset < before {
+            return false;
+        }
+        before = offset;
+    }
+    before == size
+}

@@ -1,0 +1,85 @@
+//! Look-ups in the parts of a table.
+
+use crate::family::Family;
+use crate::layout::Part;
+use cidr_arrays::{Index, longest_match};
+
+/// What a look-up finds: a row, and where its value lies among the values.
+#[derive(Clone, Copy)]
+pub struct Found {
+    /// The index of the row, counted from 0.
+    pub row: usize,
+    /// Where its value begins, in bytes from 0 on.
+    pub from: u32,
+    /// Where it ends: the first byte behind it.
+    pub to: u32,
+}
+
+/// The row of the longest network that an address is in, and its value; `None` where it is in none: the longest match of a
+/// forwarding table (RFC 1812, 5.2.4.3).
+///
+/// Whatever the bytes are, it reads nothing outside of them, and the row, counted from 0, is one of them. It is the
+/// longest match, and the value that of its row, in parts that [`check`](crate::check) accepted.
+///
+/// It takes one search among the ranges that the first level leaves, O(log r) for r of them, and allocates nothing.
+///
+/// ```text
+/// let (_row, name) = lookup(&table.ipv4, address.to_bits().to_le_bytes())?;
+/// ```
+#[inline]
+pub fn lookup<'a, W: Family>(part: &Part<'a>, address: W) -> Option<(usize, &'a [u8])> {
+    let found = find(part, address)?;
+    Some((
+        found.row,
+        &part.values[found.from as usize..found.to as usize],
+    ))
+}
+
+/// What [`lookup`] finds, in its time, with the place of the value among the values in place of its bytes. In parts that
+/// are no table the place is inside of the values, too.
+#[inline(always)]
+pub fn find<W: Family>(part: &Part<'_>, address: W) -> Option<Found> {
+    let row = row_of(part, address)?;
+    let (from, to) = place_of(part, row);
+    Some(Found { row, from, to })
+}
+
+/// Whether an address is in one of the networks, in parts that [`check`](crate::check) accepted; in others the answer
+/// may be wrong, and nothing outside of them is read. In the time of [`lookup`], without the offsets and the values.
+///
+/// ```text
+/// has(&table.ipv6, Ipv6Bytes::of(address.to_bits()))
+/// ```
+#[inline]
+pub fn has<W: Family>(part: &Part<'_>, address: W) -> bool {
+    match row_of(part, address) {
+        Some(_) => true,
+        None => false,
+    }
+}
+
+/// The row of the longest network that an address is in.
+#[inline(always)]
+fn row_of<W: Family>(part: &Part<'_>, address: W) -> Option<usize> {
+    let starts = W::addresses(part.starts);
+    let (answers, _) = part.answers.as_chunks::<4>();
+    let (level, _) = part.level.as_chunks::<4>();
+    let addresses = W::addresses(part.addresses);
+    let rows = addresses.len().min(part.lengths.len());
+    longest_match(starts, answers, level, part.shift, rows, address)
+}
+
+/// Where the value of a row begins and ends, or twice 0 where the offsets are wrong.
+#[inline(always)]
+fn place_of(part: &Part<'_>, row: usize) -> (u32, u32) {
+    let (offsets, _) = part.offsets.as_chunks::<4>();
+    if row + 1 >= offsets.len() {
+        return (0, 0);
+    }
+    let from = u32::from_le_bytes(offsets[row]);
+    let to = u32::from_le_bytes(offsets[row + 1]);
+    if from > to || to as usize > part.values.len() {
+        return (0, 0);
+    }
+    (from, to)
+}

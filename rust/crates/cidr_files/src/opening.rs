@@ -1,0 +1,101 @@
+//! The header of a file, and the parts that it tells of.
+
+use crate::faults::Fault;
+use crate::layout::{Counts, Part, Table};
+
+/// The first word of a file: the bytes 89 43 49 44, which begin no UTF-8 text.
+pub(crate) const MAGIC: u32 = 0x4449_4389;
+
+/// The version that is read and written.
+pub(crate) const VERSION: u32 = 1;
+
+/// The size of the header.
+const HEADER: usize = 64;
+
+/// The tables of a file, in parts that are not yet checked: a few reads, however long it is, and no allocation. The
+/// error is the first of `Magic`, `Version`, and `Short` or `Long`.
+pub fn open(bytes: &[u8]) -> Result<Table<'_>, Fault> {
+    if word_at(bytes, 0) != MAGIC {
+        return Err(Fault::Magic);
+    }
+    let version = word_at(bytes, 1);
+    if version != VERSION {
+        return Err(Fault::Version(version));
+    }
+    if bytes.len() < HEADER {
+        return Err(Fault::Short);
+    }
+    let Some((ipv4, rest)) = part_of(&bytes[HEADER..], 4, &counts_at(bytes, 4)) else {
+        return Err(Fault::Short);
+    };
+    let Some((ipv6, rest)) = part_of(rest, 16, &counts_at(bytes, 10)) else {
+        return Err(Fault::Short);
+    };
+    if !rest.is_empty() {
+        return Err(Fault::Long);
+    }
+    Ok(Table { ipv4, ipv6 })
+}
+
+/// The counts of the IPv4 table and of the IPv6 table, as the header of a file has them: what is behind the end counts
+/// as 0. Whether the bytes are a file is for [`open`]. A few reads, and no allocation.
+#[inline]
+pub fn counts(bytes: &[u8]) -> (Counts, Counts) {
+    (counts_at(bytes, 4), counts_at(bytes, 10))
+}
+
+/// The parts of a table whose addresses have so many bytes, and what lies behind them; `None` where the bytes are too few.
+fn part_of<'a>(bytes: &'a [u8], size: usize, counts: &Counts) -> Option<(Part<'a>, &'a [u8])> {
+    let rows = counts.rows as usize;
+    let ranges = counts.ranges as usize;
+    let (starts, rest) = cut(bytes, size * ranges)?;
+    let (answers, rest) = cut(rest, 4 * ranges)?;
+    let (level, rest) = cut(rest, 4 * counts.entries as usize)?;
+    let (addresses, rest) = cut(rest, size * rows)?;
+    let (lengths, rest) = cut(rest, rows)?;
+    let (offsets, rest) = cut(rest, 4 * (rows + 1))?;
+    let (values, rest) = cut(rest, counts.values as usize)?;
+    let part = Part {
+        starts,
+        answers,
+        level,
+        addresses,
+        lengths,
+        offsets,
+        values,
+        shift: counts.shift,
+    };
+    Some((part, rest))
+}
+
+/// So many of the first bytes, and those from the next multiple of 8 on; `None` where these are too few.
+#[inline]
+fn cut(bytes: &[u8], size: usize) -> Option<(&[u8], &[u8])> {
+    let end = (size + 7) / 8 * 8;
+    if end > bytes.len() {
+        return None;
+    }
+    Some((&bytes[..size], &bytes[end..]))
+}
+
+/// The counts of a table, whose words begin at an index.
+#[inline]
+fn counts_at(bytes: &[u8], index: usize) -> Counts {
+    Counts {
+        rows: word_at(bytes, index),
+        ranges: word_at(bytes, index + 1),
+        entries: word_at(bytes, index + 2),
+        shift: word_at(bytes, index + 3),
+        values: word_at(bytes, index + 4),
+    }
+}
+
+/// The word at an index, or 0 behind the last.
+#[inline(always)]
+fn word_at(bytes: &[u8], index: usize) -> u32 {
+    let (words, _) = bytes.as_chunks::<4>();
+    if index >= words.len() {
+        return 0;
+    }
+    u32::from_le_bytes(words[index])
+}

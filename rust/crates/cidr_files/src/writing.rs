@@ -1,0 +1,149 @@
+//! Files of tables, written.
+
+use cidr_support::vec::Vec;
+use crate::contents::{Contents, counts_of};
+use crate::family::{Family, Ipv4Bytes, Ipv6Bytes};
+use crate::layout::Counts;
+use crate::opening::{MAGIC, VERSION};
+use cidr_arrays::Key;
+use cidr_support::alloc::{AllocError, Global};
+
+/// The bytes of a file of two tables whose arrays the caller has; of rows alone, take `written`. It takes a pass over
+/// the bytes and allocates them. The error is that an allocation fails.
+///
+/// The caller has to ensure that each table is one: that its arrays are those of its keys, as `build` and `fill_level`
+/// of `cidr_arrays` write them, that its values lie one behind the other, and that there are fewer than 2^31 keys,
+/// fewer than 2^32 ranges, entries and bytes of values, and a shift below 32, or 128 in IPv6.
+#[inline]
+pub fn file_of(
+    alloc: Global,
+    ipv4: &Contents<'_, Ipv4Bytes>,
+    ipv6: &Contents<'_, Ipv6Bytes>,
+) -> Result<Vec<u8>, AllocError> {
+    let mut out = Vec::new(alloc);
+    put_head(&mut out, &counts_of(ipv4), &counts_of(ipv6))?;
+    put_contents(&mut out, ipv4)?;
+    put_contents(&mut out, ipv6)?;
+    Ok(out)
+}
+
+/// Writes the header.
+fn put_head(out: &mut Vec<u8>, ipv4: &Counts, ipv6: &Counts) -> Result<(), AllocError> {
+    let words = [
+        MAGIC,
+        VERSION,
+        0,
+        0,
+        ipv4.rows,
+        ipv4.ranges,
+        ipv4.entries,
+        ipv4.shift,
+        ipv4.values,
+        0,
+        ipv6.rows,
+        ipv6.ranges,
+        ipv6.entries,
+        ipv6.shift,
+        ipv6.values,
+        0,
+    ];
+    put_words(out, &words)?;
+    Ok(())
+}
+
+/// Writes the parts of a table.
+fn put_contents<W: Family>(out: &mut Vec<u8>, contents: &Contents<'_, W>) -> Result<(), AllocError> {
+    put_address_part(out, contents.starts)?;
+    put_word_part(out, contents.answers)?;
+    put_word_part(out, contents.level)?;
+    put_key_part(out, contents.rows.keys)?;
+    put_length_part(out, contents.rows.keys)?;
+    put_word_part(out, contents.rows.offsets)?;
+    put_part(out, contents.rows.values)?;
+    Ok(())
+}
+
+/// Writes a part of addresses.
+#[inline]
+fn put_address_part<W: Family>(out: &mut Vec<u8>, addresses: &[W]) -> Result<(), AllocError> {
+    put_addresses(out, addresses)?;
+    fill(out)?;
+    Ok(())
+}
+
+/// Writes a part of words.
+#[inline]
+fn put_word_part(out: &mut Vec<u8>, words: &[u32]) -> Result<(), AllocError> {
+    put_words(out, words)?;
+    fill(out)?;
+    Ok(())
+}
+
+/// Writes the part of the addresses of keys.
+#[inline]
+fn put_key_part<W: Family>(out: &mut Vec<u8>, keys: &[Key<W>]) -> Result<(), AllocError> {
+    put_keys(out, keys)?;
+    fill(out)?;
+    Ok(())
+}
+
+/// Writes the part of their prefix lengths.
+#[inline]
+fn put_length_part<W: Family>(out: &mut Vec<u8>, keys: &[Key<W>]) -> Result<(), AllocError> {
+    put_lengths(out, keys)?;
+    fill(out)?;
+    Ok(())
+}
+
+/// Writes a part of bytes.
+#[inline]
+fn put_part(out: &mut Vec<u8>, part: &[u8]) -> Result<(), AllocError> {
+    out.extend_from_slice(part)?;
+    fill(out)?;
+    Ok(())
+}
+
+/// Writes the bytes of addresses.
+#[inline]
+fn put_addresses<W: Family>(out: &mut Vec<u8>, addresses: &[W]) -> Result<(), AllocError> {
+    for i in 0..addresses.len() {
+        W::put(addresses[i].number(), out)?;
+    }
+    Ok(())
+}
+
+/// Writes the bytes of the addresses of keys.
+#[inline]
+fn put_keys<W: Family>(out: &mut Vec<u8>, keys: &[Key<W>]) -> Result<(), AllocError> {
+    for i in 0..keys.len() {
+        W::put(keys[i].address.number(), out)?;
+    }
+    Ok(())
+}
+
+/// Writes a byte for the prefix length of each key.
+#[inline]
+fn put_lengths<W: Family>(out: &mut Vec<u8>, keys: &[Key<W>]) -> Result<(), AllocError> {
+    for i in 0..keys.len() {
+        out.push(keys[i].len as u8)?;
+    }
+    Ok(())
+}
+
+/// Writes the bytes of words.
+#[inline]
+fn put_words(out: &mut Vec<u8>, words: &[u32]) -> Result<(), AllocError> {
+    for i in 0..words.len() {
+        out.extend_from_slice(&words[i].to_le_bytes())?;
+    }
+    Ok(())
+}
+
+/// Writes zeros up to a multiple of 8.
+#[inline]
+fn fill(out: &mut Vec<u8>) -> Result<(), AllocError> {
+    let size = out.len();
+    let free = (size + 7) / 8 * 8 - size;
+    out.extend_from_slice(&[0; 8][..free])?;
+    Ok(())
+}

@@ -1,0 +1,137 @@
+//! Where two tables forward addresses to different values.
+
+use cidr_support::vec::Vec;
+use crate::halves::{half, know_all, own_value, skipped, split};
+use crate::same::are_ended;
+use crate::tables::rows_of;
+use cidr::NetworkBits;
+use cidr_table::LpmTable;
+use cidr_support::alloc::{AllocError, Global};
+
+/// The values of an address in one table and in another, or `None` where a table has none.
+pub type Answers<V> = (Option<V>, Option<V>);
+
+/// Where two tables forward differently: the largest networks in which each table has one answer for all addresses, and
+/// not the same one, each with both answers. They ascend, and each address that the tables forward differently is in one
+/// and only one of them.
+///
+/// The caller has to ensure that `==` of the values tells equality, as it does for numbers and addresses. It goes
+/// through the rows of both once, in a time that grows with their number and their bits. The error is that an allocation
+/// fails; only the result is allocated.
+///
+/// ```text
+/// routes.set("10.1.0.0/16".parse()?, 3)?;
+/// assert!(!forwards_same(&routes, &smallest));
+/// assert_eq!(format!("{:?}", differences(Global, &routes, &smallest)?), "[(10.1.0.0/16, (Some(3), Some(2)))]");
+/// ```
+#[inline]
+pub fn differences<C: NetworkBits + Copy, V: Copy + Eq>(
+    alloc: Global,
+    one: &LpmTable<C, V>,
+    other: &LpmTable<C, V>,
+) -> Result<Vec<(C, Answers<V>)>, AllocError> {
+    let rows = rows_of(one);
+    let others = rows_of(other);
+    know_all(rows);
+    know_all(others);
+    let mut out = Vec::new(alloc);
+    differ(rows, others, 0, None, None, C::null(), &mut out)?;
+    Ok(out)
+}
+
+/// Appends the rows of a network, where each table has inherited a value. Returns the values of all its addresses, if
+/// they have the same in each table.
+fn differ<C: NetworkBits + Copy, V: Copy + Eq>(
+    rows: &[(C, V)],
+    others: &[(C, V)],
+    depth: usize,
+    inherited: Option<V>,
+    other_inherited: Option<V>,
+    network: C,
+    out: &mut Vec<(C, Answers<V>)>,
+) -> Result<Option<Answers<V>>, AllocError> {
+    let own = own_value(rows, depth, inherited);
+    let other_own = own_value(others, depth, other_inherited);
+    let rest = &rows[skipped(rows, depth)..];
+    let other_rest = &others[skipped(others, depth)..];
+    if are_ended(rest, other_rest, depth) {
+        list(network, (own, other_own), out)?;
+        return Ok(Some((own, other_own)));
+    }
+    let mid = split(rest, depth);
+    let other_mid = split(other_rest, depth);
+    let lower = half_of(rest, other_rest, depth, network, false);
+    let upper = half_of(rest, other_rest, depth, network, true);
+    let before = out.len();
+    let low = differ(
+        &rest[..mid],
+        &other_rest[..other_mid],
+        depth + 1,
+        own,
+        other_own,
+        lower,
+        out,
+    )?;
+    let high = differ(
+        &rest[mid..],
+        &other_rest[other_mid..],
+        depth + 1,
+        own,
+        other_own,
+        upper,
+        out,
+    )?;
+    match shared_values(low, high) {
+        Some(values) => {
+            out.truncate(before);
+            list(network, values, out)?;
+            Ok(Some(values))
+        }
+        None => Ok(None),
+    }
+}
+
+/// Appends the row of a network with these values, if they differ.
+#[inline]
+fn list<C: Copy, V: Copy + Eq>(
+    network: C,
+    values: Answers<V>,
+    out: &mut Vec<(C, Answers<V>)>,
+) -> Result<(), AllocError> {
+    if values.0 == values.1 {
+        return Ok(());
+    }
+    out.push((network, values))?;
+    Ok(())
+}
+
+/// The values of both halves, if they are the same.
+fn shared_values<V: Copy + Eq>(
+    low: Option<Answers<V>>,
+    high: Option<Answers<V>>,
+) -> Option<Answers<V>> {
+    let (Some(low), Some(high)) = (low, high) else {
+        return None;
+    };
+    if low.0 == high.0 && low.1 == high.1 {
+        Some(low)
+    } else {
+        None
+    }
+}
+
+/// A half of the network of `depth` bits that all rows are of.
+#[inline]
+fn half_of<C: NetworkBits + Copy, V: Copy>(
+    rest: &[(C, V)],
+    other_rest: &[(C, V)],
+    depth: usize,
+    network: C,
+    upper: bool,
+) -> C {
+    if rest.is_empty() {
+        half(&other_rest[0].0, depth, upper)
+    } else {
+        half(&rest[0].0, depth, upper)
+    }
+}

@@ -1,0 +1,75 @@
+//! Whether two tables forward each address to the same value.
+
+use crate::halves::{know_all, own_value, skipped, split};
+use crate::tables::rows_of;
+use cidr::NetworkBits;
+use cidr_table::LpmTable;
+
+/// Whether two tables forward the same: each address has the same value in both, or in neither one.
+///
+/// The caller has to ensure that `==` of the values tells equality, as it does for numbers and addresses. It goes
+/// through the rows of both once, in a time that grows with their number and their bits, up to the first network where
+/// they differ, and allocates nothing.
+///
+/// ```text
+/// assert!(forwards_same(&routes, &smallest));
+/// routes.set("10.1.0.0/16".parse()?, 3)?;
+/// assert!(!forwards_same(&routes, &smallest));
+/// ```
+#[inline]
+pub fn forwards_same<C: NetworkBits + Copy, V: Copy + Eq>(
+    one: &LpmTable<C, V>,
+    other: &LpmTable<C, V>,
+) -> bool {
+    let rows = rows_of(one);
+    let others = rows_of(other);
+    know_all(rows);
+    know_all(others);
+    agree(rows, others, 0, None, None)
+}
+
+/// Whether the rows of a network forward the same, where each has inherited a value.
+fn agree<C: NetworkBits + Copy, V: Copy + Eq>(
+    rows: &[(C, V)],
+    others: &[(C, V)],
+    depth: usize,
+    inherited: Option<V>,
+    other_inherited: Option<V>,
+) -> bool {
+    let own = own_value(rows, depth, inherited);
+    let other_own = own_value(others, depth, other_inherited);
+    let rest = &rows[skipped(rows, depth)..];
+    let other_rest = &others[skipped(others, depth)..];
+    if are_ended(rest, other_rest, depth) {
+        return own == other_own;
+    }
+    let mid = split(rest, depth);
+    let other_mid = split(other_rest, depth);
+    agree(
+        &rest[..mid],
+        &other_rest[..other_mid],
+        depth + 1,
+        own,
+        other_own,
+    ) && agree(
+        &rest[mid..],
+        &other_rest[other_mid..],
+        depth + 1,
+        own,
+        other_own,
+    )
+}
+
+/// Whether there are no rows of more bits.
+#[inline]
+pub(crate) fn are_ended<C: NetworkBits + Copy, V: Copy>(
+    rest: &[(C, V)],
+    other_rest: &[(C, V)],
+    depth: usize,
+) -> bool {
+    // No key has more than 129 bits.
+    if depth < 129 {
+        return rest.is_empty() && other_rest.is_empty();
+    }
+    true
+}

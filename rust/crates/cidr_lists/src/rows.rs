@@ -1,0 +1,73 @@
+//! The rows of a table: networks with a value each.
+
+use cidr_support::vec::Vec;
+use cidr::{IpCidr, Ipv4Cidr, Ipv6Cidr};
+use cidr_support::alloc::{AllocError, Global};
+
+/// Where a value stands among the bytes of all values.
+#[derive(Clone, Copy, Debug, PartialEq)]
+pub struct Span {
+    /// The index of its first byte, counted from 0.
+    pub start: usize,
+    /// How many bytes it has.
+    pub len: usize,
+}
+
+/// The bytes of a value; of a span that goes beyond all values, those that there are.
+#[inline]
+pub fn value_of(values: &[u8], span: Span) -> &[u8] {
+    let Some((_, behind)) = values.split_at_checked(span.start) else {
+        return &[];
+    };
+    let Some((value, _)) = behind.split_at_checked(span.len) else {
+        return behind;
+    };
+    value
+}
+
+/// The networks of each family, each with the span of its value, and the bytes of all values: rows as they come, also
+/// several of one network. After an error, which is that there is no memory, what was added isn't told.
+pub struct Rows {
+    /// The rows of IPv4.
+    pub v4: Vec<(Ipv4Cidr, Span)>,
+    /// The rows of IPv6.
+    pub v6: Vec<(Ipv6Cidr, Span)>,
+    /// The bytes of all values, one behind the other.
+    pub values: Vec<u8>,
+}
+
+impl Rows {
+    /// No rows. It allocates nothing.
+    #[inline]
+    pub fn new(alloc: Global) -> Rows {
+        Rows {
+            v4: Vec::new(alloc),
+            v6: Vec::new(alloc),
+            values: Vec::new(alloc),
+        }
+    }
+
+    /// Adds a network with its value to those of its family.
+    pub fn push(&mut self, network: &IpCidr, value: &[u8]) -> Result<(), AllocError> {
+        let span = Span {
+            start: self.values.len(),
+            len: value.len(),
+        };
+        self.values.extend_from_slice(value)?;
+        match network {
+            IpCidr::V4(network) => self.v4.push((*network, span))?,
+            IpCidr::V6(network) => self.v6.push((*network, span))?,
+        }
+        Ok(())
+    }
+
+    /// The same rows in memory of their own. The error is that an allocation fails.
+    #[inline]
+    pub fn copy(&self, alloc: Global) -> Result<Rows, AllocError> {
+        let mut rows = Rows::new(alloc);
+        rows.v4.extend_from_slice(self.v4.as_slice())?;
+        rows.v6.extend_from_slice(self.v6.as_slice())?;
+        rows.values.extend_from_slice(self.values.as_slice())?;
+        Ok(rows)
+    }
+}

@@ -1,0 +1,27 @@
+//! A program over the crate `cidr`: it answers questions about IP networks.
+#![no_main]
+#![deny(unsafe_code)]
+#![allow(unused_imports, unused_variables, unstable_name_collisions, dead_code)]
+
+mod commands;
+mod errors;
+mod program;
+mod report;
+mod run;
+mod walks;
+
+use cidr_system::rt::HostRuntime;
+use cidr_io::arguments::Given;
+use cidr_io::memory::Heap;
+use cidr_io::sink::Tracked;
+use program::program;
+use cidr_system::process::ExitCode;
+
+cidr_system::main!(run);
+
+#[inline]
+fn run(rt: HostRuntime) -> ExitCode {
+    let (mut out, mut err) = (Tracked::new(rt.stdout()), Tracked::new(rt.stderr()));
+    let mut memory = Heap::new(rt.alloc());
+    ExitCode::from(program(&mut memory, &Given { system: &rt }, &mut out, &mut err))
+}

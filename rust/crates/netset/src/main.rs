@@ -1,0 +1,49 @@
+//! A program for lists of networks.
+#![no_main]
+#![deny(unsafe_code)]
+#![allow(unused_imports, unused_variables, unstable_name_collisions, dead_code)]
+
+use cidr_system::rt::HostRuntime;
+use cidr_io::arguments::Given;
+use cidr_io::memory::Heap;
+use cidr_io::sink::Tracked;
+use netset_commands::input::files::System;
+use netset_commands::output::folder::Beside;
+use netset_commands::output::terminal::{Erasing, Progress};
+use netset_commands::program::program;
+use cidr_system::io::IsTerminal;
+use cidr_system::process::ExitCode;
+
+cidr_system::main!(run);
+
+fn run(rt: HostRuntime) -> ExitCode {
+    // answers on the same terminal would stand beside what is shown
+    let shows = rt.stderr().is_terminal() && !rt.stdout().is_terminal();
+    let progress = Progress::new(&rt, shows);
+    let mut out = Tracked::new(Erasing {
+        out: rt.stdout(),
+        progress: &progress,
+    });
+    let mut err = Tracked::new(Erasing {
+        out: rt.stderr(),
+        progress: &progress,
+    });
+    let sources = System {
+        runtime: &rt,
+        progress: &progress,
+    };
+    let mut folder = Beside {
+        runtime: &rt,
+        refused: None,
+    };
+    let arguments = Given { system: &rt };
+    let mut memory = Heap::new(rt.alloc());
+    ExitCode::from(program(
+        &mut memory,
+        &arguments,
+        &sources,
+        &mut folder,
+        &mut out,
+        &mut err,
+    ))
+}

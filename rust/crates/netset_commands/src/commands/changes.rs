@@ -1,0 +1,98 @@
+//! What a second list adds to a first one, and what it lacks.
+
+use crate::errors::CommandError;
+use crate::input::files::Sources;
+use crate::input::several::read_both;
+use crate::output::answers::{Verdict, by_output};
+use cidr::Family;
+use cidr_io::block::Block;
+use cidr_io::memory::Memory;
+use cidr_io::sink::{OutputFailed, Sink};
+use cidr_io::writing::flush;
+use cidr_lists::changes::{ChangeLayout, Changes, Sign, change_layout, sign_text};
+use cidr_lists::formats::{LineFormat, Written};
+use cidr_lists::sets::{Sets, Step};
+
+/// Appends a network with its sign to a block, as a line.
+fn push_change<C: Written, S: Sink>(
+    block: &mut Block,
+    out: &mut S,
+    layout: ChangeLayout<'static>,
+    change: (Sign, C),
+) -> Result<(), OutputFailed> {
+    let text = change.1.written(layout.notation);
+    block.push_line(
+        out,
+        &[
+            layout.before.as_bytes(),
+            sign_text(change.0).as_bytes(),
+            layout.between.as_bytes(),
+            text.as_str().as_bytes(),
+            layout.behind.as_bytes(),
+            b"\n",
+        ],
+    )
+}
+
+/// Writes the networks of two lists in blocks, each with its sign, one a line.
+#[inline]
+fn write_changes<C: Written, S: Sink>(
+    out: &mut S,
+    layout: ChangeLayout<'static>,
+    added: &[C],
+    lacking: &[C],
+) -> Result<(), OutputFailed> {
+    let mut changes = Changes { added, lacking };
+    let mut block = Block::new();
+    while let Some(change) = changes.next() {
+        push_change(&mut block, out, layout, change)?;
+    }
+    block.write(out)
+}
+
+/// Writes what is added and what is lacking, one a line. An output that has failed before gets nothing.
+pub(crate) fn write_both<S: Sink>(
+    out: &mut S,
+    format: LineFormat,
+    added: &Sets,
+    lacking: &Sets,
+) -> Result<(), OutputFailed> {
+    if out.failed() {
+        return Err(OutputFailed);
+    }
+    let ipv4 = change_layout(format, Family::Ipv4);
+    write_changes(out, ipv4, added.v4.as_slice(), lacking.v4.as_slice())?;
+    let ipv6 = change_layout(format, Family::Ipv6);
+    write_changes(out, ipv6, added.v6.as_slice(), lacking.v6.as_slice())?;
+    flush(out)
+}
+
+/// Yes where nothing is added and nothing lacking.
+#[inline]
+pub(crate) fn verdict_of(added: &Sets, lacking: &Sets) -> Verdict {
+    if added.is_empty() && lacking.is_empty() {
+        Verdict::Yes
+    } else {
+        Verdict::No
+    }
+}
+
+/// The command `diff`.
+pub fn diff<'a, M: Memory, F: Sources, O: Sink>(
+    memory: &mut M,
+    sources: &F,
+    format: LineFormat,
+    old: &'a str,
+    new: &'a str,
+    out: &mut O,
+) -> Result<Verdict, CommandError<'a>> {
+    let (old, new) = read_both(memory, sources, old, new)?;
+    let added = new.stepped(Step::Difference, &old);
+    let added = memory.watch(added)?;
+    let lacking = old.stepped(Step::Difference, &new);
+    let lacking = memory.watch(lacking)?;
+    by_output(
+        verdict_of(&added, &lacking),
+        write_both(out, format, &added, &lacking),
+    )
+}

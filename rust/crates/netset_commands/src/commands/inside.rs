@@ -1,0 +1,34 @@
+//! The addresses of a network that no list has.
+
+use crate::commands::combine::combination;
+use crate::commands::operations::Operation;
+use crate::commands::single::network_of;
+use crate::errors::CommandError;
+use crate::input::files::Sources;
+use crate::input::several::read_several;
+use crate::output::answers::Verdict;
+use crate::output::sets::write_by;
+use cidr_io::memory::Memory;
+use cidr_io::sink::Sink;
+use cidr_lists::formats::Style;
+use cidr_lists::sets::{Sets, Step};
+
+/// The command `not --in`.
+pub fn not_in<'a, M: Memory, F: Sources, O: Sink>(
+    memory: &mut M,
+    sources: &F,
+    style: Option<Style<'_>>,
+    net: &'a str,
+    files: &'a [&'a str],
+    out: &mut O,
+) -> Result<Verdict, CommandError<'a>> {
+    let network = network_of(net)?;
+    let several = read_several(memory, sources, files)?;
+    let rest = combination(Operation::Not, several);
+    let rest = memory.watch(rest)?;
+    let whole = Sets::of_network(memory.alloc(), &network);
+    let whole = memory.watch(whole)?;
+    let inside = whole.stepped(Step::Intersection, &rest);
+    let inside = memory.watch(inside)?;
+    write_by(memory, style, &inside, out)
+}

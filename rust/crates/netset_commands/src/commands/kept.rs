@@ -1,0 +1,275 @@
+//! Addresses that are told one line after the other: with the lines that have them, or as objects of JSON.
+
+use cidr_support::vec::Vec;
+use crate::commands::look::{address_asked, verdict_of};
+use crate::commands::matching::{is_line, next_part};
+use crate::errors::{CommandError, Reason};
+use crate::input::table::Networks;
+use crate::output::answers::{Verdict, by_output};
+use crate::output::printing::catch_up;
+use cidr_support::arrayvec::ArrayString;
+use cidr::IpAddr;
+use cidr_io::block::Block;
+use cidr_io::lines::LineReader;
+use cidr_io::memory::Memory;
+use cidr_io::sink::{OutputFailed, Sink};
+use cidr_io::source::Source;
+use cidr_lists::fields::{Asked, joint_of, without_returns};
+use cidr_lists::objects::{Telling, push_object};
+use cidr_lists::printing::block_text;
+use cidr_support::alloc::{AllocError, Global};
+
+/// Appends a line to a block, and behind its fields a network and its value.
+fn push_kept<S: Sink>(
+    block: &mut Block,
+    out: &mut S,
+    joint: u8,
+    line: &[u8],
+    network: &ArrayString<43>,
+    value: &[u8],
+) -> Result<(), OutputFailed> {
+    let joint = [joint];
+    let body = without_returns(line);
+    let (_, returns) = line.split_at(body.len());
+    let text = *network;
+    let network = text.as_str().as_bytes();
+    if value.is_empty() {
+        return block.push_line(out, &[body, joint.as_slice(), network, returns, b"\n"]);
+    }
+    block.push_line(
+        out,
+        &[
+            body,
+            joint.as_slice(),
+            network,
+            joint.as_slice(),
+            value,
+            returns,
+            b"\n",
+        ],
+    )
+}
+
+/// The longest network that an address is in, as it is printed, and its value.
+#[inline]
+fn network_of<'t, T: Networks>(
+    table: &'t T,
+    address: &IpAddr,
+) -> Option<(ArrayString<43>, &'t [u8])> {
+    match table.row(address) {
+        Some((len, value)) => Some((block_text(address, len), value)),
+        None => None,
+    }
+}
+
+/// The longest network of the address that a line has, if it has one, as it is printed, and its value.
+#[inline]
+fn network_asked<'t, T: Networks>(
+    table: &'t T,
+    asked: &Option<IpAddr>,
+) -> Option<(ArrayString<43>, &'t [u8])> {
+    match asked {
+        Some(address) => network_of(table, address),
+        None => None,
+    }
+}
+
+/// Appends a line that has this address, or none, to a block, with the network of the address; tells whether it has one.
+fn keep_line<T: Networks, S: Sink>(
+    table: &T,
+    place: Asked,
+    line: &[u8],
+    asked: &Option<IpAddr>,
+    block: &mut Block,
+    out: &mut S,
+) -> Result<bool, OutputFailed> {
+    match network_asked(table, asked) {
+        Some(found) => {
+            push_kept(block, out, joint_of(place), line, &found.0, found.1)?;
+            Ok(true)
+        }
+        None => {
+            block.push_line(out, &[line, b"\n"])?;
+            Ok(false)
+        }
+    }
+}
+
+/// The object of an address, with the longest network that it is in, and whether there is one. The error is that an
+/// allocation fails.
+#[inline]
+fn object_of<T: Networks>(
+    alloc: Global,
+    table: &T,
+    address: &IpAddr,
+) -> Result<(Vec<u8>, bool), AllocError> {
+    let row = table.row(address);
+    let mut text = Vec::new(alloc);
+    push_object(&mut text, address, row)?;
+    Ok((text, row.is_some()))
+}
+
+/// Appends the object of an address to a block; tells whether a network has the address.
+#[inline]
+fn tell_address<'a, T: Networks, M: Memory, S: Sink>(
+    memory: &mut M,
+    table: &T,
+    address: &IpAddr,
+    block: &mut Block,
+    out: &mut S,
+) -> Result<bool, CommandError<'a>> {
+    let made = object_of(memory.alloc(), table, address);
+    let object = memory.watch(made)?;
+    match block.push(out, object.0.as_slice()) {
+        Ok(()) => Ok(object.1),
+        Err(_) => Err(CommandError::Output),
+    }
+}
+
+/// The same of the address that a line has, if it has one.
+#[inline]
+fn tell_object<'a, T: Networks, M: Memory, S: Sink>(
+    memory: &mut M,
+    table: &T,
+    asked: &Option<IpAddr>,
+    block: &mut Block,
+    out: &mut S,
+) -> Result<bool, CommandError<'a>> {
+    match asked {
+        Some(address) => tell_address(memory, table, address, block, out),
+        None => Ok(false),
+    }
+}
+
+/// Appends what is told of a line that has this address, or none, to a block; tells whether a network has the address.
+#[inline]
+fn tell_line<'a, T: Networks, M: Memory, S: Sink>(
+    memory: &mut M,
+    table: &T,
+    telling: Telling,
+    place: Asked,
+    line: &[u8],
+    asked: &Option<IpAddr>,
+    block: &mut Block,
+    out: &mut S,
+) -> Result<bool, CommandError<'a>> {
+    match telling {
+        Telling::Objects => tell_object(memory, table, asked, block, out),
+        Telling::Alone | Telling::Kept => match keep_line(table, place, line, asked, block, out) {
+            Ok(found) => Ok(found),
+            Err(_) => Err(CommandError::Output),
+        },
+    }
+}
+
+/// Appends what is told of the line of a part up to a line feed or to the end, if it is one, to a block; tells whether a
+/// network has its address.
+#[inline]
+fn tell_part<'a, T: Networks, M: Memory, S: Sink>(
+    memory: &mut M,
+    table: &T,
+    telling: Telling,
+    place: Asked,
+    file: &'a str,
+    number: u64,
+    part: &[u8],
+    has_more: bool,
+    block: &mut Block,
+    out: &mut S,
+) -> Result<bool, CommandError<'a>> {
+    if !is_line(part, has_more) {
+        return Ok(false);
+    }
+    match address_asked(place, part) {
+        Ok(asked) => tell_line(memory, table, telling, place, part, &asked, block, out),
+        Err(e) => Err(CommandError::Line(file, number, e)),
+    }
+}
+
+/// Writes the part up to a line feed or to the end that is a header, if it is a line.
+#[inline]
+fn write_part<S: Sink>(header: &[u8], has_more: bool, out: &mut S) -> Result<(), OutputFailed> {
+    if !is_line(header, has_more) {
+        return Ok(());
+    }
+    let mut block = Block::new();
+    block.push_line(out, &[header, b"\n"])?;
+    block.flush(out)
+}
+
+/// Writes what is told of the part up to a line feed or to the end that is a header: itself, where lines are kept.
+#[inline]
+pub fn write_header<S: Sink>(
+    telling: Telling,
+    header: &[u8],
+    has_more: bool,
+    out: &mut S,
+) -> Result<(), OutputFailed> {
+    match telling {
+        Telling::Kept => write_part(header, has_more, out),
+        Telling::Alone | Telling::Objects => Ok(()),
+    }
+}
+
+/// Writes what is not yet written where no more lines are read for an error, and returns it, or that the output has failed.
+#[inline]
+fn stop<'a, S: Sink>(
+    block: &mut Block,
+    error: CommandError<'a>,
+    out: &mut S,
+) -> Result<Verdict, CommandError<'a>> {
+    match error {
+        CommandError::Output => Err(CommandError::Output),
+        error => match block.flush(out) {
+            Ok(()) => Err(error),
+            Err(_) => Err(CommandError::Output),
+        },
+    }
+}
+
+/// Reads a file line by line, and writes what is told of each: the line with the longest network of its address, or the
+/// object of its address; also of those before a line in error. An output that has failed before gets nothing.
+pub fn tell_lines<'a, T: Networks, M: Memory, R: Source, S: Sink>(
+    memory: &mut M,
+    table: &T,
+    telling: Telling,
+    place: Asked,
+    file: &'a str,
+    reader: &mut LineReader<R>,
+    out: &mut S,
+) -> Result<Verdict, CommandError<'a>> {
+    assert!(telling != Telling::Alone);
+    if out.failed() {
+        return Err(CommandError::Output);
+    }
+    let mut block = Block::new();
+    let mut found = false;
+    for number in 1..u64::MAX {
+        let Ok(()) = catch_up(reader, &mut block, out) else {
+            return Err(CommandError::Output);
+        };
+        let has_more = match next_part(memory, file, reader) {
+            Ok(has_more) => has_more,
+            Err(e) => return stop(&mut block, e, out),
+        };
+        match tell_part(
+            memory,
+            table,
+            telling,
+            place,
+            file,
+            number,
+            reader.line(),
+            has_more,
+            &mut block,
+            out,
+        ) {
+            Ok(hit) => found = found || hit,
+            Err(e) => return stop(&mut block, e, out),
+        }
+        if !has_more {
+            return by_output(verdict_of(found), block.flush(out));
+        }
+    }
+    stop(&mut block, CommandError::Input(file, Reason::Unknown), out)
+}

@@ -1,0 +1,73 @@
+//! The field by which `match` picks lines and `look` has an address, as the options name it.
+
+use crate::errors::{ArgumentError, CommandError};
+use cidr_lists::columns::{Column, Separator};
+use cidr_lists::fields::Asked;
+
+/// The field by which lines are picked, or that is looked up.
+#[derive(Clone, Copy)]
+pub enum Choice<'a> {
+    /// The first one.
+    First,
+    /// The one of this number, from 1 on, and what parts it from others, or white space.
+    Field(&'a str, Option<&'a str>),
+}
+
+/// The place, from 0 on, of the field of a number.
+#[inline]
+pub fn place_of(number: &str) -> Option<u64> {
+    match number.parse::<u64>() {
+        Ok(number) => number.checked_sub(1),
+        Err(_) => None,
+    }
+}
+
+/// The byte that a string is.
+#[inline]
+fn byte_of(text: &str) -> Option<Separator> {
+    match text.as_bytes() {
+        [byte] => Some(Separator::Byte(*byte)),
+        _ => None,
+    }
+}
+
+/// The field of a number and of what parts it from others.
+fn field_of<'a>(number: &'a str, separator: Option<&'a str>) -> Result<Column, CommandError<'a>> {
+    let Some(place) = place_of(number) else {
+        return Err(CommandError::Argument(number, ArgumentError::Field));
+    };
+    let Some(text) = separator else {
+        return Ok(Column {
+            place,
+            separator: Separator::WhiteSpace,
+        });
+    };
+    match byte_of(text) {
+        Some(separator) => Ok(Column { place, separator }),
+        None => Err(CommandError::Argument(text, ArgumentError::Separator)),
+    }
+}
+
+/// The field that is read of each line.
+#[inline]
+pub fn column_of<'a>(choice: Choice<'a>) -> Result<Column, CommandError<'a>> {
+    match choice {
+        Choice::First => Ok(Column {
+            place: 0,
+            separator: Separator::WhiteSpace,
+        }),
+        Choice::Field(number, separator) => field_of(number, separator),
+    }
+}
+
+/// The address that is looked up of each line: the first anywhere, or that of the field.
+#[inline]
+pub fn asked_of<'a>(choice: Choice<'a>, any: bool) -> Result<Asked, CommandError<'a>> {
+    match choice {
+        Choice::First => Ok(if any { Asked::Anywhere } else { Asked::First }),
+        Choice::Field(number, separator) => match field_of(number, separator) {
+            Ok(column) => Ok(Asked::Field(column)),
+            Err(e) => Err(e),
+        },
+    }
+}

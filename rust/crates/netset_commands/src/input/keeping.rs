@@ -1,0 +1,294 @@
+//! Telling every line in error of the lists of a command, in the pass that reads them, and keeping what the others say.
+
+use cidr_support::vec::Vec;
+use crate::errors::{CommandError, ReadError, Reason};
+use crate::input::begun::{Given, begin_file, read_whole};
+use crate::input::files::Sources;
+use crate::input::table::unread;
+use crate::input::{entries, lists, rows};
+use crate::output::report::say_fault;
+use cidr_io::block::Block;
+use cidr_io::lines::LineReader;
+use cidr_io::memory::Memory;
+use cidr_io::sink::Sink;
+use cidr_io::source::Source;
+use cidr_lists::entries::{Entry, Place};
+use cidr_lists::forms::{Kind, RowForm};
+use cidr_lists::lists::Lists;
+use cidr_lists::records::ListForm;
+use cidr_lists::rows::Rows;
+use cidr_support::alloc::{AllocError, Global};
+
+/// What the lines of a list say, those in error left out.
+pub enum Said {
+    Networks(Lists),
+    /// Each entry stands in a file of no name.
+    Hosts(Vec<Entry<'static>>),
+    /// Rows that were read in this form.
+    Rows(RowForm, Rows),
+}
+
+impl Said {
+    /// What no lines say.
+    #[inline]
+    fn new(alloc: Global, kind: Kind) -> Said {
+        match kind {
+            Kind::Networks => Said::Networks(Lists::new(alloc)),
+            Kind::Hosts => Said::Hosts(Vec::new(alloc)),
+            Kind::Rows(form) => Said::Rows(form, Rows::new(alloc)),
+        }
+    }
+
+    /// Adds what a line says.
+    fn add_line<M: Memory>(
+        &mut self,
+        memory: &mut M,
+        list_form: ListForm,
+        number: u64,
+        line: &[u8],
+    ) -> Result<(), ReadError> {
+        match self {
+            Said::Networks(lists) => lists::add_line(memory, list_form, number, line, lists),
+            Said::Hosts(hosts) => {
+                entries::add_line(memory, Place { file: "", number }, line, hosts)
+            }
+            Said::Rows(form, rows) => {
+                rows::add_line(memory, *form, list_form, number, line, rows)
+            }
+        }
+    }
+}
+
+/// Adds what a line says, or tells its error; tells whether it is in error.
+fn keep_line<M: Memory, E: Sink>(
+    memory: &mut M,
+    list_form: ListForm,
+    place: Place<'_>,
+    line: &[u8],
+    said: &mut Said,
+    block: &mut Block,
+    err: &mut E,
+) -> Result<bool, ReadError> {
+    match said.add_line(memory, list_form, place.number, line) {
+        Ok(()) => Ok(false),
+        Err(ReadError::Line(_, e)) => {
+            say_fault(block, err, place.file, place.number, &e);
+            Ok(true)
+        }
+        Err(ReadError::Input) => Err(ReadError::Input),
+        Err(ReadError::NoMemory) => Err(ReadError::NoMemory),
+    }
+}
+
+/// Adds a line to a text, with a line feed in front, if lines are to be skipped: how long the text is without the bytes of the
+/// line.
+fn begin_line<M: Memory>(
+    memory: &mut M,
+    skips: bool,
+    line: &[u8],
+    text: &mut Vec<u8>,
+) -> Result<usize, AllocError> {
+    if !skips {
+        return Ok(0);
+    }
+    memory.push(text, b'\n')?;
+    let len = text.len();
+    let added = text.extend_from_slice(line);
+    memory.watch(added)?;
+    Ok(len)
+}
+
+/// Takes the bytes of a line away that was added to a text last, if it is in error.
+#[inline]
+fn end_line(is_bad: bool, len: usize, text: &mut Vec<u8>) {
+    if is_bad {
+        text.truncate(len);
+    }
+}
+
+/// What was read of the lines of a list.
+pub struct Heard {
+    /// What those say that are not in error.
+    pub said: Said,
+    /// If lines are to be skipped, all of them, with a line feed in front of each, those in error left empty; else nothing.
+    pub text: Vec<u8>,
+    /// Whether one is in error.
+    pub is_bad: bool,
+}
+
+/// Reads the lines of a list to its end, and tells those in error.
+fn keep_lines<M: Memory, S: Source, E: Sink>(
+    memory: &mut M,
+    kind: Kind,
+    list_form: ListForm,
+    file: &str,
+    skips: bool,
+    reader: &mut LineReader<S>,
+    block: &mut Block,
+    err: &mut E,
+) -> Result<Heard, ReadError> {
+    let mut said = Said::new(memory.alloc(), kind);
+    let mut text = Vec::new(memory.alloc());
+    let mut found = false;
+    for number in 1..u64::MAX {
+        let has_more = reader.read_line(memory)?;
+        let line = reader.line();
+        let len = begin_line(memory, skips, line, &mut text)?;
+        let place = Place { file, number };
+        let is_bad = keep_line(memory, list_form, place, line, &mut said, block, err)?;
+        end_line(is_bad, len, &mut text);
+        found |= is_bad;
+        if !has_more {
+            return Ok(Heard {
+                said,
+                text,
+                is_bad: found,
+            });
+        }
+    }
+    Err(ReadError::Input)
+}
+
+/// A list that was read whole.
+pub struct Kept<'a> {
+    pub name: &'a str,
+    /// What those of its lines say that are not in error, or the bytes of a file of look-ups.
+    pub given: Given<Said>,
+    /// The same lines, as [`Heard`] has them.
+    pub text: Vec<u8>,
+}
+
+impl Kept<'_> {
+    /// What is read of the list where lines in error are skipped.
+    #[inline]
+    pub fn good_bytes(&self) -> &[u8] {
+        match &self.given {
+            Given::Lines(_) => behind_first(self.text.as_slice()),
+            Given::Stored(bytes) => bytes.as_slice(),
+        }
+    }
+}
+
+/// The bytes behind the first one.
+#[inline]
+fn behind_first(bytes: &[u8]) -> &[u8] {
+    match bytes.split_first() {
+        Some((_, rest)) => rest,
+        None => &[],
+    }
+}
+
+/// Reads a list to its end, and tells its lines in error: what is kept of it, and whether a line is in error. Where it may be
+/// a file of look-ups and begins as one, none is.
+fn keep_list<'a, M: Memory, F: Sources, E: Sink>(
+    memory: &mut M,
+    sources: &F,
+    kind: Kind,
+    takes_file: bool,
+    skips: bool,
+    file: &'a str,
+    err: &mut E,
+) -> Result<(Kept<'a>, bool), CommandError<'a>> {
+    let begun = begin_file(sources, file)?;
+    if takes_file && begun.is_stored() {
+        let bytes = read_whole(memory, file, begun)?;
+        return Ok((
+            Kept {
+                name: file,
+                given: Given::Stored(bytes),
+                text: Vec::new(memory.alloc()),
+            },
+            false,
+        ));
+    }
+    let Ok(mut reader) = LineReader::new(memory, begun) else {
+        return Err(CommandError::NoMemory);
+    };
+    let mut block = Block::new();
+    let kept = keep_lines(
+        memory,
+        kind,
+        sources.list_form(),
+        file,
+        skips,
+        &mut reader,
+        &mut block,
+        err,
+    );
+    block.end(err);
+    match kept {
+        Ok(heard) => Ok((
+            Kept {
+                name: file,
+                given: Given::Lines(heard.said),
+                text: heard.text,
+            },
+            heard.is_bad,
+        )),
+        Err(e) => Err(unread(file, e)),
+    }
+}
+
+/// The first list of this name.
+#[inline]
+pub fn list_named<'l>(lists: &'l [Kept<'l>], name: &str) -> Option<&'l Kept<'l>> {
+    lists.iter().find(|list| list.name == name)
+}
+
+/// Lists that were read whole, of which no line is in error, and where files are read from.
+pub struct Loaded<'a, F: Sources> {
+    lists: &'a [Kept<'a>],
+    sources: &'a F,
+}
+
+impl<'a, F: Sources> Loaded<'a, F> {
+    /// These lists of these sources.
+    #[inline]
+    pub fn new(sources: &'a F, lists: &'a [Kept<'a>]) -> Loaded<'a, F> {
+        Loaded { lists, sources }
+    }
+}
+
+impl<F: Sources> Sources for Loaded<'_, F> {
+    type Reader = F::Reader;
+
+    #[inline]
+    fn open(&self, name: &str) -> Result<F::Reader, Reason> {
+        self.sources.open(name)
+    }
+
+    #[inline]
+    fn list_form(&self) -> ListForm {
+        self.sources.list_form()
+    }
+
+    #[inline]
+    fn kept(&self, name: &str) -> Option<&Given<Said>> {
+        let lists = self.lists;
+        match list_named(lists, name) {
+            Some(list) => Some(&list.given),
+            None => None,
+        }
+    }
+}
+
+/// Reads lists whole, which may be files of look-ups or not, and tells their lines in error, up to the first list that can't be
+/// read: what is kept of them, and whether a line is in error.
+pub fn load<'a, M: Memory, F: Sources, E: Sink>(
+    memory: &mut M,
+    sources: &F,
+    kind: Kind,
+    takes_file: bool,
+    skips: bool,
+    names: &[&'a str],
+    err: &mut E,
+) -> Result<(Vec<Kept<'a>>, bool), CommandError<'a>> {
+    let mut lists = Vec::new(memory.alloc());
+    let mut found = false;
+    for name in names {
+        let (list, is_bad) = keep_list(memory, sources, kind, takes_file, skips, name, err)?;
+        found |= is_bad;
+        memory.push(&mut lists, list)?;
+    }
+    Ok((lists, found))
+}

@@ -1,0 +1,178 @@
+//! Reading the lists of files, each as a set.
+
+use cidr_support::vec::Vec;
+use crate::errors::{CommandError, ReadError, Reason};
+use crate::input::begun::{Given, begin_file, read_whole};
+use crate::input::files::Sources;
+use crate::input::keeping::Said;
+use crate::input::lists::read_list;
+use crate::input::stored::Stored;
+use crate::input::table::unread;
+use cidr_io::memory::Memory;
+use cidr_lists::lists::Lists;
+use cidr_lists::sets::Sets;
+
+/// The sets of the files of a command, at least one.
+pub struct Several {
+    pub first: Sets,
+    pub others: Vec<Sets>,
+}
+
+/// Reads the list of a file, and adds its networks.
+fn add_opened<'a, M: Memory, F: Sources>(
+    memory: &mut M,
+    sources: &F,
+    file: &'a str,
+    lists: &mut Lists,
+) -> Result<(), CommandError<'a>> {
+    let reader = match sources.open(file) {
+        Ok(reader) => reader,
+        Err(why) => return Err(CommandError::Input(file, why)),
+    };
+    match read_list(memory, sources.list_form(), reader, lists) {
+        Ok(()) => Ok(()),
+        Err(ReadError::Line(number, e)) => Err(CommandError::Line(file, number, e)),
+        Err(ReadError::Input) => Err(CommandError::Input(file, Reason::Unknown)),
+        Err(ReadError::NoMemory) => Err(CommandError::NoMemory),
+    }
+}
+
+/// Adds the networks of the list of a file, which is read unless it is read already.
+fn add_file<'a, M: Memory, F: Sources>(
+    memory: &mut M,
+    sources: &F,
+    file: &'a str,
+    lists: &mut Lists,
+) -> Result<(), CommandError<'a>> {
+    match sources.kept(file) {
+        Some(Given::Lines(Said::Networks(kept))) => {
+            let added = lists.extend(kept);
+            memory.watch(added)?;
+            Ok(())
+        }
+        _ => add_opened(memory, sources, file, lists),
+    }
+}
+
+/// The addresses of the list of a file.
+#[inline]
+pub fn read_file<'a, M: Memory, F: Sources>(
+    memory: &mut M,
+    sources: &F,
+    file: &'a str,
+) -> Result<Sets, CommandError<'a>> {
+    let mut lists = Lists::new(memory.alloc());
+    add_file(memory, sources, file, &mut lists)?;
+    Ok(Sets::of_lists(lists))
+}
+
+/// Reads the bytes of a file of look-ups, or the addresses of the list of another file.
+fn read_given<'a, M: Memory, F: Sources>(
+    memory: &mut M,
+    sources: &F,
+    file: &'a str,
+) -> Result<Given<Sets>, CommandError<'a>> {
+    let begun = begin_file(sources, file)?;
+    if begun.is_stored() {
+        let bytes = read_whole(memory, file, begun)?;
+        return Ok(Given::Stored(bytes));
+    }
+    let mut lists = Lists::new(memory.alloc());
+    match read_list(memory, sources.list_form(), begun, &mut lists) {
+        Ok(()) => Ok(Given::Lines(Sets::of_lists(lists))),
+        Err(e) => Err(unread(file, e)),
+    }
+}
+
+/// The bytes of a file of look-ups, or the addresses of the list of another file, which is read unless it is read already.
+fn give_list<'a, M: Memory, F: Sources>(
+    memory: &mut M,
+    sources: &F,
+    file: &'a str,
+) -> Result<Given<Sets>, CommandError<'a>> {
+    match sources.kept(file) {
+        Some(Given::Lines(Said::Networks(kept))) => {
+            let mut lists = Lists::new(memory.alloc());
+            let added = lists.extend(kept);
+            memory.watch(added)?;
+            Ok(Given::Lines(Sets::of_lists(lists)))
+        }
+        Some(Given::Stored(kept)) => {
+            let bytes: Result<_, _> = kept.try_clone();
+            let bytes = memory.watch(bytes)?;
+            Ok(Given::Stored(bytes))
+        }
+        _ => read_given(memory, sources, file),
+    }
+}
+
+/// The addresses of a list, or of the rows of a file of look-ups.
+pub fn read_addresses<'a, M: Memory, F: Sources>(
+    memory: &mut M,
+    sources: &F,
+    file: &'a str,
+) -> Result<Sets, CommandError<'a>> {
+    match give_list(memory, sources, file)? {
+        Given::Lines(sets) => Ok(sets),
+        Given::Stored(bytes) => {
+            let stored = Stored::check(memory, file, bytes.as_slice())?;
+            let sets = stored.addresses(memory.alloc());
+            let sets = memory.watch(sets)?;
+            Ok(sets)
+        }
+    }
+}
+
+/// The addresses of the lists of some files, each.
+#[inline]
+pub fn read_all<'a, M: Memory, F: Sources>(
+    memory: &mut M,
+    sources: &F,
+    files: &[&'a str],
+) -> Result<Vec<Sets>, CommandError<'a>> {
+    let mut sets = Vec::new(memory.alloc());
+    for file in files {
+        let set = read_file(memory, sources, file)?;
+        memory.push(&mut sets, set)?;
+    }
+    Ok(sets)
+}
+
+/// The addresses of the lists of two files.
+#[inline]
+pub fn read_both<'a, M: Memory, F: Sources>(
+    memory: &mut M,
+    sources: &F,
+    old: &'a str,
+    new: &'a str,
+) -> Result<(Sets, Sets), CommandError<'a>> {
+    let these = read_file(memory, sources, old)?;
+    let those = read_file(memory, sources, new)?;
+    Ok((these, those))
+}
+
+/// The addresses of the lists of a file and of others, each.
+#[inline]
+pub fn read_named<'a, M: Memory, F: Sources>(
+    memory: &mut M,
+    sources: &F,
+    file: &'a str,
+    files: &[&'a str],
+) -> Result<Several, CommandError<'a>> {
+    let first = read_file(memory, sources, file)?;
+    let others = read_all(memory, sources, files)?;
+    Ok(Several { first, others })
+}
+
+/// The addresses of the lists of a command's files, each: of the standard input, if none is named.
+#[inline]
+pub fn read_several<'a, M: Memory, F: Sources>(
+    memory: &mut M,
+    sources: &F,
+    files: &[&'a str],
+) -> Result<Several, CommandError<'a>> {
+    match files.split_first() {
+        Some((file, files)) => read_named(memory, sources, file, files),
+        None => read_named(memory, sources, "-", &[]),
+    }
+}

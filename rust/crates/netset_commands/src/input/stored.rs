@@ -1,0 +1,223 @@
+//! Files of look-ups in the place of a table.
+
+use cidr_support::vec::Vec;
+use crate::errors::{CommandError, FileError};
+use crate::input::table::{Answer, LookUps, Networks, push_match, push_none};
+use cidr::{BitString, IpAddr, Ipv4Addr, Ipv4Cidr, Ipv6Addr, Ipv6Cidr};
+use cidr_arrays::Word;
+use cidr_files::{Family, Fault, Ipv4Bytes, Ipv6Bytes, Part, Table, TableFault, checked, lookup};
+use cidr_io::block::Block;
+use cidr_io::memory::Memory;
+use cidr_io::sink::{OutputFailed, Sink};
+use cidr_lists::errors::LineError;
+use cidr_lists::formats::LineFormat;
+use cidr_lists::forms::check_value;
+use cidr_lists::lists::Lists;
+use cidr_lists::sets::Sets;
+use cidr_support::alloc::{AllocError, Global};
+
+/// The tables of a file of look-ups, which were checked.
+pub struct Stored<'a> {
+    tables: Table<'a>,
+}
+
+impl<'a> Stored<'a> {
+    /// The tables of the bytes of a file, or what is told of what is wrong with them. The other error is that there is
+    /// no memory to see.
+    #[inline]
+    fn of_bytes(alloc: Global, bytes: &'a [u8]) -> Result<Result<Stored<'a>, FileError>, AllocError> {
+        match checked(alloc, bytes) {
+            Ok(tables) => Ok(Ok(Stored { tables })),
+            Err(fault) => match file_error_of(&fault) {
+                Some(why) => Ok(Err(why)),
+                None => Err(AllocError),
+            },
+        }
+    }
+
+    /// The tables of the bytes of the file of a name: one pass over them.
+    #[inline]
+    pub fn check<'n, M: Memory>(
+        memory: &mut M,
+        name: &'n str,
+        bytes: &'a [u8],
+    ) -> Result<Stored<'a>, CommandError<'n>> {
+        let made = Stored::of_bytes(memory.alloc(), bytes);
+        match memory.watch(made)? {
+            Ok(stored) => Ok(stored),
+            Err(why) => Err(CommandError::File(name, why)),
+        }
+    }
+
+    /// Sees that the values can be told in a format. The error is that of the first row whose value can't, with its number
+    /// among the rows of its family, from 1 on, those of IPv4 before those of IPv6.
+    #[inline]
+    pub fn check_values<'n>(
+        &self,
+        format: LineFormat,
+        name: &'n str,
+    ) -> Result<(), CommandError<'n>> {
+        if let Err((number, e)) = check_part::<Ipv4Bytes>(format, &self.tables.ipv4) {
+            return Err(CommandError::Line(name, number, e));
+        }
+        if let Err((number, e)) = check_part::<Ipv6Bytes>(format, &self.tables.ipv6) {
+            return Err(CommandError::Line(name, number, e));
+        }
+        Ok(())
+    }
+
+    /// The addresses of the networks of its rows. The error is that there is no memory.
+    #[inline]
+    pub fn addresses(&self, alloc: Global) -> Result<Sets, AllocError> {
+        let mut lists = Lists::new(alloc);
+        push_networks::<Ipv4Bytes, Ipv4Cidr>(&self.tables.ipv4, &mut lists.v4)?;
+        push_networks::<Ipv6Bytes, Ipv6Cidr>(&self.tables.ipv6, &mut lists.v6)?;
+        Ok(Sets::of_lists(lists))
+    }
+}
+
+/// The value of a row; no bytes where the offsets are wrong.
+fn value_of<'a>(part: &Part<'a>, row: usize) -> &'a [u8] {
+    let (offsets, _) = part.offsets.as_chunks::<4>();
+    if row + 1 >= offsets.len() {
+        return &[];
+    }
+    let from = u32::from_le_bytes(offsets[row]);
+    let to = u32::from_le_bytes(offsets[row + 1]);
+    if from > to || to as usize > part.values.len() {
+        return &[];
+    }
+    &part.values[from as usize..to as usize]
+}
+
+/// Sees that the values of the rows of a table can be told in a format. The error is that of the first which can't, with
+/// the number of its row, from 1 on.
+#[inline]
+fn check_part<W: Family>(format: LineFormat, part: &Part<'_>) -> Result<(), (u64, LineError)> {
+    let addresses = W::addresses(part.addresses);
+    for row in 0..addresses.len().min(part.lengths.len()) {
+        if let Err(e) = check_value(format, value_of(part, row)) {
+            return Err((row as u64 + 1, e));
+        }
+    }
+    Ok(())
+}
+
+/// Adds the networks of the rows of a table to others of their family.
+#[inline]
+fn push_networks<W: Family, C: OfFile<W>>(
+    part: &Part<'_>,
+    networks: &mut Vec<C>,
+) -> Result<(), AllocError> {
+    let addresses = W::addresses(part.addresses);
+    for row in 0..addresses.len().min(part.lengths.len()) {
+        let mut network = C::host(addresses[row]);
+        network.clip(usize::from(part.lengths[row]));
+        networks.push(network)?;
+    }
+    Ok(())
+}
+
+/// What is told of what is wrong with a table, or nothing where there was no memory to see.
+#[inline]
+fn table_error_of(fault: &TableFault) -> Option<FileError> {
+    match fault {
+        TableFault::NoMemory => None,
+        TableFault::Arrays(_) | TableFault::Offsets => Some(FileError::Changed),
+    }
+}
+
+/// The same of a file.
+#[inline]
+fn file_error_of(fault: &Fault) -> Option<FileError> {
+    match fault {
+        Fault::Magic => Some(FileError::Unlike),
+        Fault::Version(_) => Some(FileError::Version),
+        Fault::Short => Some(FileError::Short),
+        Fault::Long => Some(FileError::Long),
+        Fault::Ipv4(fault) | Fault::Ipv6(fault) => table_error_of(fault),
+    }
+}
+
+/// Networks of a family, of whose addresses a file has the bytes.
+trait OfFile<W: Family>: Sized + BitString + Copy {
+    /// The network of one address.
+    fn host(address: W) -> Self;
+}
+
+impl OfFile<Ipv4Bytes> for Ipv4Cidr {
+    #[inline]
+    fn host(address: Ipv4Bytes) -> Ipv4Cidr {
+        Ipv4Cidr::new_host(Ipv4Addr::from_bits(address.number() as u32))
+    }
+}
+
+impl OfFile<Ipv6Bytes> for Ipv6Cidr {
+    #[inline]
+    fn host(address: Ipv6Bytes) -> Ipv6Cidr {
+        Ipv6Cidr::new_host(Ipv6Addr::from_bits(address.number()))
+    }
+}
+
+/// The longest network of a table that an address is in, and its value.
+#[inline]
+fn found_in<'a, W: Family, C: OfFile<W>>(part: &Part<'a>, address: W) -> Option<(C, &'a [u8])> {
+    let (row, value) = lookup(part, address)?;
+    let mut network = C::host(address);
+    network.clip(usize::from(part.lengths[row]));
+    Some((network, value))
+}
+
+impl LookUps for Stored<'_> {
+    #[inline]
+    fn find(&self, _address: &IpAddr) -> Option<Answer> {
+        None
+    }
+
+    fn push<S: Sink>(
+        &self,
+        address: &IpAddr,
+        _found: Option<Answer>,
+        block: &mut Block,
+        out: &mut S,
+    ) -> Result<bool, OutputFailed> {
+        let text = address.to_text();
+        match address {
+            IpAddr::V4(address) => {
+                let bytes = Ipv4Bytes::of(u128::from(address.to_bits()));
+                match found_in::<Ipv4Bytes, Ipv4Cidr>(&self.tables.ipv4, bytes) {
+                    Some(found) => push_match(block, out, text, found.0.to_text(), found.1),
+                    None => push_none(block, out, text),
+                }
+            }
+            IpAddr::V6(address) => {
+                let bytes = Ipv6Bytes::of(address.to_bits());
+                match found_in::<Ipv6Bytes, Ipv6Cidr>(&self.tables.ipv6, bytes) {
+                    Some(found) => push_match(block, out, text, found.0.to_text(), found.1),
+                    None => push_none(block, out, text),
+                }
+            }
+        }
+    }
+}
+
+impl Networks for Stored<'_> {
+    fn row(&self, address: &IpAddr) -> Option<(u8, &[u8])> {
+        match address {
+            IpAddr::V4(address) => {
+                let bytes = Ipv4Bytes::of(u128::from(address.to_bits()));
+                match found_in::<Ipv4Bytes, Ipv4Cidr>(&self.tables.ipv4, bytes) {
+                    Some(found) => Some((found.0.len() as u8, found.1)),
+                    None => None,
+                }
+            }
+            IpAddr::V6(address) => {
+                let bytes = Ipv6Bytes::of(address.to_bits());
+                match found_in::<Ipv6Bytes, Ipv6Cidr>(&self.tables.ipv6, bytes) {
+                    Some(found) => Some((found.0.len() as u8, found.1)),
+                    None => None,
+                }
+            }
+        }
+    }
+}

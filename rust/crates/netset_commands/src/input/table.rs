@@ -1,0 +1,297 @@
+//! Reading tables, and the longest network of a table that an address is in.
+
+use crate::errors::{CommandError, ReadError, Reason};
+use crate::input::begun::{Given, begin_file, read_whole};
+use crate::input::files::Sources;
+use crate::input::keeping::Said;
+use crate::input::rows::read_rows;
+use cidr_support::arrayvec::ArrayString;
+use cidr::{BitString, Family, IpAddr, Ipv4Cidr, Ipv6Cidr};
+use cidr_io::block::Block;
+use cidr_io::memory::Memory;
+use cidr_io::sink::{OutputFailed, Sink};
+use cidr_lists::columns::Separator;
+use cidr_lists::formats::LineFormat;
+use cidr_lists::forms::{RowColumns, RowForm, RowLayout};
+use cidr_lists::printing::block_text;
+use cidr_lists::rows::{Rows, Span, value_of};
+use cidr_lists::table::Table;
+
+/// The longest network of a table that an address is in, by its length, and where its value stands.
+#[derive(Clone, Copy)]
+pub struct Answer {
+    len: u8,
+    value: Span,
+}
+
+/// A table in which addresses are looked up.
+pub trait LookUps: Sized {
+    /// Finds what the line of an address takes of the table. For many addresses this is done one after the other, before
+    /// their lines are printed, so that their reads of memory don't wait for one another; a table for which that saves
+    /// nothing finds nothing here.
+    fn find(&self, address: &IpAddr) -> Option<Answer>;
+
+    /// Appends the line of an address to a block, by what was found of it; tells whether a network has it.
+    fn push<S: Sink>(
+        &self,
+        address: &IpAddr,
+        found: Option<Answer>,
+        block: &mut Block,
+        out: &mut S,
+    ) -> Result<bool, OutputFailed>;
+}
+
+/// A table whose rows are told one by one.
+pub trait Networks: Sized + LookUps {
+    /// The length of the longest network that an address is in, and its value.
+    fn row(&self, address: &IpAddr) -> Option<(u8, &[u8])>;
+}
+
+/// The answer that is a row.
+#[inline]
+fn answer_of<C: BitString>(found: Option<&(C, Span)>) -> Option<Answer> {
+    let (network, value) = found?;
+    Some(Answer {
+        len: network.len() as u8,
+        value: *value,
+    })
+}
+
+impl LookUps for Table {
+    #[inline]
+    fn find(&self, address: &IpAddr) -> Option<Answer> {
+        match address {
+            IpAddr::V4(address) => answer_of(self.v4.lookup(&Ipv4Cidr::new_host(*address))),
+            IpAddr::V6(address) => answer_of(self.v6.lookup(&Ipv6Cidr::new_host(*address))),
+        }
+    }
+
+    fn push<S: Sink>(
+        &self,
+        address: &IpAddr,
+        found: Option<Answer>,
+        block: &mut Block,
+        out: &mut S,
+    ) -> Result<bool, OutputFailed> {
+        match found {
+            Some(answer) => {
+                let value = value_of(self.values.as_slice(), answer.value);
+                push_match(
+                    block,
+                    out,
+                    address.to_text(),
+                    block_text(address, answer.len),
+                    value,
+                )
+            }
+            None => push_none(block, out, address.to_text()),
+        }
+    }
+}
+
+impl Networks for Table {
+    #[inline]
+    fn row(&self, address: &IpAddr) -> Option<(u8, &[u8])> {
+        match self.find(address) {
+            Some(answer) => Some((answer.len, value_of(self.values.as_slice(), answer.value))),
+            None => None,
+        }
+    }
+}
+
+/// Appends the line of an address with its network and the value of that to a block, with a space in front of the value
+/// if it is not empty.
+#[inline]
+fn push_row<S: Sink>(
+    block: &mut Block,
+    out: &mut S,
+    address: ArrayString<39>,
+    network: ArrayString<43>,
+    value: &[u8],
+) -> Result<(), OutputFailed> {
+    let address = address.as_str().as_bytes();
+    let network = network.as_str().as_bytes();
+    if value.is_empty() {
+        return block.push_line(out, &[address, b" ", network, b"\n"]);
+    }
+    block.push_line(out, &[address, b" ", network, b" ", value, b"\n"])
+}
+
+/// Appends the line of an address with its network and the value of that to a block.
+#[inline]
+pub fn push_match<S: Sink>(
+    block: &mut Block,
+    out: &mut S,
+    address: ArrayString<39>,
+    network: ArrayString<43>,
+    value: &[u8],
+) -> Result<bool, OutputFailed> {
+    push_row(block, out, address, network, value)?;
+    Ok(true)
+}
+
+/// Appends the line of an address that has no network to a block.
+#[inline]
+pub fn push_none<S: Sink>(
+    block: &mut Block,
+    out: &mut S,
+    address: ArrayString<39>,
+) -> Result<bool, OutputFailed> {
+    block.push_line(out, &[address.as_str().as_bytes(), b" -\n"])?;
+    Ok(false)
+}
+
+/// The error of reading a file.
+#[inline]
+pub fn unread<'a>(file: &'a str, e: ReadError) -> CommandError<'a> {
+    match e {
+        ReadError::Line(number, e) => CommandError::Line(file, number, e),
+        ReadError::Input => CommandError::Input(file, Reason::Unknown),
+        ReadError::NoMemory => CommandError::NoMemory,
+    }
+}
+
+/// Whether fields are parted the same way.
+#[inline]
+fn is_same_separator(one: Separator, other: Separator) -> bool {
+    match (one, other) {
+        (Separator::WhiteSpace, Separator::WhiteSpace) => true,
+        (Separator::Byte(one), Separator::Byte(other)) => one == other,
+        _ => false,
+    }
+}
+
+/// Whether the same fields are the network and the value.
+#[inline]
+fn are_same_columns(one: RowColumns, other: RowColumns) -> bool {
+    is_same_separator(one.separator, other.separator)
+        && one.network == other.network
+        && one.value == other.value
+}
+
+/// Whether rows are laid out the same way.
+fn is_same_layout(one: RowLayout, other: RowLayout) -> bool {
+    match (one, other) {
+        (RowLayout::Fields(one), RowLayout::Fields(other)) => is_same_separator(one, other),
+        (RowLayout::Columns(one), RowLayout::Columns(other)) => are_same_columns(one, other),
+        (RowLayout::Pfx2as, RowLayout::Pfx2as) => true,
+        (RowLayout::Routes(Family::Ipv4), RowLayout::Routes(Family::Ipv4)) => true,
+        (RowLayout::Routes(Family::Ipv6), RowLayout::Routes(Family::Ipv6)) => true,
+        _ => false,
+    }
+}
+
+/// Whether rows are read the same way.
+#[inline]
+fn is_same_form(one: RowForm, other: RowForm) -> bool {
+    match (one.values, other.values) {
+        (LineFormat::Plain, LineFormat::Plain) => is_same_layout(one.layout, other.layout),
+        (LineFormat::Json, LineFormat::Json) => is_same_layout(one.layout, other.layout),
+        _ => false,
+    }
+}
+
+/// Reads the rows of a file.
+fn read_opened<'a, M: Memory, F: Sources>(
+    memory: &mut M,
+    sources: &F,
+    form: RowForm,
+    file: &'a str,
+) -> Result<Rows, CommandError<'a>> {
+    let reader = match sources.open(file) {
+        Ok(reader) => reader,
+        Err(why) => return Err(CommandError::Input(file, why)),
+    };
+    match read_rows(memory, form, sources.list_form(), reader) {
+        Ok(rows) => Ok(rows),
+        Err(e) => Err(unread(file, e)),
+    }
+}
+
+/// Reads the bytes of a file of look-ups, or the rows of another file.
+fn read_given<'a, M: Memory, F: Sources>(
+    memory: &mut M,
+    sources: &F,
+    form: RowForm,
+    file: &'a str,
+) -> Result<Given<Rows>, CommandError<'a>> {
+    let begun = begin_file(sources, file)?;
+    if begun.is_stored() {
+        let bytes = read_whole(memory, file, begun)?;
+        return Ok(Given::Stored(bytes));
+    }
+    match read_rows(memory, form, sources.list_form(), begun) {
+        Ok(rows) => Ok(Given::Lines(rows)),
+        Err(e) => Err(unread(file, e)),
+    }
+}
+
+/// The bytes of a file of look-ups, or the rows of another file, which is read unless it is read already.
+fn give_rows<'a, M: Memory, F: Sources>(
+    memory: &mut M,
+    sources: &F,
+    form: RowForm,
+    file: &'a str,
+) -> Result<Given<Rows>, CommandError<'a>> {
+    match sources.kept(file) {
+        Some(Given::Lines(Said::Rows(said, kept))) if is_same_form(*said, form) => {
+            let rows = kept.copy(memory.alloc());
+            let rows = memory.watch(rows)?;
+            Ok(Given::Lines(rows))
+        }
+        Some(Given::Stored(kept)) => {
+            let bytes: Result<_, _> = kept.try_clone();
+            let bytes = memory.watch(bytes)?;
+            Ok(Given::Stored(bytes))
+        }
+        _ => read_given(memory, sources, form, file),
+    }
+}
+
+/// The bytes of a file of look-ups, or the table of another file.
+pub fn give_table<'a, M: Memory, F: Sources>(
+    memory: &mut M,
+    sources: &F,
+    form: RowForm,
+    file: &'a str,
+) -> Result<Given<Table>, CommandError<'a>> {
+    match give_rows(memory, sources, form, file)? {
+        Given::Lines(rows) => {
+            let table = Table::of_rows(memory.alloc(), rows);
+            let table = memory.watch(table)?;
+            Ok(Given::Lines(table))
+        }
+        Given::Stored(bytes) => Ok(Given::Stored(bytes)),
+    }
+}
+
+/// The rows of a file, which is read unless it is read already.
+fn rows_of<'a, M: Memory, F: Sources>(
+    memory: &mut M,
+    sources: &F,
+    form: RowForm,
+    file: &'a str,
+) -> Result<Rows, CommandError<'a>> {
+    match sources.kept(file) {
+        Some(Given::Lines(Said::Rows(said, kept))) if is_same_form(*said, form) => {
+            let rows = kept.copy(memory.alloc());
+            let rows = memory.watch(rows)?;
+            Ok(rows)
+        }
+        _ => read_opened(memory, sources, form, file),
+    }
+}
+
+/// The table of a file.
+#[inline]
+pub fn read_table<'a, M: Memory, F: Sources>(
+    memory: &mut M,
+    sources: &F,
+    form: RowForm,
+    file: &'a str,
+) -> Result<Table, CommandError<'a>> {
+    let rows = rows_of(memory, sources, form, file)?;
+    let table = Table::of_rows(memory.alloc(), rows);
+    let table = memory.watch(table)?;
+    Ok(table)
+}

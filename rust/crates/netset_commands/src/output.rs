@@ -1,0 +1,13 @@
+//! What is written: answers, and errors.
+
+pub mod answers;
+pub mod compiled;
+pub mod families;
+pub mod folder;
+pub mod held;
+pub mod printing;
+pub mod ranges;
+pub mod report;
+pub mod sets;
+pub mod terminal;
+pub mod walks;

@@ -1,0 +1,55 @@
+//! Networks that are written one after the other, of which only the last is held: what stands behind a network depends on
+//! whether another one follows.
+
+use cidr::IpCidr;
+use cidr_io::block::Block;
+use cidr_io::sink::{OutputFailed, Sink};
+use cidr_lists::formats::{Layout, network_text};
+
+/// Appends a network to a block, and what stands behind it in its line.
+fn push_row<S: Sink>(
+    block: &mut Block,
+    out: &mut S,
+    layout: Layout<'_>,
+    network: &IpCidr,
+    end: &str,
+) -> Result<(), OutputFailed> {
+    let text = network_text(network, layout.notation);
+    block.push_line(
+        out,
+        &[
+            layout.before.as_bytes(),
+            text.as_str().as_bytes(),
+            layout.behind.as_bytes(),
+            end.as_bytes(),
+        ],
+    )
+}
+
+/// Appends what stands in front of the next network: the one before it, and what is between the two, or the head.
+#[inline]
+pub fn push_next<S: Sink>(
+    block: &mut Block,
+    out: &mut S,
+    layout: Layout<'_>,
+    last: Option<IpCidr>,
+) -> Result<(), OutputFailed> {
+    match last {
+        None => block.push(out, layout.head.as_bytes()),
+        Some(network) => push_row(block, out, layout, &network, layout.between),
+    }
+}
+
+/// Appends the last network and the tail, or what stands for no network.
+#[inline]
+pub fn push_last<S: Sink>(
+    block: &mut Block,
+    out: &mut S,
+    layout: Layout<'_>,
+    last: Option<IpCidr>,
+) -> Result<(), OutputFailed> {
+    match last {
+        None => block.push(out, layout.none.as_bytes()),
+        Some(network) => push_row(block, out, layout, &network, layout.tail),
+    }
+}

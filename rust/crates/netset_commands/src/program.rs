@@ -1,0 +1,437 @@
+//! A run of the program, from its arguments to its exit status.
+
+use cidr_support::string::String;
+use crate::commands::acl::acl;
+use crate::commands::arguments::{Parts, command_of, line_parts, reading_in, target_of};
+use crate::commands::changes::diff;
+use crate::commands::check::check;
+use crate::commands::class::class;
+use crate::commands::combine::combination;
+use crate::commands::compile::{compile, same_file};
+use crate::commands::describe::describe;
+use crate::commands::free::{free, length_of, most_of};
+use crate::commands::help::write_help;
+use crate::commands::inside::not_in;
+use crate::commands::look::look;
+use crate::commands::matching::{match_each, matching};
+use crate::commands::operations::{Operation, form_of};
+use crate::commands::picking::column_of;
+use crate::commands::same::same;
+use crate::commands::single::{answer_single, network_of};
+use crate::commands::smallest::smallest;
+use crate::commands::split::split;
+use crate::commands::table::Verb;
+use crate::commands::which::{address_of, which};
+use crate::commands::{AtFault, Command, Reading, name_input_twice};
+use crate::errors::{ArgumentError, CommandError, FileError, Unsaved, UsageError};
+use crate::input::files::{Files, ReadBy, Sources};
+use crate::input::good::GoodLists;
+use crate::input::headed::Headed;
+use crate::input::keeping::{Kept, Loaded, load};
+use crate::input::several::read_several;
+use crate::output::answers::{Verdict, by_output};
+use crate::output::folder::{Folder, Sealed};
+use crate::output::held::Held;
+use crate::output::ranges::write_ranges;
+use crate::output::report::{report, report_misuse, report_not_text};
+use crate::output::sets::{write_bytes, write_counts, write_sets};
+use cidr_io::arguments::{Arguments, ReadError as Unreadable, borrowed, texts_of};
+use cidr_io::memory::Memory;
+use cidr_io::sink::{Output, OutputFailed, Sink};
+use cidr_io::writing::write_text;
+use cidr_lists::formats::Style;
+use cidr_lists::sets::{Form, Sets};
+
+/// The version, and below it the logic in which it is proved, as `rt version` names it.
+pub const VERSION: &str = cidr_system::version!("netset 0.1.0\nlogic dac8208d650f15bf\n");
+
+/// Writes what an operation has made: the networks, their ranges, or how many addresses they have.
+#[inline]
+fn write_made<O: Sink>(operation: Operation, sets: &Sets, out: &mut O) -> Result<(), OutputFailed> {
+    match form_of(operation) {
+        Form::Networks => write_sets(out, sets),
+        Form::Ranges => write_ranges(out, sets),
+        Form::Counts => write_counts(out, sets),
+    }
+}
+
+/// What an operation makes of the lists of some files.
+#[inline]
+fn lists<'a, M: Memory, F: Sources, O: Sink>(
+    memory: &mut M,
+    sources: &F,
+    operation: Operation,
+    files: &'a [&'a str],
+    out: &mut O,
+) -> Result<Verdict, CommandError<'a>> {
+    let several = read_several(memory, sources, files)?;
+    let sets = combination(operation, several);
+    let sets = memory.watch(sets)?;
+    by_output(Verdict::Yes, write_made(operation, &sets, out))
+}
+
+/// What an operation makes of the lists of some files, in a style. Its text is made whole before it is written.
+#[inline]
+fn styled_lists<'a, M: Memory, F: Sources, O: Sink>(
+    memory: &mut M,
+    sources: &F,
+    style: &Style<'_>,
+    operation: Operation,
+    files: &'a [&'a str],
+    out: &mut O,
+) -> Result<Verdict, CommandError<'a>> {
+    let several = read_several(memory, sources, files)?;
+    let sets = combination(operation, several);
+    let sets = memory.watch(sets)?;
+    let text = sets.to_style(memory.alloc(), style);
+    let text = memory.watch(text)?;
+    by_output(Verdict::Yes, write_bytes(out, text.as_slice()))
+}
+
+/// Answers a command.
+fn answer<'a, M: Memory, F: Sources, D: Folder, O: Sink>(
+    memory: &mut M,
+    sources: &F,
+    folder: &mut D,
+    command: Command<'a>,
+    out: &mut O,
+) -> Result<Verdict, CommandError<'a>> {
+    match command {
+        Command::Lists(operation, files) => lists(memory, sources, operation, files, out),
+        Command::Styled(style, operation, files) => {
+            styled_lists(memory, sources, &style, operation, files, out)
+        }
+        Command::NotIn(style, net, files) => not_in(memory, sources, style, net, files, out),
+        Command::Diff(format, old, new) => diff(memory, sources, format, old, new, out),
+        Command::Same(form, old, new) => same(memory, sources, form, old, new, out),
+        Command::Free(style, extent, pool, len, used) => {
+            free(memory, sources, style, extent, pool, len, used, out)
+        }
+        Command::Split(style, operand, len) => split(memory, sources, style, operand, len, out),
+        Command::Acl(asked, file) => acl(memory, sources, asked, file, out),
+        Command::Check(files) => check(memory, sources, files, out),
+        Command::Which(address, files) => which(memory, sources, address, files, out),
+        Command::Match(choice, options, list, file) => {
+            matching(memory, sources, choice, options, list, file, out)
+        }
+        Command::MatchEach(choice, options, list, files) => {
+            match_each(memory, sources, choice, options, list, files, out)
+        }
+        Command::Look(choice, form, options, table, file) => {
+            look(memory, sources, choice, form, options, table, file, out)
+        }
+        Command::Compile(form, table, name) => {
+            compile(memory, sources, form, table, name, folder)
+        }
+        Command::Smallest(holes, form, table) => {
+            smallest(memory, sources, holes, form, table, out)
+        }
+        Command::Describe(what, operand) => describe(memory, sources, what, operand, out),
+        Command::Class(operand) => class(memory, sources, operand, out),
+        Command::Single(single) => answer_single(single, out),
+        Command::Help(topic) => by_output(Verdict::Yes, write_help(topic, out)),
+        Command::Version => by_output(Verdict::Yes, write_text(out, VERSION)),
+    }
+}
+
+/// The error of the first argument that is wrong whatever the lists say.
+fn wrong_argument<'a>(command: Command<'a>) -> Option<CommandError<'a>> {
+    match command {
+        Command::NotIn(_, net, _) => match network_of(net) {
+            Ok(_) => None,
+            Err(e) => Some(e),
+        },
+        Command::Which(address, _) => match address_of(address) {
+            Ok(_) => None,
+            Err(e) => Some(e),
+        },
+        Command::Free(_, extent, _, len, _) => match length_of(len) {
+            Some(_) => match most_of(extent) {
+                Ok(_) => None,
+                Err(e) => Some(e),
+            },
+            None => Some(CommandError::Argument(len, ArgumentError::Length)),
+        },
+        Command::Match(choice, _, _, _)
+        | Command::MatchEach(choice, _, _, _)
+        | Command::Look(choice, _, _, _, _) => {
+            match column_of(choice) {
+                Ok(_) => None,
+                Err(e) => Some(e),
+            }
+        }
+        Command::Compile(_, table, name) => same_file(table, name),
+        Command::Lists(_, _)
+        | Command::Styled(_, _, _)
+        | Command::Diff(_, _, _)
+        | Command::Same(_, _, _)
+        | Command::Acl(_, _)
+        | Command::Check(_)
+        | Command::Split(_, _, _)
+        | Command::Smallest(_, _, _)
+        | Command::Describe(_, _)
+        | Command::Class(_)
+        | Command::Single(_)
+        | Command::Help(_)
+        | Command::Version => None,
+    }
+}
+
+/// Answers a command by lists without their lines in error, which were told, reports and returns the exit status, which is at
+/// least 2. No file is written. Its commands take no room on the stack of others.
+#[inline(never)]
+fn answer_good<'a, M: Memory, F: Sources, O: Output, E: Sink>(
+    memory: &mut M,
+    sources: &F,
+    lists: &[Kept<'_>],
+    command: Command<'a>,
+    out: &mut O,
+    err: &mut E,
+) -> u8 {
+    let good = GoodLists {
+        lists,
+        sources,
+        list_form: sources.list_form(),
+    };
+    let answered = answer(memory, &good, &mut Sealed, command, out);
+    report(&answered, out.is_closed(), err).max(2)
+}
+
+/// Tells the lines in error of the lists of a command while they are read, and answers it if there are none or if these are
+/// skipped, reports and returns the exit status.
+fn keep_going<'a, M: Memory, F: Sources, D: Folder, O: Output, E: Sink>(
+    memory: &mut M,
+    sources: &F,
+    folder: &mut D,
+    skips: bool,
+    command: Command<'a>,
+    out: &mut O,
+    err: &mut E,
+) -> u8 {
+    if let Some(e) = wrong_argument(command) {
+        return report(&Err(e), out.is_closed(), err);
+    }
+    let Ok(names) = command.lists(memory) else {
+        return report(&Err(CommandError::NoMemory), false, err);
+    };
+    let names = command.read_lists(names.as_slice());
+    match load(
+        memory,
+        sources,
+        command.kind(),
+        command.takes_file(),
+        skips,
+        names,
+        err,
+    ) {
+        Ok((lists, true)) => {
+            if skips {
+                answer_good(memory, sources, lists.as_slice(), command, out, err)
+            } else {
+                2
+            }
+        }
+        Ok((lists, false)) => {
+            let loaded = Loaded::new(sources, lists.as_slice());
+            let answered = answer(memory, &loaded, folder, command, out);
+            report(&answered, out.is_closed(), err)
+        }
+        Err(e) => report(&Err(e), out.is_closed(), err),
+    }
+}
+
+/// The error of a command that reads the standard input more than once.
+#[inline]
+fn read_twice<'a>() -> CommandError<'a> {
+    CommandError::Argument("-", ArgumentError::ReadTwice)
+}
+
+/// Answers a command whose lists are read this way from these files, reports and returns the exit status.
+fn answer_read<'a, M: Memory, F: Files, D: Folder, O: Output, E: Sink>(
+    memory: &mut M,
+    files: &F,
+    folder: &mut D,
+    reading: Reading,
+    command: Command<'a>,
+    out: &mut O,
+    err: &mut E,
+) -> u8 {
+    let sources = ReadBy {
+        files,
+        list_form: reading.list_form,
+    };
+    match reading.at_fault {
+        AtFault::Stop => {
+            let answered = answer(memory, &sources, folder, command, out);
+            report(&answered, out.is_closed(), err)
+        }
+        AtFault::Tell => keep_going(memory, &sources, folder, false, command, out, err),
+        AtFault::Skip => keep_going(memory, &sources, folder, true, command, out, err),
+    }
+}
+
+/// Answers a command whose lists are read this way, reports and returns the exit status.
+fn answer_once<'a, M: Memory, F: Files, D: Folder, O: Output, E: Sink>(
+    memory: &mut M,
+    files: &F,
+    folder: &mut D,
+    reading: Reading,
+    command: Command<'a>,
+    out: &mut O,
+    err: &mut E,
+) -> u8 {
+    let Ok(names) = command.files(memory) else {
+        return report(&Err(CommandError::NoMemory), false, err);
+    };
+    if name_input_twice(names.as_slice()) {
+        return report(&Err(read_twice()), false, err);
+    }
+    let Ok(tables) = command.tables(memory, reading.table_header) else {
+        return report(&Err(CommandError::NoMemory), false, err);
+    };
+    let headed = Headed {
+        files,
+        tables: tables.as_slice(),
+    };
+    answer_read(memory, &headed, folder, reading, command, out, err)
+}
+
+/// The error of a file that is not written.
+#[inline]
+fn unsaved<'a>(name: &'a str, why: Unsaved) -> CommandError<'a> {
+    CommandError::File(name, FileError::NotSaved(why))
+}
+
+/// Answers a command whose lists are read this way into memory, writes the answer, if there is one, to the file of a name,
+/// reports and returns the exit status.
+fn answer_into<'a, M: Memory, F: Files, D: Folder, E: Sink>(
+    memory: &mut M,
+    files: &F,
+    folder: &mut D,
+    reading: Reading,
+    name: &'a str,
+    command: Command<'a>,
+    err: &mut E,
+) -> u8 {
+    let mut held = Held::new(memory.alloc());
+    let status = answer_once(memory, files, &mut Sealed, reading, command, &mut held, err);
+    let Ok(text) = memory.watch(held.finish()) else {
+        return report(&Err(CommandError::NoMemory), false, err);
+    };
+    if status > 1 {
+        return status;
+    }
+    match folder.replace(name, None, text.as_slice()) {
+        Ok(()) => status,
+        Err(why) => report(&Err(unsaved(name, why)), false, err),
+    }
+}
+
+/// Answers a command whose lists are read this way, to the file of a name where one is given, reports and returns the exit
+/// status.
+#[inline]
+fn answer_to<'a, M: Memory, F: Files, D: Folder, O: Output, E: Sink>(
+    memory: &mut M,
+    files: &F,
+    folder: &mut D,
+    reading: Reading,
+    target: Option<&'a str>,
+    command: Command<'a>,
+    out: &mut O,
+    err: &mut E,
+) -> u8 {
+    match target {
+        None => answer_once(memory, files, folder, reading, command, out, err),
+        Some(name) => answer_into(memory, files, folder, reading, name, command, err),
+    }
+}
+
+/// Answers a command and the parts of the words behind it, reports and returns the exit status.
+fn answer_parts<M: Memory, F: Files, D: Folder, O: Output, E: Sink>(
+    memory: &mut M,
+    files: &F,
+    folder: &mut D,
+    verb: Verb,
+    parts: &Parts<'_>,
+    out: &mut O,
+    err: &mut E,
+) -> u8 {
+    match command_of(verb, parts) {
+        Ok(command) => match target_of(verb, parts) {
+            Ok(target) => match reading_in(verb, parts) {
+                Ok(reading) => {
+                    answer_to(memory, files, folder, reading, target, command, out, err)
+                }
+                Err(misuse) => report_misuse(&misuse, err),
+            },
+            Err(misuse) => report_misuse(&misuse, err),
+        },
+        Err(misuse) => report_misuse(&misuse, err),
+    }
+}
+
+/// Answers the arguments as strings, reports and returns the exit status.
+fn answer_texts<M: Memory, F: Files, D: Folder, O: Output, E: Sink>(
+    memory: &mut M,
+    files: &F,
+    folder: &mut D,
+    texts: &[String],
+    out: &mut O,
+    err: &mut E,
+) -> u8 {
+    let Ok(words) = borrowed(memory, texts) else {
+        return report(&Err(CommandError::NoMemory), false, err);
+    };
+    match line_parts(memory, words.as_slice()) {
+        Ok((verb, parts)) => answer_parts(memory, files, folder, verb, &parts, out, err),
+        Err(UsageError::Misuse(misuse)) => report_misuse(&misuse, err),
+        Err(UsageError::NoMemory) => report(&Err(CommandError::NoMemory), false, err),
+    }
+}
+
+/// An argument that is not UTF-8, as it is shown, where that is why the arguments can't be read; else there was no memory.
+#[inline]
+fn not_text(error: &Unreadable) -> Option<&str> {
+    match error {
+        Unreadable::NotText(shown) => Some(shown.as_str()),
+        Unreadable::NoMemory => None,
+    }
+}
+
+/// Answers the arguments, reports and returns the exit status.
+#[inline]
+fn answer_arguments<M: Memory, A: Arguments, F: Files, D: Folder, O: Output, E: Sink>(
+    memory: &mut M,
+    arguments: &A,
+    files: &F,
+    folder: &mut D,
+    out: &mut O,
+    err: &mut E,
+) -> u8 {
+    match texts_of(memory, arguments) {
+        Ok(texts) => answer_texts(memory, files, folder, texts.as_slice(), out, err),
+        Err(e) => match not_text(&e) {
+            Some(shown) => report_not_text(shown, err),
+            None => report(&Err(CommandError::NoMemory), false, err),
+        },
+    }
+}
+
+/// Answers the arguments on `out`, writes the line that belongs to the answer, if there is one, to `err`, and returns
+/// the exit status: 0 for an answer, 1 for none, no or findings, 2 for arguments, files and lines in error, 3 where the
+/// output failed, a file can't be written, or there is no memory. Where nobody reads the output any more, there is no
+/// such line. The file of `compile` is written to `folder`, and with `-o` an answer in place of `out`, and nothing else.
+///
+/// The contract says twice what is written to `out` and `err`: in short where the status is 0 or 1 (`answers`), and with
+/// all errors (`runs`). `leaves` says what is written to `folder`.
+#[inline]
+pub fn program<M: Memory, A: Arguments, F: Files, D: Folder, O: Output, E: Sink>(
+    memory: &mut M,
+    arguments: &A,
+    files: &F,
+    folder: &mut D,
+    out: &mut O,
+    err: &mut E,
+) -> u8 {
+    answer_arguments(memory, arguments, files, folder, out, err)
+}
