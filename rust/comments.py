@@ -18,12 +18,19 @@ HEADS = {
     "cidr_ext": ["use cidr::*;", "use cidr_ext::*;"],
     "cidr_table": ["use cidr::{errors::*, *};", "use cidr_table::{alloc::*, *};"],
     "cidr_sets": ["use cidr::*;", "use cidr_table::Probe;", "use cidr_sets::{access::*, alloc::*, *};"],
+    "cidr_forwarding": ["use cidr::*;", "use cidr_table::*;", "use cidr_support::alloc::Global;", "use cidr_forwarding::*;"],
 }
 # What an example goes on with, where it does not make it: the values of the programs of the repository.
 GIVEN = {
     "cidr_table": {
         "routes": 'let rows = [("0.0.0.0/0".parse()?, 1), ("10.0.0.0/8".parse()?, 2), ("10.1.0.0/16".parse()?, 3)];\n'
                   "let mut routes: Routes = rows.into_iter().collect();",
+    },
+    "cidr_forwarding": {
+        "routes": 'let rows = [("0.0.0.0/0".parse()?, 1), ("10.0.0.0/8".parse()?, 2), ("10.1.0.0/16".parse()?, 2),\n'
+                  '            ("192.0.2.0/25".parse()?, 3), ("192.0.2.128/25".parse()?, 3)];\n'
+                  "let mut routes: LpmTable<Ipv4Cidr, u32> = rows.into_iter().collect();",
+        "smallest": "let smallest = routes.smallest(Global)?;",
     },
     "cidr_sets": {
         "set": 'let set: NetworkSet<Ipv4Cidr> = ["10.0.0.0/8".parse()?].into_iter().collect();',
@@ -56,6 +63,9 @@ OTHERS = {
     "set.ranges()":
         'let set = ["10.0.0.1".parse()?, "10.0.0.2/31".parse()?, "10.0.0.4/31".parse()?, "10.0.0.6".parse()?];\n'
         "let set: NetworkSet<Ipv4Cidr> = set.into_iter().collect();",
+    "let smallest = routes.smallest_with_holes(":
+        'let rows = [("10.0.0.0/9".parse()?, 1), ("10.128.0.0/10".parse()?, 1), ("10.192.0.0/11".parse()?, 1)];\n'
+        "let routes: LpmTable<Ipv4Cidr, u32> = rows.into_iter().collect();",
     "let network = ": "",
     "let mut text = ArrayString::": "use cidr_support::arrayvec::ArrayString;",
     'routes.insert("10.0.0.0/8".parse()?, Ipv4Addr::':

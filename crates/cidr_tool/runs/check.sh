@@ -1,9 +1,13 @@
 #!/usr/bin/env bash
-# Runs the built program, as each compiler has built it, and compares the exit status, standard output and standard
-# error of each run, byte by byte, with what is wanted. Prints nothing where all runs are as wanted.
+# check.sh [PROGRAM..]: runs each program, or else the built one as each compiler of the kit has built it, and compares the exit
+# status, standard output and standard error of each run, byte by byte, with what is wanted. Prints nothing where all runs are
+# as wanted.
 set -euo pipefail
 export LC_ALL=C
+programs=()
+for each; do programs+=("$(realpath -- "$each")"); done
 cd "$(dirname "$0")/.."
+((${#programs[@]})) || programs=(out/cidr_tool out/cidr_tool.by-rattle)
 
 usage=$'usage: cidr_tool show NET | in NET ADDR | cmp NET NET | walk NET ENDS | bytes NET | loose TEXT\n'
 shown=$'network 192.0.2.48/28\nfirst 192.0.2.48\nlast 192.0.2.63\nmask 255.255.255.240\nlength 28\nfamily Ipv4\n'
@@ -255,11 +259,11 @@ rows_where_a_stream_fails() {
 output_file=$room/output
 error_file=$room/error
 tried=0
-for build in cidr_tool cidr_tool.by-rattle; do
-    [[ -f out/$build ]] || continue
+for built in "${programs[@]}"; do
+    [[ -f $built ]] || continue
     tried=1
-    program=$room/$build
-    cp "out/$build" "$program"
+    build=${built##*/} program=$room/${built##*/}
+    cp "$built" "$program"
     chmod 755 "$program"
     for command in show in cmp walk bytes loose long_arguments names usage; do
         rows_of_$command

@@ -1,9 +1,13 @@
 #!/usr/bin/env bash
-# Runs the built program, as each compiler has built it, and compares the exit status, standard output and standard
-# error of each run, byte by byte, with what is wanted. Prints nothing where all runs are as wanted.
+# check.sh [PROGRAM..]: runs each program, or else the built one as each compiler of the kit has built it, and compares the exit
+# status, standard output and standard error of each run, byte by byte, with what is wanted. Prints nothing where all runs are
+# as wanted.
 set -euo pipefail
 export LC_ALL=C
+programs=()
+for each; do programs+=("$(realpath -- "$each")"); done
 cd "$(dirname "$0")/.."
+((${#programs[@]})) || programs=(out/netset out/netset.by-rattle)
 
 room=$(mktemp -d)
 trap 'rm -rf "$room"' EXIT
@@ -104,7 +108,7 @@ rows() {
     run 2 '' $'\\xff: not UTF-8\n' '' merge $'\xff'
     run 2 '' $'a\\x1b\\xff: not UTF-8\n' '' merge bad $'a\e\xff' $'\xfe'
     run 2 '' $'aaaaaaaaaaaaaaaaaaaaaaaaaaaaaaaaaaaaa..: not UTF-8\n' '' merge $'aaaaaaaaaaaaaaaaaaaaaaaaaaaaaaaaaaaaa\xff'
-    run 0 $'netset 0.1.0\n'"$(rt version | grep -o 'logic .*')"$'\n' '' '' --version
+    run 0 "$version"$'\n'"$by" '' '' --version
 }
 
 # Options before, behind and between operands, joined, with their values and ended, and the pages of help.
@@ -2003,12 +2007,17 @@ seq 0 255 | awk '{ print "10.1." $1 ".0/24 " $1 }' >"$room/parts"
 output_file=$room/output
 error_file=$room/error
 tried=0
-for build in netset netset.by-rattle; do
-    [[ -f out/$build ]] || continue
+# The version and the logic of the sources, which is that of the kit where there is one; a program that cargo built says so.
+version=$(printf "$(sed -n 's/^pub const VERSION: &str = "\(.*\)";$/\1/p' ../netset_commands/src/program.rt)")
+! command -v rt >/dev/null || [[ ${version#*$'\n'} == "$(rt version | grep -o 'logic .*')" ]] || { echo "VERSION names another logic" >&2; differs=1; }
+for built in "${programs[@]}"; do
+    [[ -f $built ]] || continue
     tried=1
-    program=$room/$build
-    cp "out/$build" "$program"
+    build=${built##*/} program=$room/${built##*/}
+    cp "$built" "$program"
     chmod 755 "$program"
+    by=
+    ! grep -q 'built by cargo' "$program" || by=$'built by cargo of the proved text\n'
     rows
     rows_of_arguments
     rows_of_formats

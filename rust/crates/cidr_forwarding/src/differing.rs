@@ -19,10 +19,19 @@ pub type Answers<V> = (Option<V>, Option<V>);
 /// through the rows of both once, in a time that grows with their number and their bits. The error is that an allocation
 /// fails; only the result is allocated.
 ///
-/// ```text
+/// ```
+/// # use cidr::*;
+/// # use cidr_table::*;
+/// # use cidr_support::alloc::Global;
+/// # use cidr_forwarding::*;
+/// let rows = [("0.0.0.0/0".parse()?, 1), ("10.0.0.0/8".parse()?, 2), ("10.1.0.0/16".parse()?, 2),
+///             ("192.0.2.0/25".parse()?, 3), ("192.0.2.128/25".parse()?, 3)];
+/// let mut routes: LpmTable<Ipv4Cidr, u32> = rows.into_iter().collect();
+/// let smallest = routes.smallest(Global)?;
 /// routes.set("10.1.0.0/16".parse()?, 3)?;
 /// assert!(!forwards_same(&routes, &smallest));
 /// assert_eq!(format!("{:?}", differences(Global, &routes, &smallest)?), "[(10.1.0.0/16, (Some(3), Some(2)))]");
+/// # Ok::<(), Box<dyn std::error::Error>>(())
 /// ```
 #[inline]
 pub fn differences<C: NetworkBits + Copy, V: Copy + Eq>(

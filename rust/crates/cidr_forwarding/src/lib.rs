@@ -6,11 +6,19 @@
 //! shorter, whatever its order and its networks (Draves, King, Venkatachary and Zill, "Constructing Optimal IP Routing
 //! Tables", INFOCOM 1999).
 //!
-//! ```text
+//! ```
+//! # use cidr::*;
+//! # use cidr_table::*;
+//! # use cidr_support::alloc::Global;
+//! # use cidr_forwarding::*;
+//! let rows = [("0.0.0.0/0".parse()?, 1), ("10.0.0.0/8".parse()?, 2), ("10.1.0.0/16".parse()?, 2),
+//!             ("192.0.2.0/25".parse()?, 3), ("192.0.2.128/25".parse()?, 3)];
+//! let mut routes: LpmTable<Ipv4Cidr, u32> = rows.into_iter().collect();
 //! routes.set("192.0.2.0/25".parse()?, 3)?;
 //! routes.set("192.0.2.128/25".parse()?, 3)?;
 //! let smallest = routes.smallest(Global)?;
 //! assert_eq!(format!("{:?}", smallest), "{0.0.0.0/0: 1, 10.0.0.0/8: 2, 192.0.2.0/24: 3}");
+//! # Ok::<(), Box<dyn std::error::Error>>(())
 //! ```
 //!
 //! The keys are networks of any type that a table may have. The values are `Copy`, and for the smallest tables they have

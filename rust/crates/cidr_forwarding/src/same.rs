@@ -11,10 +11,19 @@ use cidr_table::LpmTable;
 /// through the rows of both once, in a time that grows with their number and their bits, up to the first network where
 /// they differ, and allocates nothing.
 ///
-/// ```text
+/// ```
+/// # use cidr::*;
+/// # use cidr_table::*;
+/// # use cidr_support::alloc::Global;
+/// # use cidr_forwarding::*;
+/// let rows = [("0.0.0.0/0".parse()?, 1), ("10.0.0.0/8".parse()?, 2), ("10.1.0.0/16".parse()?, 2),
+///             ("192.0.2.0/25".parse()?, 3), ("192.0.2.128/25".parse()?, 3)];
+/// let mut routes: LpmTable<Ipv4Cidr, u32> = rows.into_iter().collect();
+/// let smallest = routes.smallest(Global)?;
 /// assert!(forwards_same(&routes, &smallest));
 /// routes.set("10.1.0.0/16".parse()?, 3)?;
 /// assert!(!forwards_same(&routes, &smallest));
+/// # Ok::<(), Box<dyn std::error::Error>>(())
 /// ```
 #[inline]
 pub fn forwards_same<C: NetworkBits + Copy, V: Copy + Eq>(

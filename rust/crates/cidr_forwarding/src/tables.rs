@@ -17,20 +17,35 @@ pub trait SmallestTable<C: NetworkBits + Copy, V: Copy + Ord>: Sized {
     /// passes, 36 bytes a row where values have four and few networks have many candidates, and frees it. The error is
     /// that an allocation fails; the table stays as it is.
     ///
-    /// ```text
+    /// ```
+    /// # use cidr::*;
+    /// # use cidr_table::*;
+    /// # use cidr_support::alloc::Global;
+    /// # use cidr_forwarding::*;
+    /// let rows = [("0.0.0.0/0".parse()?, 1), ("10.0.0.0/8".parse()?, 2), ("10.1.0.0/16".parse()?, 2),
+    ///             ("192.0.2.0/25".parse()?, 3), ("192.0.2.128/25".parse()?, 3)];
+    /// let mut routes: LpmTable<Ipv4Cidr, u32> = rows.into_iter().collect();
     /// let smallest = routes.smallest(Global)?;
     /// assert_eq!(format!("{:?}", smallest), "{0.0.0.0/0: 1, 10.0.0.0/8: 2, 192.0.2.0/24: 3}");
     /// assert_eq!(format!("{:?}", routes.lookup(&"10.1.2.3".parse()?)), "Some((10.1.0.0/16, 2))");
     /// assert_eq!(format!("{:?}", smallest.lookup(&"10.1.2.3".parse()?)), "Some((10.0.0.0/8, 2))");
+    /// # Ok::<(), Box<dyn std::error::Error>>(())
     /// ```
     fn smallest(&self, alloc: Global) -> Result<LpmTable<C, V>, AllocError>;
 
     /// The same, in the same time, where a row may be a hole: with the value `None`, its addresses have no value.
     /// Routers write holes as discard routes. No table of fewer rows and holes has the same forwarding.
     ///
-    /// ```text
+    /// ```
+    /// # use cidr::*;
+    /// # use cidr_table::*;
+    /// # use cidr_support::alloc::Global;
+    /// # use cidr_forwarding::*;
+    /// let rows = [("10.0.0.0/9".parse()?, 1), ("10.128.0.0/10".parse()?, 1), ("10.192.0.0/11".parse()?, 1)];
+    /// let routes: LpmTable<Ipv4Cidr, u32> = rows.into_iter().collect();
     /// let smallest = routes.smallest_with_holes(Global)?;
     /// assert_eq!(format!("{:?}", smallest), "{10.0.0.0/8: Some(1), 10.224.0.0/11: None}");
+    /// # Ok::<(), Box<dyn std::error::Error>>(())
     /// ```
     fn smallest_with_holes(&self, alloc: Global) -> Result<LpmTable<C, Option<V>>, AllocError>;
 }
