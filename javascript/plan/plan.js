@@ -110,8 +110,8 @@ async function page(pcidr, script) {
         isReading = false;
         $("work").hidden = true;
     }
-    /** Reads the text, and shows what it says. */
-    function compute(after = () => {}) {
+    /** Reads the text, and shows what it says, with a network chosen or as it was. */
+    function compute(network = null) {
         const mine = ++turn;
         stop();
         if (text.length > LARGEST) {
@@ -129,8 +129,7 @@ async function page(pcidr, script) {
             if (mine !== turn) return;
             isReading = false;
             $("work").hidden = true;
-            take(made, performance.now() - begin);
-            after();
+            take(made, performance.now() - begin, network);
             root.dataset.state = "ready";
         };
         if (text.length < AT_ONCE) return done(readPlan(pcidr, text));
@@ -158,9 +157,9 @@ async function page(pcidr, script) {
         say(why, true);
         root.dataset.state = "ready";
     }
-    function take(made, took) {
+    function take(made, took, network) {
         const list = NetworkList.fromValues(made.values);
-        plan = { ...made, list, count: list.length, words: new Uint32Array(made.values.buffer), cover: NetworkSet.fromValues(made.cover), leaves: NetworkSet.fromValues(made.leaves), table: null };
+        plan = { ...made, list, count: list.length, words: new Uint32Array(made.values.buffer), cover: NetworkSet.fromValues(made.cover), leaves: NetworkSet.fromValues(made.leaves), table: null, around: new Map() };
         plan.roots = rootsOf(plan.cover);
         if (!view || !plan.roots.some((root) => root.contains(view))) view = plan.roots[0] ?? new Network("0.0.0.0/0");
         say(`${many(plan.count)} networks, ${many(plan.cover.length)} merged, ${many(plan.inside)} inside others, ${many(plan.repeated)} twice; ${took.toFixed(0)} ms`, plan.wrong > 0);
@@ -173,8 +172,8 @@ async function page(pcidr, script) {
         }));
         if (plan.wrong > plan.faults.length) $("faults").append(`and ${many(plan.wrong - plan.faults.length)} more`);
         if (text.length < 2e6) store("plan", text);
-        if (chosen && !chosen.isFree && rowsAt(chosen.network).length === 0) chosen = { network: chosen.network, isFree: true };
-        show();
+        if (network ?? chosen) choose(network ?? chosen.network, !network && chosen.isFree);
+        else show();
     }
     // The merged networks ascend, so that what contains the first and the last of a family contains all between.
     function rootsOf(cover) {
@@ -209,7 +208,7 @@ async function page(pcidr, script) {
         if (next !== edited() || next !== text) setText(next);
         $("undo").disabled = past.length === 0;
         $("redo").disabled = future.length === 0;
-        compute(() => network && choose(network));
+        compute(network);
     }
     const undo = () => {
         if (past.length === 0) return;
@@ -231,7 +230,14 @@ async function page(pcidr, script) {
         return text.split("\n").flatMap((line, i) => (gone.has(i) ? [...gone.get(i), ...(i === first ? lines : [])] : [line])).join("\n");
     }
     const added = (line) => `${text}${text === "" || text.endsWith("\n") ? "" : "\n"}${line}\n`;
-    const rowsAt = (network) => plan.list.covering(network).filter((row) => plan.list.at(row).equals(network));
+    /** The rows around a network, and its own; kept, since each is a pass over all rows. */
+    function rowsAround(network) {
+        const key = network.toString();
+        if (plan.around.size > 1000) plan.around.clear();
+        if (!plan.around.has(key)) plan.around.set(key, plan.list.covering(network));
+        return plan.around.get(key);
+    }
+    const rowsAt = (network) => rowsAround(network).filter((row) => plan.list.at(row).equals(network));
     function split() {
         if (!chosen) return;
         const halves = chosen.network.halves(), rows = rowsAt(chosen.network);
@@ -343,7 +349,7 @@ async function page(pcidr, script) {
         }
         const hatch = pen.createPattern(tile, "repeat"), edge = css("--edge"), bad = css("--bad"), dim = css("--dim"), panel = css("--panel");
         const rows = plan.list.covered(view), boxes = placed(plan.words, rows), free = freeHere();
-        const around = plan.list.covering(view), base = around.length ? plan.depth[around[around.length - 1]] : 0;
+        const around = rowsAround(view), base = around.length ? plan.depth[around[around.length - 1]] : 0;
         const box = (x, y, a, b, fill, isDashed) => {
             pen.fillStyle = fill;
             pen.fillRect(x, y, a, b);
@@ -468,9 +474,9 @@ async function page(pcidr, script) {
         const special = first.specialEntry, kinds = kindsOf(network);
         if (special) item("purpose", `${PURPOSES[special.purpose]} (RFC ${special.rfc})`);
         else if (kinds) item("purpose", kinds);
-        const around = plan.list.covering(network).filter((row) => !rows.includes(row));
+        const around = rowsAround(network).filter((row) => !rows.includes(row));
         if (around.length) item("inside", around.map(shown).join(", "));
-        const inside = plan.list.covered(network).length - rows.length;
+        const inside = rows.some((row) => plan.leaf[row]) ? 0 : plan.list.covered(network).length - rows.length;
         if (inside) {
             item("rows inside", many(inside));
             const used = plan.leaves.intersection([network]).numAddresses(network.version);
@@ -501,7 +507,7 @@ async function page(pcidr, script) {
         show();
     }
     function leave() {
-        const outer = plan.list.covering(view).map((row) => plan.list.at(row)).filter((network) => !network.equals(view)).pop();
+        const outer = rowsAround(view).map((row) => plan.list.at(row)).filter((network) => !network.equals(view)).pop();
         const root = plan.roots.find((root) => root.contains(view) && !root.equals(view));
         if (outer || root) zoom(outer ?? root);
     }
@@ -609,7 +615,7 @@ async function page(pcidr, script) {
         }
     }
     function show() {
-        const path = plan.list.covering(view).map((row) => plan.list.at(row)).filter((network, i, all) => i === 0 || !network.equals(all[i - 1]));
+        const path = rowsAround(view).map((row) => plan.list.at(row)).filter((network, i, all) => i === 0 || !network.equals(all[i - 1]));
         const root = plan.roots.find((root) => root.contains(view)), others = plan.roots.filter((it) => it !== root);
         const crumbs = [...others, ...(root && !path.some((network) => network.equals(root)) ? [root] : []), ...path];
         if (!crumbs.some((network) => network.equals(view))) crumbs.push(view);
