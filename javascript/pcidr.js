@@ -637,16 +637,26 @@ function bound(c, module) {
 
     /** A file of look-up tables in the module's memory. */
     class Held {
+        #at;
         constructor(content) {
             const place = Math.ceil(content.length / 8) * 8;
-            this.at = taken(place + FILE);
-            returned.register(this, this.at);
+            this.#at = taken(place + FILE);
+            returned.register(this, this.at, this);
             this.length = big(content.length);
             this.file = this.at + place;
             bytes.set(content, this.at);
             check(c.pcidr_file_open(this.at, this.length, this.file));
             this.rows4 = words[(this.file + 64) >>> 2];
             this.rows = this.rows4 + words[(this.file + 144) >>> 2];
+        }
+        get at() {
+            if (this.#at === 0) throw new TypeError("the table is closed");
+            return this.#at;
+        }
+        close() {
+            returned.unregister(this);
+            c.free(this.#at);
+            this.#at = 0;
         }
         /** The row of the longest match of an address, among those of both families, or -1; then its value lies where `out` says. */
         row(value) {
@@ -686,6 +696,7 @@ function bound(c, module) {
             Object.freeze(this);
         }
         #row(i) { return i < 0 ? null : Object.freeze([this.#networks.at(i), this.#values[i]]); }
+        close() { this.#held.close(); }
         get size() { return this.#values.length; }
         get(given) { return this.#values[this.#rows.get(network(given).toString())]; }
         has(given) { return this.#rows.has(network(given).toString()); }
@@ -758,6 +769,7 @@ function bound(c, module) {
             this.#held = new Held(content);
             Object.freeze(this);
         }
+        close() { this.#held.close(); }
         get size() { return this.#held.rows; }
         lookup(given) {
             if (this.#held.row(address(given)) < 0) return null;

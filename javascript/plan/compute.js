@@ -90,9 +90,17 @@ export function rowsOf(text) {
 export function readPlan({ NetworkList, NetworkSet, PcidrError, summarizeAddressRange }, text, told = () => {}) {
     const { strings, names, lines } = rowsOf(text), faults = [];
     told(0.15);
-    const read = NetworkList.readEach(strings), networks = [], from = [];
-    for (let i = 0; i < read.indexes.length; i++) from.push(read.indexes[i]);
-    let wrong = 0, ranges = [];
+    const read = NetworkList.readEach(strings), words = new Uint32Array(read.networks.toValues().buffer), from = [], kept = [], ranges = [];
+    let wrong = 0;
+    const fault = (index, message) => wrong++ < FAULTS && faults.push({ line: lines[index], message });
+    for (let i = 0; i < read.indexes.length; i++) {
+        if ((words[6 * i + 4] & 255) === 255) {
+            fault(read.indexes[i], '"any": the network of all addresses is no row of a plan');
+            continue;
+        }
+        kept.push(i);
+        from.push(read.indexes[i]);
+    }
     for (const { index, error } of read.errors) {
         const [first, last, more] = strings[index].split("-");
         try {
@@ -101,11 +109,12 @@ export function readPlan({ NetworkList, NetworkSet, PcidrError, summarizeAddress
             if (made.length === 0) throw new PcidrError(29, `"${strings[index]}": the first address of the range is above the last one`);
             ranges.push(made);
             for (let i = 0; i < made.length; i++) from.push(index);
-        } catch (fault) {
-            if (wrong++ < FAULTS) faults.push({ line: lines[index], message: fault.message });
+        } catch (refused) {
+            fault(index, refused.message);
         }
     }
-    let list = read.networks;
+    faults.sort((one, other) => one.line - other.line);
+    let list = kept.length === read.indexes.length ? read.networks : read.networks.pick(kept);
     if (ranges.length) list = joined(NetworkList, [list, ...ranges]);
     told(0.3);
     const order = list.order(), sorted = list.pick(order);

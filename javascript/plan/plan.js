@@ -12,7 +12,8 @@ if (typeof document === "undefined") {
     onmessage = async ({ data }) => {
         pcidr ??= { ...(await load(moduleBytes())), PcidrError };
         try {
-            postMessage({ plan: readPlan(pcidr, data, (part) => postMessage({ part })) });
+            const plan = readPlan(pcidr, data, (part) => postMessage({ part }));
+            postMessage({ plan }, Object.values(plan).filter(ArrayBuffer.isView).map((array) => array.buffer));
         } catch (error) {
             postMessage({ error: error.message });
         }
@@ -116,6 +117,7 @@ async function page(pcidr, script) {
         stop();
         if (text.length > LARGEST) {
             say(`the text has more than ${LARGEST >> 20} MiB, and was not read`, true);
+            root.dataset.state = "ready";
             return;
         }
         const csv = text.slice(0, 2000).search(/[,;\t]/) >= 0 ? rowsOf(text) : null;
@@ -200,7 +202,7 @@ async function page(pcidr, script) {
     // ---- changes, each of which can be undone
 
     function change(next, network = null) {
-        past.push(text);
+        past = [...past.slice(-99), text];
         future = [];
         put(next, network);
     }

@@ -167,6 +167,12 @@ const stored = new StoredTable(table.toFile());
 assert.deepEqual([stored.size, new TextDecoder().decode(stored.lookup("10.1.2.3")), stored.lookup("192.0.2.1"), stored.has("2001:db8::5")], [4, "lab", null, true]);
 assert.deepEqual(stored.hasEach(["10.0.0.0", "11.0.0.0"]), [true, false]);
 assert.equal(new Table().lookup("10.0.0.1"), null);
+for (const closed of [new Table([["10.0.0.0/8", 1]]), new StoredTable(table.toFile())]) {
+    closed.close();
+    closed.close();
+    refused(() => closed.lookup("10.0.0.1"), TypeError);
+}
+refused(() => { const closed = new StoredTable(table.toFile()); closed.close(); return closed.has("10.0.0.1"); }, TypeError);
 
 // ---- other ways to load it: bytes at once, and the module in a Worker
 

@@ -54,6 +54,8 @@ assert.deepEqual(NetworkList.fromValues(plan.leaves).toStrings(), ["10.1.2.0/24"
 assert.deepEqual(NetworkList.fromValues(plan.cover).toStrings(), ["10.0.0.0/8", "2001:db8::/32"]);
 assert.deepEqual([plan.wrong, plan.faults.map(({ line }) => line)], [3, [4, 5, 7]]);
 assert.match(plan.faults[1].message, /the network is 10\.0\.0\.0\/8/);
+const anyPlan = readPlan(pcidr, "any\n10.0.0.0/8\nx");
+assert.deepEqual([NetworkList.fromValues(anyPlan.values).toStrings(), anyPlan.faults.map(({ line }) => line)], [["10.0.0.0/8"], [0, 2]]);
 assert.deepEqual([readPlan(pcidr, "").values.length, readPlan(pcidr, "x").wrong], [0, 1]);
 
 // ---- 100,000 rows
