@@ -47,48 +47,63 @@ function header(line) {
     return null;
 }
 
-/** The rows of a text: of each the string that is to be a network or a range, the name, and the number of the line from 0 on. */
+/** The text of a plan: of CSV with a header its rows as plain lines, and else the text as it is. */
+export function plainText(text) {
+    const first = /^(?:[^\S\n]*(?:[#;].*)?\n)*(.*)/.exec(text), columns = header(first[1].trim());
+    if (!columns) return text;
+    return text.slice(first[0].length + 1).split("\n").filter((line) => /\S/.test(line) && line[0] !== "#").map((line) => {
+        const found = fields(line.trimEnd(), columns.separator), name = columns.name >= 0 ? found[columns.name] ?? "" : "";
+        return `${found[columns.network] || "?"} ${name.replace(/[#;]/g, " ")}`.trimEnd() + "\n";
+    }).join("");
+}
+
+const TAB = 9, RETURN = 13, SPACE = 32, HASH = 35, COMMA = 44, HYPHEN = 45, SEMICOLON = 59;
+const isBlank = (code) => code === SPACE || code === TAB || code === RETURN || code === 0xa0 || code === 0xfeff;
+
+/** The rows of a plain text: of each the string that is to be a network or a range, where its name begins and ends in the text, and the
+ * number of its line from 0 on. */
 export function rowsOf(text) {
-    const strings = [], names = [], lines = [];
-    let columns, begin = 0;
-    for (let number = 0; begin <= text.length; number++) {
-        const feed = text.indexOf("\n", begin), end = feed < 0 ? text.length : feed;
-        const line = text.slice(begin, end);
-        begin = end + 1;
-        if (columns === undefined && /\S/.test(line) && !/^\s*[#;]/.test(line)) {
-            columns = header(line.trim());
-            if (columns) continue;
+    const strings = [], begins = [], ends = [], lines = [];
+    /** The place behind what is neither blank nor a comma, or behind what is, from a place on. */
+    const behind = (at, end, isGap) => {
+        for (let code; at < end; at++) {
+            code = text.charCodeAt(at);
+            if ((isBlank(code) || code === COMMA) !== isGap) break;
         }
-        if (columns) {
-            if (!/\S/.test(line) || line[0] === "#") continue;
-            const found = fields(line.trimEnd(), columns.separator);
-            strings.push(found[columns.network] ?? "");
-            names.push(columns.name >= 0 ? found[columns.name] ?? "" : "");
-            lines.push(number);
-            continue;
+        return at;
+    };
+    for (let line = 0, begin = 0; begin < text.length; line++) {
+        let end = begin, code = 0, next = text.indexOf("\n", begin);
+        if (next < 0) next = text.length;
+        while (end < next && (code = text.charCodeAt(end)) !== HASH && code !== SEMICOLON) end++;
+        while (end > begin && isBlank(text.charCodeAt(end - 1))) end--;
+        while (begin < end && isBlank(text.charCodeAt(begin))) begin++;
+        if (begin < end) {
+            let stop = behind(begin, end, false), name = behind(stop, end, true), string = text.slice(begin, stop);
+            // of a range the hyphen may have white space around it
+            const isBefore = name < end && text.charCodeAt(stop - 1) === HYPHEN && stop > begin + 1, isBehind = name < end && text.charCodeAt(name) === HYPHEN;
+            if (isBefore || isBehind) {
+                const last = isBehind ? behind(name + 1, end, true) : name, after = behind(last, end, false), address = text.slice(last, after);
+                if (/^[0-9a-fA-F.:]+$/.test(address)) {
+                    string = `${isBefore ? string.slice(0, -1) : string}-${address}`;
+                    name = behind(after, end, true);
+                }
+            }
+            strings.push(string);
+            begins.push(name);
+            ends.push(end);
+            lines.push(line);
         }
-        const comment = line.search(/[#;]/), said = (comment < 0 ? line : line.slice(0, comment)).trim();
-        if (said === "") continue;
-        // a network, or a range with or without white space around its hyphen, and the name behind it
-        const space = said.search(/[\s,]/), first = space < 0 ? said : said.slice(0, space), rest = space < 0 ? "" : said.slice(space).replace(/^[\s,]+/, "");
-        const range = /^-\s*([0-9a-fA-F.:]+)(?:[\s,]+|$)(.*)$/.exec(rest) ?? (first.endsWith("-") ? /^()([0-9a-fA-F.:]+)(?:[\s,]+|$)(.*)$/.exec(rest) : null);
-        if (range) {
-            strings.push(`${first.replace(/-$/, "")}-${range[1] || range[2]}`);
-            names.push(range[range.length - 1]);
-        } else {
-            strings.push(first);
-            names.push(rest);
-        }
-        lines.push(number);
+        begin = next + 1;
     }
-    return { strings, names, lines, isCsv: Boolean(columns) };
+    return { strings, begins, ends, lines };
 }
 
 /** What a text says, as arrays that can be sent to another thread: the rows in the order of their networks, and of each the nearest row
- * around it, how many are around it, whether it has rows inside, and whether the one before it is of the same network. `told` is
- * called with the part that is done. */
-export function readPlan({ NetworkList, NetworkSet, PcidrError, summarizeAddressRange }, text, told = () => {}) {
-    const { strings, names, lines } = rowsOf(text), faults = [];
+ * around it, how many are around it, whether it has rows inside, whether the one before it is of the same network, and where its name
+ * lies in the text; of CSV with `text`, which stands for it. `told` is called with the part that is done. */
+export function readPlan({ NetworkList, NetworkSet, PcidrError, summarizeAddressRange }, given, told = () => {}) {
+    const text = plainText(given), { strings, begins, ends, lines } = rowsOf(text), faults = [];
     told(0.15);
     const read = NetworkList.readEach(strings), words = new Uint32Array(read.networks.toValues().buffer), from = [], kept = [], ranges = [];
     let wrong = 0;
@@ -146,16 +161,21 @@ export function readPlan({ NetworkList, NetworkSet, PcidrError, summarizeAddress
     told(0.75);
     const cover = new NetworkSet(sorted), leaves = new NetworkSet(sorted.pick(order.map((_, row) => row).filter((row) => leaf[row])));
     told(0.9);
-    const groups = new Map(), colours = new Uint8Array(count), lineOf = new Uint32Array(count), nameOf = new Array(count);
+    const groups = new Map(), colours = new Uint8Array(count), lineOf = new Uint32Array(count), nameBegins = new Uint32Array(count), nameEnds = new Uint32Array(count);
     for (let row = 0; row < count; row++) {
-        const at = from[order[row]], name = names[at], end = name.search(/[\s,]/), word = end < 0 ? name : name.slice(0, end);
+        const at = from[order[row]];
+        lineOf[row] = lines[at];
+        nameBegins[row] = begins[at];
+        nameEnds[row] = ends[at];
+        // rows of one first word have one colour
+        let end = begins[at];
+        for (let code; end < ends[at] && !isBlank((code = text.charCodeAt(end))) && code !== COMMA; ) end++;
+        const word = text.slice(begins[at], end);
         let group = groups.get(word);
         if (group === undefined) groups.set(word, (group = groups.size));
         colours[row] = group % 8;
-        lineOf[row] = lines[at];
-        nameOf[row] = name;
     }
-    return { values: sorted.toValues(), cover: cover.toValues(), leaves: leaves.toValues(), names: nameOf, lines: lineOf, outer, depth, leaf, twice, colours, faults, wrong, inside, repeated };
+    return { values: sorted.toValues(), cover: cover.toValues(), leaves: leaves.toValues(), nameBegins, nameEnds, lines: lineOf, outer, depth, leaf, twice, colours, faults, wrong, inside, repeated, text: text === given ? undefined : text };
 }
 
 /** Lists one behind the other. */

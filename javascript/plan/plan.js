@@ -1,7 +1,7 @@
 // plan.js: the page. What networks are, contain, leave free and become comes from the library; here are text, drawing and keys.
 import { load, PcidrError } from "pcidr";
 import { bitOf, boxes, hilbert } from "curve.js";
-import { readPlan, rowsOf } from "compute.js";
+import { readPlan } from "compute.js";
 
 /** The module as bytes: make_page.py writes it into the page. */
 const moduleBytes = () => Uint8Array.from(atob(MODULE), (letter) => letter.charCodeAt(0));
@@ -120,11 +120,6 @@ async function page(pcidr, script) {
             root.dataset.state = "ready";
             return;
         }
-        const csv = text.slice(0, 2000).search(/[,;\t]/) >= 0 ? rowsOf(text) : null;
-        if (csv?.isCsv) {
-            // changes are made to plain rows
-            setText(csv.strings.map((string, i) => `${string} ${csv.names[i]}`.trimEnd() + "\n").join(""));
-        }
         root.dataset.state = "busy";
         const begin = performance.now();
         const done = (made) => {
@@ -161,7 +156,8 @@ async function page(pcidr, script) {
     }
     function take(made, took, network) {
         const list = NetworkList.fromValues(made.values);
-        plan = { ...made, list, count: list.length, words: new Uint32Array(made.values.buffer), cover: NetworkSet.fromValues(made.cover), leaves: NetworkSet.fromValues(made.leaves), table: null, around: new Map() };
+        if (made.text !== undefined) setText(made.text); // changes are made to plain lines
+        plan = { ...made, text, list, count: list.length, words: new Uint32Array(made.values.buffer), cover: NetworkSet.fromValues(made.cover), leaves: NetworkSet.fromValues(made.leaves), table: null, around: new Map() };
         plan.roots = rootsOf(plan.cover);
         if (!view || !plan.roots.some((root) => root.contains(view))) view = plan.roots[0] ?? new Network("0.0.0.0/0");
         say(`${many(plan.count)} networks, ${many(plan.cover.length)} merged, ${many(plan.inside)} inside others, ${many(plan.repeated)} twice; ${took.toFixed(0)} ms`, plan.wrong > 0);
@@ -222,7 +218,8 @@ async function page(pcidr, script) {
         past.push(text);
         put(future.pop());
     };
-    const shown = (row) => `${plan.list.at(row)} ${plan.names[row]}`.trimEnd();
+    const nameOf = (row) => plan.text.slice(plan.nameBegins[row], plan.nameEnds[row]);
+    const shown = (row) => `${plan.list.at(row)} ${nameOf(row)}`.trimEnd();
     /** The text with rows replaced by lines; of a line with a range the other networks stay. */
     function replaced(rows, lines) {
         const gone = new Map(rows.map((row) => [plan.lines[row], []])), first = Math.min(...gone.keys());
@@ -245,7 +242,7 @@ async function page(pcidr, script) {
         const halves = chosen.network.halves(), rows = rowsAt(chosen.network);
         if (!halves) return say("an address has no halves", true);
         if (chosen.isFree || rows.length === 0) return choose(halves[0], true);
-        change(replaced(rows, halves.map((half) => `${half} ${plan.names[rows[0]]}`.trimEnd())), halves[0]);
+        change(replaced(rows, halves.map((half) => `${half} ${nameOf(rows[0])}`.trimEnd())), halves[0]);
     }
     function join() {
         if (!chosen) return;
@@ -254,7 +251,7 @@ async function page(pcidr, script) {
         if (chosen.isFree || rows.length === 0) return choose(parent, true);
         const others = rowsAt(sibling);
         if (others.length === 0) return say(`${sibling}, its other half, is not in the plan`, true);
-        change(replaced([...rows, ...others], [`${parent} ${plan.names[rows[0]]}`.trimEnd()]), parent);
+        change(replaced([...rows, ...others], [`${parent} ${nameOf(rows[0])}`.trimEnd()]), parent);
     }
     function takeFree() {
         const length = Number($("length").value);
@@ -271,7 +268,7 @@ async function page(pcidr, script) {
         if (rows.length === 0) return;
         const input = document.createElement("input");
         input.id = "rename";
-        input.value = plan.names[rows[0]];
+        input.value = nameOf(rows[0]);
         input.setAttribute("aria-label", `The name of ${chosen.network}`);
         input.onkeydown = (event) => {
             if (event.key === "Enter") change(replaced([rows[0]], [`${chosen.network} ${input.value.replace(/[#;\n]/g, " ").trim()}`.trimEnd()]), chosen.network);
@@ -410,11 +407,11 @@ async function page(pcidr, script) {
             pen.globalAlpha = 0.85;
             box(x, y, a, b, hatch, true);
             pen.globalAlpha = 1;
-            write(x, y, a, b, network, owner >= 0 ? `free in ${plan.names[owner]}` : "free", dim);
+            write(x, y, a, b, network, owner >= 0 ? `free in ${nameOf(owner)}` : "free", dim);
         });
         for (const i of large) {
             const row = rows[i];
-            if (plan.leaf[row] && !plan.twice[row + 1]) write(...boxes.subarray(4 * i, 4 * i + 4), plan.list.at(row), plan.names[row], ON[plan.colours[row]]);
+            if (plan.leaf[row] && !plan.twice[row + 1]) write(...boxes.subarray(4 * i, 4 * i + 4), plan.list.at(row), nameOf(row), ON[plan.colours[row]]);
         }
         if (small.length || free.length > shownFree.length) {
             const image = pen.getImageData(0, 0, canvas.width, canvas.height), pixels = new Uint32Array(image.data.buffer);
@@ -499,7 +496,7 @@ async function page(pcidr, script) {
             button("Rename", "n", rename);
             button("Show line", "In the text", () => selectLine(plan.lines[rows[0]]));
         }
-        const names = rows.map((row) => plan.names[row]).filter(Boolean).join("; "), isPool = rows.some((row) => !plan.leaf[row]);
+        const names = rows.map((row) => nameOf(row)).filter(Boolean).join("; "), isPool = rows.some((row) => !plan.leaf[row]);
         const state = () => (plan.leaves.isDisjointFrom([network]) ? "free" : plan.leaves.has(network) ? "in use" : "in use in part");
         $("detail").replaceChildren(title, paragraph(rows.length ? `${names || "in the plan"}${isPool ? ", with rows inside" : ""}` : state()), list, buttons);
     }
@@ -522,12 +519,12 @@ async function page(pcidr, script) {
     const ofRows = (rows, more) => ({ length: rows.length, at: (i) => plan.list.at(rows[i]), label: (i) => [plan.list.at(rows[i]).toString(), ...more(rows[i])], isFree: false });
     const allRows = () => (plan.all ??= Array.from({ length: plan.count }, (_, i) => i));
     const LISTS = {
-        plan: { name: () => "Plan", items: () => ({ length: plan.count, at: (i) => plan.list.at(i), label: (i) => [`${"  ".repeat(plan.depth[i])}${plan.list.at(i)}`, plan.names[i], plan.twice[i] ? "twice" : ""] }) },
+        plan: { name: () => "Plan", items: () => ({ length: plan.count, at: (i) => plan.list.at(i), label: (i) => [`${"  ".repeat(plan.depth[i])}${plan.list.at(i)}`, nameOf(i), plan.twice[i] ? "twice" : ""] }) },
         free: { name: () => "Free here", items: () => ({ length: freeHere().length, at: (i) => freeHere().at(i), label: (i) => [String(freeHere().at(i)), sizeOf(freeHere().at(i)), ""], isFree: true }) },
         fit: { name: () => `Free /${$("length").value}`, items: () => ofLength() },
         merged: { name: () => "Merged", items: () => ({ length: plan.cover.length, at: (i) => plan.cover.at(i), label: (i) => [String(plan.cover.at(i)), sizeOf(plan.cover.at(i)), ""] }) },
-        overlaps: { name: () => "Overlaps", items: () => ofRows((plan.over ??= allRows().filter((row) => plan.outer[row] >= 0)), (row) => [`${plan.names[row]} in ${shown(plan.outer[row])}`, plan.twice[row] ? "twice" : ""]) },
-        kinds: { name: () => "Special", items: () => ofRows((plan.kinds ??= tab === "kinds" ? allRows().filter((row) => kindsOf(plan.list.at(row))) : null) ?? [], (row) => [`${kindsOf(plan.list.at(row))}: ${plan.names[row]}`, ""]) },
+        overlaps: { name: () => "Overlaps", items: () => ofRows((plan.over ??= allRows().filter((row) => plan.outer[row] >= 0)), (row) => [`${nameOf(row)} in ${shown(plan.outer[row])}`, plan.twice[row] ? "twice" : ""]) },
+        kinds: { name: () => "Special", items: () => ofRows((plan.kinds ??= tab === "kinds" ? allRows().filter((row) => kindsOf(plan.list.at(row))) : null) ?? [], (row) => [`${kindsOf(plan.list.at(row))}: ${nameOf(row)}`, ""]) },
     };
     const sizeOf = (network) => (network.numAddresses > 10n ** 15n ? "" : many(network.numAddresses));
     /** The free networks of the asked length: how many, and, where they are looked at, of many the first ones. */
@@ -662,10 +659,10 @@ async function page(pcidr, script) {
             case "merged": return merged.toText();
             case "free": return freeHere().toText();
             case "plan": return rows.map((row) => `${shown(row)}\n`).join("");
-            case "json": return `${JSON.stringify({ merged, free: { within: view, networks: freeHere() }, rows: rows.map((row) => ({ network: plan.list.at(row), name: plan.names[row] })) }, null, 1)}\n`;
+            case "json": return `${JSON.stringify({ merged, free: { within: view, networks: freeHere() }, rows: rows.map((row) => ({ network: plan.list.at(row), name: nameOf(row) })) }, null, 1)}\n`;
             case "csv": return `network,name,first,last,addresses\n${rows.map((row) => {
                 const network = plan.list.at(row);
-                return `${network},${quoted(plan.names[row])},${network.networkAddress},${network.broadcastAddress},${network.numAddresses}\n`;
+                return `${network},${quoted(nameOf(row))},${network.networkAddress},${network.broadcastAddress},${network.numAddresses}\n`;
             }).join("")}`;
             case "nft": return [4, 6].map((version) => [version, merged.toStrings().filter((text, i) => merged.at(i).version === version)]).filter(([, list]) => list.length)
                 .map(([version, list]) => `set plan_ipv${version} {\n\ttype ipv${version}_addr\n\tflags interval\n\telements = { ${list.join(",\n\t\t")} }\n}\n`).join("");
@@ -735,7 +732,7 @@ async function page(pcidr, script) {
     };
     $("canvas").onmousemove = (event) => {
         const hit = under(event);
-        $("canvas").title = hit ? `${hit.network.withPrefixlen} ${hit.isFree ? "free" : plan.names[hit.row]}` : "";
+        $("canvas").title = hit ? `${hit.network.withPrefixlen} ${hit.isFree ? "free" : nameOf(hit.row)}` : "";
     };
     $("canvas").onkeydown = (event) => {
         const key = event.key, within = (network) => network && view.contains(network) && choose(network);

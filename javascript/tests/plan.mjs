@@ -2,7 +2,7 @@
 import assert from "node:assert/strict";
 import { pathToFileURL } from "node:url";
 import { bitOf, boxes, hilbert } from "../plan/curve.js";
-import { readPlan, rowsOf } from "../plan/compute.js";
+import { plainText, readPlan, rowsOf } from "../plan/compute.js";
 
 const { load, PcidrError } = await import(`${pathToFileURL(process.argv[2])}/pcidr.js`);
 const pcidr = { ...(await load()), PcidrError };
@@ -35,20 +35,27 @@ for (const [bits, width, height] of [[12, 512, 512], [11, 640, 400], [9, 300, 70
         }
     }
 }
-for (const [text, bits] of [["128.0.0.1", "1".padEnd(31, "0") + "1"], ["8000::1", "1".padEnd(127, "0") + "1"], ["0:0:8000:1::", "0".repeat(32) + "1" + "0".repeat(30) + "1" + "0".repeat(64)]]) {
-    const words = new Uint32Array(new NetworkList([text]).toValues().buffer);
-    assert.equal(Array.from(bits, (_, i) => bitOf(words, 0, bits.length === 32, i)).join(""), bits, text);
+for (const [address, bits] of [["128.0.0.1", "1".padEnd(31, "0") + "1"], ["8000::1", "1".padEnd(127, "0") + "1"], ["0:0:8000:1::", "0".repeat(32) + "1" + "0".repeat(30) + "1" + "0".repeat(64)]]) {
+    const words = new Uint32Array(new NetworkList([address]).toValues().buffer);
+    assert.equal(Array.from(bits, (_, i) => bitOf(words, 0, bits.length === 32, i)).join(""), bits, address);
 }
 
 // ---- what a text says
 
-assert.deepEqual(rowsOf("10.0.0.0/8 core # x\n\n# only this\n10.1.0.0-10.1.0.9 dhcp pool\n10.2.0.0 - 10.2.0.1\tx\n10.3.0.0- 10.3.0.1\n::/0"), {
-    strings: ["10.0.0.0/8", "10.1.0.0-10.1.0.9", "10.2.0.0-10.2.0.1", "10.3.0.0-10.3.0.1", "::/0"], names: ["core", "dhcp pool", "x", "", ""], lines: [0, 3, 4, 5, 6], isCsv: false,
-});
-assert.deepEqual(rowsOf('id,Prefix,Name\n1,10.0.0.0/8,"a, ""b"""\n2,"10.1.0.0/16",c\n3'), { strings: ["10.0.0.0/8", "10.1.0.0/16", ""], names: ['a, "b"', "c", ""], lines: [1, 2, 3], isCsv: true });
-const plan = readPlan(pcidr, "10.0.0.0/8 all\n10.1.0.0/16 b\n10.1.0.0/16 again\n10.1.2.0/24 c\nx\n10.0.0.1/8\n10.9.0.0-10.9.0.2 r\n10.0.0.9-10.0.0.1\n2001:db8::/32 six\n");
+const rows = (text) => {
+    const { strings, begins, ends, lines } = rowsOf(text);
+    return strings.map((string, i) => [string, text.slice(begins[i], ends[i]), lines[i]]);
+};
+assert.deepEqual(rows("10.0.0.0/8 core # x\n\n  # only this\n10.1.0.0-10.1.0.9 dhcp pool \r\n10.2.0.0 - 10.2.0.1\tx\n10.3.0.0- 10.3.0.1\n10.4.0.0 -10.4.0.1,y, z\n::/0\n10.0.0.1 - not - one;\n-"), [
+    ["10.0.0.0/8", "core", 0], ["10.1.0.0-10.1.0.9", "dhcp pool", 3], ["10.2.0.0-10.2.0.1", "x", 4], ["10.3.0.0-10.3.0.1", "", 5], ["10.4.0.0-10.4.0.1", "y, z", 6], ["::/0", "", 7],
+    ["10.0.0.1", "- not - one", 8], ["-", "", 9],
+]);
+assert.equal(plainText('# export\n\nid,Prefix,site,Name\n1,10.0.0.0/8,s,"a, ""b"""\n\n2,"10.1.0.0/16",s,c;d\n3\n'), '10.0.0.0/8 a, "b"\n10.1.0.0/16 c d\n?\n');
+assert.equal(plainText("network;description\n::/0;x\n"), "::/0 x\n");
+for (const text of ["", "network\n10.0.0.0/8", "10.0.0.0/8,x\n", "\n\n"]) assert.equal(plainText(text), text);
+const text = "10.0.0.0/8 all\n10.1.0.0/16 b\n10.1.0.0/16 again\n10.1.2.0/24 c\nx\n10.0.0.1/8\n10.9.0.0-10.9.0.2 r\n10.0.0.9-10.0.0.1\n2001:db8::/32 six\n", plan = readPlan(pcidr, text);
 assert.deepEqual(NetworkList.fromValues(plan.values).toStrings(), ["10.0.0.0/8", "10.1.0.0/16", "10.1.0.0/16", "10.1.2.0/24", "10.9.0.0/31", "10.9.0.2", "2001:db8::/32"]);
-assert.deepEqual([[...plan.outer], [...plan.depth], [...plan.leaf], [...plan.twice], plan.names, [...plan.lines], plan.inside, plan.repeated],
+assert.deepEqual([[...plan.outer], [...plan.depth], [...plan.leaf], [...plan.twice], Array.from(plan.nameBegins, (begin, row) => text.slice(begin, plan.nameEnds[row])), [...plan.lines], plan.inside, plan.repeated],
     [[-1, 0, 1, 2, 0, 0, -1], [0, 1, 2, 3, 1, 1, 0], [0, 0, 0, 1, 1, 1, 1], [0, 0, 1, 0, 0, 0, 0], ["all", "b", "again", "c", "r", "r", "six"], [0, 1, 2, 3, 6, 6, 8], 5, 1]);
 assert.deepEqual(NetworkList.fromValues(plan.leaves).toStrings(), ["10.1.2.0/24", "10.9.0.0/31", "10.9.0.2", "2001:db8::/32"]);
 assert.deepEqual(NetworkList.fromValues(plan.cover).toStrings(), ["10.0.0.0/8", "2001:db8::/32"]);
@@ -62,6 +69,6 @@ assert.deepEqual([readPlan(pcidr, "").values.length, readPlan(pcidr, "x").wrong]
 
 const lines = Array.from({ length: 100000 }, (_, i) => `10.${(i * 7919 >> 8) & 255}.${(i * 7919) & 255}.0/${[24, 24, 24, 26, 28][i % 5]} site-${i % 40} lan ${i}`).join("\n");
 const begin = process.cpuUsage();
-assert.equal(readPlan(pcidr, lines).names.length, 100000);
+assert.equal(readPlan(pcidr, lines).lines.length, 100000);
 const { user, system } = process.cpuUsage(begin), took = (user + system) / 1e6;
 console.log(`the map's cells, and what texts say, are as wanted; 100,000 rows take ${took.toFixed(2)} s of processor time`);
