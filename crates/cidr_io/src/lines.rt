@@ -1,5 +1,5 @@
 //! Reading lines, as slices of the blocks that are read.
-ghost use Rattle.std.specs.Prelude.{◌≡◌, ◌<◌, ◌≤◌, [], Ok, None, true, false, ℕ, List, drop, length, take, vec_len, IfErr, IfOk, IfSome, MatchOption, OnErr, OnOk};
+ghost use Rattle.std.specs.Prelude.{◌≡◌, ◌<◌, ◌≤◌, [], Ok, None, true, false, ℕ, List, drop, length, take, vec_len, IsTrue, IfErr, IfOk, IfSome, MatchOption, OnErr, OnOk};
 ghost use Rattle.std.specs.Bool.{Decides};
 ghost use Rattle.std.specs.Io.KnownBytes.{IsAtEnd, prepend_known};
 ghost use Rattle.cidr_io.specs.Lines.{HasNoFeed, IsFirstFeed, IsNextLine, IsTooLong, KeepsLines, MayFail, StaysTold, kept_of};
@@ -296,9 +296,11 @@ impl<S: Source + Drop> LineReader<S> {
         &self.block[self.start..self.stop]
     }
 
-    /// Whether a whole line is read already behind this one, so that nothing is read for it. No contract says when that
-    /// is: what is made of lines has to be the same either way.
-    pub fn has_line(&self) -> bool {
+    /// Whether a whole line is read already behind this one, so that nothing is read for it: then a line feed is left. No
+    /// contract says when it is so: what is made of lines has to be the same either way.
+    pub fn has_line(&self) -> bool
+        ensures { IsTrue result → IfSome self.now.left (λ text. (place : ℕ) × IsFirstFeed text place) }
+    {
         self.ahead.is_some()
     }
 }

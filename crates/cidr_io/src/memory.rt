@@ -1,5 +1,5 @@
 //! The memory of a run.
-ghost use Rattle.std.specs.Prelude.{◌≡◌, ◌+◌, ◌≤◌, ◌∷◌, ◌++◌, [], Bool, OnErr, OnOk, false, true};
+ghost use Rattle.std.specs.Prelude.{◌≡◌, ◌+◌, ◌≤◌, ◌∷◌, ◌++◌, [], Bool, IsOk, OnErr, OnOk, false, true};
 ghost use Rattle.std.specs.Vec.{vec_capacity, vec_len};
 
 use std::alloc::{AllocError, Global};
@@ -15,11 +15,12 @@ pub trait Memory {
     fn alloc(&self) -> Global;
 
     /// Makes room for `more` items behind those that are there, which stay as they are. An error is an allocation that
-    /// was refused, and is remembered.
+    /// was refused, and is remembered; where there is the room already, there is none.
     fn reserve<T>(&mut self, items: &mut Vec<T>, more: usize) -> Result<(), AllocError>
         ensures items { items.new.items ≡ items.old.items }
         ensures room { OnOk result (vec_len items.new + more ≤ vec_capacity items.new) }
         ensures kept { OnOk result (refused self.new ≡ refused self.old) }
+        ensures enough { vec_len items.old + more ≤ vec_capacity items.old → IsOk result }
         ensures refused { OnErr result (refused self.new ≡ true) };
 
     /// Passes on what a call has returned that allocates from `alloc`, and whose only error is an allocation that was

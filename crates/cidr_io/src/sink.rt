@@ -1,5 +1,7 @@
 //! What a program writes to: a sink that may take a part of what it is offered, and may fail.
-ghost use Rattle.std.specs.Prelude.{◌≡◌, Bool, true, false};
+ghost use Rattle.std.specs.Prelude.{◌≡◌, ◌↔◌, ◌⊎◌, Bool, IsTrue, true, false};
+ghost use Rattle.std.specs.IoError.{error_kind};
+ghost use Rattle.std.specs.declared.io.ErrorKind.TheVariants.{BrokenPipe};
 ghost use Rattle.cidr_io.specs.Writing.{State, Takes, Flushes};
 
 use std::io;
@@ -86,6 +88,7 @@ impl<W: Write> Tracked<W> {
     fn fail(&mut self, error: &io::Error)
         ensures writer { self.new.writer ≡ self.old.writer }
         ensures failed { self.new.has_failed ≡ true }
+        ensures closed { IsTrue self.new.is_closed ↔ (IsTrue self.old.is_closed ⊎ (error_kind error.now ≡ BrokenPipe)) }
     {
         self.failed = true;
         self.closed |= error.kind() == io::ErrorKind::BrokenPipe;
