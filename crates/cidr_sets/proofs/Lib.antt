@@ -9,6 +9,7 @@ pub mod Algebra
 pub mod Members
 pub mod FirstFound
 pub mod FirstRules
+pub mod Deciding
 pub mod Widths
 pub mod Free
 pub mod AddressWalks

@@ -2,3 +2,4 @@
 pub mod AddressLists
 pub mod Steps
 pub mod Edits
+pub mod Deciding

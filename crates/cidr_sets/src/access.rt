@@ -10,9 +10,10 @@ ghost use Rattle.cidr_sets.specs.model.FirstRules.{IsFirstRule, IsPermitted, IsD
 ghost use Rattle.cidr_sets.specs.declared.access.Action.{Action};
 ghost use Rattle.cidr_sets.specs.declared.access.Action.TheVariants.{Permit};
 
+use crate::decisions::{Decisions, decide_all, deciding_in};
 use crate::set::NetworkSet;
 use cidr::NetworkBits;
-use cidr_table::is_inside;
+use cidr_table::{LpmTable, is_inside};
 use std::alloc::{AllocError, Global};
 
 /// What a rule does with the addresses of its network.
@@ -122,7 +123,7 @@ fn decided<C: NetworkBits + Copy>(
 }
 
 /// The addresses of the networks of some rules.
-fn matched_by<C: NetworkBits + Copy>(
+pub(crate) fn matched_by<C: NetworkBits + Copy>(
     alloc: Global,
     rules: &[Rule<C>],
 ) -> Result<NetworkSet<C>, AllocError>
@@ -157,8 +158,8 @@ fn permitted_by_few<C: NetworkBits + Copy>(
 /// The indices of the rules that no address reaches, counted from 0 and ascending: each address of such a rule's
 /// network is in the network of an earlier rule, which decides. What the rules do plays no part.
 ///
-/// It adds the network of each rule to a set, moving the networks behind: O(n²) at most for n rules. Where an
-/// allocation fails, it returns the error.
+/// It halves the list, and of the earlier networks takes to each half what has an address there: O(n log² n) for n rules,
+/// and up to 128 times that where networks are cut out of others. Where an allocation fails, it returns the error.
 ///
 /// ```
 /// shadowed(rt.alloc(), &rules)? // [2]
@@ -171,15 +172,7 @@ pub fn shadowed<C: NetworkBits + Copy>(
         → Contains out.items i ↔ IsShadowed 129 (map (λ r. C.bits r.network) rules.now) i) }
     ensures ascending { IfOk result (λ out. IsStrictlyIncreasing out.items) }
 {
-    let mut earlier = NetworkSet::new(alloc);
-    let mut out = Vec::new(alloc);
-    for (i, rule) in rules.iter().enumerate() {
-        if earlier.contains(&rule.network) {
-            out.push(i)?;
-        }
-        earlier.insert(rule.network)?;
-    }
-    Ok(out)
+    Ok(decide_all(alloc, rules)?.unreached)
 }
 
 /// The indices of the rules that decide the addresses of a network, counted from 0 and ascending: each is the first
@@ -228,8 +221,8 @@ pub struct Shadow {
 
 /// The rules that no address reaches, ascending, each with the earlier rules that decide the addresses of its network.
 ///
-/// It calls [`shadowed`], and [`deciding`] for the network of each rule that it returns, in the time of these: O(n²) at
-/// most for each of them. Where an allocation fails, it returns the error.
+/// It takes the time of [`shadowed`], and then for each rule that it returns a look-up, and a step for each network that
+/// is left of the rules that decide. Where an allocation fails, it returns the error.
 ///
 /// ```
 /// shadowed_by(rt.alloc(), &rules)? // [Shadow { rule: 2, by: [0] }]
@@ -244,10 +237,11 @@ pub fn shadowed_by<C: NetworkBits + Copy>(
     ensures by { IfOk result (λ out.
         All (λ s. AreDecidingRules 129 (map (λ r. C.bits r.network) rules.now) s.rule s.by.items) out.items) }
 {
-    let unreached = shadowed(alloc, rules)?;
+    let Decisions { parts, unreached } = decide_all(alloc, rules)?;
+    let parts = LpmTable::from_rows(parts);
     let mut out = Vec::new(alloc);
     for &rule in &unreached {
-        let by = deciding(alloc, rules, &rules[rule].network)?;
+        let by = deciding_in(alloc, &parts, &rules[rule].network)?;
         out.push(Shadow { rule, by })?;
     }
     Ok(out)

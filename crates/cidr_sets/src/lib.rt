@@ -11,6 +11,7 @@
 #![tactic(auto)]
 
 pub mod access;
+mod decisions;
 pub mod laws;
 mod lookup;
 mod merging;

@@ -1,9 +1,10 @@
 //! Access lists: rules in order, each of which permits or denies the addresses of a network.
 
 use cidr_support::vec::Vec;
+use crate::decisions::{Decisions, decide_all, deciding_in};
 use crate::set::NetworkSet;
 use cidr::NetworkBits;
-use cidr_table::is_inside;
+use cidr_table::{LpmTable, is_inside};
 use cidr_support::alloc::{AllocError, Global};
 
 /// What a rule does with the addresses of its network.
@@ -115,7 +116,7 @@ fn decided<C: NetworkBits + Copy>(
 
 /// The addresses of the networks of some rules.
 #[inline]
-fn matched_by<C: NetworkBits + Copy>(
+pub(crate) fn matched_by<C: NetworkBits + Copy>(
     alloc: Global,
     rules: &[Rule<C>],
 ) -> Result<NetworkSet<C>, AllocError> {
@@ -145,8 +146,8 @@ fn permitted_by_few<C: NetworkBits + Copy>(
 /// The indices of the rules that no address reaches, counted from 0 and ascending: each address of such a rule's
 /// network is in the network of an earlier rule, which decides. What the rules do plays no part.
 ///
-/// It adds the network of each rule to a set, moving the networks behind: O(n²) at most for n rules. Where an
-/// allocation fails, it returns the error.
+/// It halves the list, and of the earlier networks takes to each half what has an address there: O(n log² n) for n rules,
+/// and up to 128 times that where networks are cut out of others. Where an allocation fails, it returns the error.
 ///
 /// ```
 /// # use cidr::*;
@@ -157,19 +158,12 @@ fn permitted_by_few<C: NetworkBits + Copy>(
 /// assert_eq!(format!("{:?}", shadowed(Global, &rules)?), "[2]");
 /// # Ok::<(), Box<dyn std::error::Error>>(())
 /// ```
+#[inline]
 pub fn shadowed<C: NetworkBits + Copy>(
     alloc: Global,
     rules: &[Rule<C>],
 ) -> Result<Vec<usize>, AllocError> {
-    let mut earlier = NetworkSet::new(alloc);
-    let mut out = Vec::new(alloc);
-    for (i, rule) in rules.iter().enumerate() {
-        if earlier.contains(&rule.network) {
-            out.push(i)?;
-        }
-        earlier.insert(rule.network)?;
-    }
-    Ok(out)
+    Ok(decide_all(alloc, rules)?.unreached)
 }
 
 /// The indices of the rules that decide the addresses of a network, counted from 0 and ascending: each is the first
@@ -220,8 +214,8 @@ pub struct Shadow {
 
 /// The rules that no address reaches, ascending, each with the earlier rules that decide the addresses of its network.
 ///
-/// It calls [`shadowed`], and [`deciding`] for the network of each rule that it returns, in the time of these: O(n²) at
-/// most for each of them. Where an allocation fails, it returns the error.
+/// It takes the time of [`shadowed`], and then for each rule that it returns a look-up, and a step for each network that
+/// is left of the rules that decide. Where an allocation fails, it returns the error.
 ///
 /// ```
 /// # use cidr::*;
@@ -232,15 +226,15 @@ pub struct Shadow {
 /// assert_eq!(format!("{:?}", shadowed_by(Global, &rules)?), "[Shadow { rule: 2, by: [0] }]");
 /// # Ok::<(), Box<dyn std::error::Error>>(())
 /// ```
-#[inline]
 pub fn shadowed_by<C: NetworkBits + Copy>(
     alloc: Global,
     rules: &[Rule<C>],
 ) -> Result<Vec<Shadow>, AllocError> {
-    let unreached = shadowed(alloc, rules)?;
+    let Decisions { parts, unreached } = decide_all(alloc, rules)?;
+    let parts = LpmTable::from_rows(parts);
     let mut out = Vec::new(alloc);
     for &rule in &unreached {
-        let by = deciding(alloc, rules, &rules[rule].network)?;
+        let by = deciding_in(alloc, &parts, &rules[rule].network)?;
         out.push(Shadow { rule, by })?;
     }
     Ok(out)

@@ -30,6 +30,7 @@ pub mod alloc;
 mod checks;
 
 pub mod access;
+mod decisions;
 mod lookup;
 mod merging;
 mod neighbours;
