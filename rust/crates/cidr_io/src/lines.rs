@@ -219,8 +219,8 @@ impl<S: Source> LineReader<S> {
         &self.block[self.start..self.stop]
     }
 
-    /// Whether a whole line is read already behind this one, so that nothing is read for it. No contract says when that
-    /// is: what is made of lines has to be the same either way.
+    /// Whether a whole line is read already behind this one, so that nothing is read for it: then a line feed is left. No
+    /// contract says when it is so: what is made of lines has to be the same either way.
     #[inline]
     pub fn has_line(&self) -> bool {
         self.ahead.is_some()

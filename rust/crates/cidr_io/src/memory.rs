@@ -10,7 +10,7 @@ pub trait Memory: Sized {
     fn alloc(&self) -> Global;
 
     /// Makes room for `more` items behind those that are there, which stay as they are. An error is an allocation that
-    /// was refused, and is remembered.
+    /// was refused, and is remembered; where there is the room already, there is none.
     fn reserve<T>(&mut self, items: &mut Vec<T>, more: usize) -> Result<(), AllocError>;
 
     /// Passes on what a call has returned that allocates from `alloc`, and whose only error is an allocation that was
