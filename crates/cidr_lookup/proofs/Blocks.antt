@@ -1,0 +1,75 @@
+-- Blocks of 64 ^ steps numbers, and the 64 parts of one.
+use Rattle.std.proofs.Common.{◌≡◌, sym, ap, ◌∙◌, arith, inl, inr, ℕ, zero, suc, ◌+◌, ◌-◌, ◌*◌, ◌/◌, ◌%◌, ◌^◌, ◌<◌, ◌≤◌}
+use Rattle.std.proofs.Math.Nat.{mod-eq_of_lt, mul_assoc}
+use Rattle.std.proofs.Math.Pow.{pow_mono}
+use Rattle.std.proofs.lemmas.Bool.{cases_lt}
+use Rattle.std.proofs.lemmas.Nat.{pow_pos, pow-add, mul-le, one_shl}
+
+power : (steps : ℕ) → 0 < steps → 2 ^ (6 * steps) ≡ 64 * 2 ^ (6 * (steps - 1))
+power steps some =
+    let e : 6 * steps ≡ 6 + 6 * (steps - 1) = omega arith in
+    ap (λ j. 2 ^ j) e ∙ pow-add 2 6 (6 * (steps - 1))
+
+-- the first number of a block fits
+pub whole_number : (steps block size : ℕ) → size ≤ 128 → (block + 1) * 2 ^ (6 * steps) ≤ 2 ^ size → block * 2 ^ (6 * steps) % 2 ^ 128 ≡ block * 2 ^ (6 * steps)
+whole_number steps block size wide fits =
+    let most : 2 ^ size ≤ 2 ^ 128 = pow_mono {j = 128} wide in
+    let less : block * 2 ^ (6 * steps) < 2 ^ 128 = omega (arith, pow_pos (6 * steps)) in
+    mod-eq_of_lt less
+
+-- the parts before one begin and end in the block
+pub part_ends : (steps block part : ℕ) → 0 < steps → part ≤ 64 → (block * 64 + part) * 2 ^ (6 * (steps - 1)) ≤ (block + 1) * 2 ^ (6 * steps)
+part_ends steps block part some le =
+    let p = 2 ^ (6 * (steps - 1)) in
+    let up : (block * 64 + part) * p ≤ (block + 1) * 64 * p = mul-le (block * 64 + part) p ((block + 1) * 64) p (omega arith) (omega arith) in
+    let same : (block + 1) * 64 * p ≡ (block + 1) * 2 ^ (6 * steps) = mul_assoc (block + 1) 64 p ∙ ap (λ n. (block + 1) * n) (sym (power steps some)) in
+    omega (arith, up, same)
+
+pub first_part : (steps block : ℕ) → 0 < steps → (block * 64 + 0) * 2 ^ (6 * (steps - 1)) ≡ block * 2 ^ (6 * steps)
+first_part steps block some =
+    let p = 2 ^ (6 * (steps - 1)) in
+    let e : block * 64 + 0 ≡ block * 64 = omega arith in
+    ap (λ n. n * p) e ∙ (mul_assoc block 64 p ∙ ap (λ n. block * n) (sym (power steps some)))
+
+-- a part lies in the block
+pub part_fits : (steps block part limit : ℕ) → 0 < steps → part < 64 → (block + 1) * 2 ^ (6 * steps) ≤ limit → (block * 64 + part + 1) * 2 ^ (6 * (steps - 1)) ≤ limit
+part_fits steps block part limit some l fits =
+    let e : block * 64 + (part + 1) ≡ block * 64 + part + 1 = omega arith in
+    let up = part_ends steps block (part + 1) some (omega arith) in
+    omega (arith, up, ap (λ n. n * 2 ^ (6 * (steps - 1))) e)
+
+pub part_number : (steps block part size : ℕ) → 0 < steps → part < 64 → size ≤ 128 → (block + 1) * 2 ^ (6 * steps) ≤ 2 ^ size → block * 64 + part < 2 ^ 128
+part_number steps block part size some l wide fits =
+    let p = 2 ^ (6 * (steps - 1)) in
+    let most : 2 ^ size ≤ 2 ^ 128 = pow_mono {j = 128} wide in
+    let up : (block * 64 + part + 1) * 1 ≤ (block * 64 + part + 1) * p = mul-le (block * 64 + part + 1) 1 (block * 64 + part + 1) p (omega arith) (omega (arith, pow_pos (6 * (steps - 1)))) in
+    omega (arith, up, part_fits steps block part (2 ^ size) some l fits)
+
+-- a block in which a range begins: the range behind the last one that begins at most with its first number
+some_steps : (steps block next : ℕ) → block * 2 ^ (6 * steps) < next → next / 2 ^ (6 * steps) ≤ block → 0 < steps
+some_steps zero block next lt le = absurd (omega arith)
+some_steps (suc steps) block next lt le = omega arith
+
+pub cut : (steps block size k count next : ℕ) → size ≤ 128 → (block + 1) * 2 ^ (6 * steps) ≤ 2 ^ size → (k + 1 < count → block * 2 ^ (6 * steps) % 2 ^ 128 < next)
+    → ((k + 1 < count → block < next / 2 ^ (6 * steps)) → ⊥)
+    → (0 < steps) × (k + 1 < count) × (block * 2 ^ (6 * steps) < next) × (next / 2 ^ (6 * steps) ≤ block)
+cut steps block size k count next wide fits behind other = elim (cases_lt (k + 1) count) [
+  | inl more ↦ elim (cases_lt block (next / 2 ^ (6 * steps))) [
+    | inl less ↦ absurd (other (λ _. less))
+    | inr inner ↦
+        let lt : block * 2 ^ (6 * steps) < next = omega (arith, behind more, whole_number steps block size wide fits) in
+        (some_steps steps block next lt inner, more, lt, inner)
+  ]
+  | inr past ↦ absurd (other (λ more. absurd (omega arith)))
+]
+
+-- all blocks
+pub all_blocks : (steps size width : ℕ) → width ≡ size → 6 * steps < size → size ≤ 6 * steps + 32 → 1 * 2 ^ (width - 6 * steps) % 2 ^ 64 * 2 ^ (6 * steps) ≡ 2 ^ size
+all_blocks steps size width is some few =
+    let n = width - 6 * steps in
+    let e : n + 6 * steps ≡ size = omega arith in
+    ap (λ x. x * 2 ^ (6 * steps)) (one_shl n 64 (omega arith)) ∙ (sym (pow-add 2 n (6 * steps)) ∙ ap (λ j. 2 ^ j) e)
+
+-- and one of them fits
+pub block_fits : (steps size count block : ℕ) → count * 2 ^ (6 * steps) ≡ 2 ^ size → block < count → (block + 1) * 2 ^ (6 * steps) ≤ 2 ^ size
+block_fits steps size count block all l = omega (arith, mul-le (block + 1) (2 ^ (6 * steps)) count (2 ^ (6 * steps)) (omega arith) (omega arith))

@@ -1,0 +1,229 @@
+-- What an entry leads to, and that the words of entries are unique.
+use Rattle.std.proofs.Common.{◌≡◌, refl, sym, ap, ap₂, subst, ◌∙◌, arith, inl, inr, ℕ, zero, suc, ◌+◌, ◌-◌, ◌*◌, ◌/◌, ◌%◌, ◌^◌, ◌<◌, ◌≤◌, ◌⊎◌, List, [], ◌∷◌, ◌++◌, length, get_or, count_ones, append_assoc, length-append}
+use Rattle.std.proofs.lemmas.Bool.{cases_eq}
+use Rattle.std.proofs.lemmas.List.{append-nil, get_or_append_left, get_or-append_right}
+use Rattle.std.proofs.lemmas.Nat.{shl-shr, shr-shr, shr_split}
+use Rattle.cidr_lookup.specs.Nodes.{AreEntries, AllHave, IsEntry, node, marks, runs}
+use Rattle.cidr_lookup.proofs.Nodes.{run_of, same_node}
+
+-- ---- entries of several blocks
+module _ (IsOne : (block : ℕ) (before : List ℕ) (entry : ℕ) (after : List ℕ) → Type 0) where
+  -- none
+  pub no_entries : (first : ℕ) (before entries : List ℕ) → AreEntries IsOne first 0 before entries before
+  unfolding AreEntries
+  no_entries first before entries = refl
+
+  -- the entries of the blocks alone tell
+  pub same_entries : (first n : ℕ) (before entries entries' after : List ℕ) → ((i : ℕ) → i < n → get_or entries' i 0 ≡ get_or entries i 0)
+      → AreEntries IsOne first n before entries after → AreEntries IsOne first n before entries' after
+  unfolding AreEntries
+  same_entries first zero before entries entries' after same known = known
+  same_entries first (suc n) before entries entries' after same (middle, front, last) = (
+    middle,
+    same_entries first n before entries entries' middle (λ i l. same i (omega arith)) front,
+    subst (λ e. IsOne (first + n) middle e after) (sym (same n (omega arith))) last,
+  )
+
+  -- one more
+  pub one_more : (first n : ℕ) (before entries entries' middle after : List ℕ) (entry : ℕ) → ((i : ℕ) → i < n → get_or entries' i 0 ≡ get_or entries i 0)
+      → get_or entries' n 0 ≡ entry → AreEntries IsOne first n before entries middle → IsOne (first + n) middle entry after
+      → AreEntries IsOne first (n + 1) before entries' after
+  unfolding AreEntries
+  one_more first n before entries entries' middle after entry same is front last =
+      let one : suc n ≡ n + 1 = omega arith in
+      subst (λ m. AreEntries IsOne first m before entries' after) one (
+        middle,
+        same_entries first n before entries entries' middle same front,
+        subst (λ e. IsOne (first + n) middle e after) (sym is) last,
+      )
+
+  module _ (grows : (block : ℕ) (before : List ℕ) (entry : ℕ) (after : List ℕ) → IsOne block before entry after → (rest : List ℕ) × (after ≡ before ++ rest)) where
+    pub all_grow : (first n : ℕ) (before entries after : List ℕ) → AreEntries IsOne first n before entries after → (rest : List ℕ) × (after ≡ before ++ rest)
+    unfolding AreEntries
+    all_grow first zero before entries after known = ([], known ∙ sym (append-nil before))
+    all_grow first (suc n) before entries after (middle, front, last) =
+        let old = all_grow first n before entries middle front in
+        let new = grows (first + n) middle (get_or entries n 0) after last in
+        (old.0 ++ new.0, new.1 ∙ (ap (λ x. x ++ new.0) old.1 ∙ append_assoc before old.0 new.0))
+
+    -- each of them
+    pub each : (first n : ℕ) (before entries after : List ℕ) → AreEntries IsOne first n before entries after → (i : ℕ) → i < n
+        → (x : List ℕ) × (y : List ℕ) × (rest : List ℕ) × IsOne (first + i) x (get_or entries i 0) y × (after ≡ y ++ rest)
+    unfolding AreEntries
+    each first zero before entries after known i l = absurd (omega arith)
+    each first (suc n) before entries after (middle, front, last) i l = elim (cases_eq i n) [
+      | inl e ↦ (middle, after, [], subst (λ k. IsOne (first + k) middle (get_or entries k 0) after) (sym e) last, sym (append-nil after))
+      | inr other ↦
+          let old = each first n before entries middle front i (omega arith) in
+          let new = grows (first + n) middle (get_or entries n 0) after last in
+          (old.0, old.1, old.2 ++ new.0, old.3, new.1 ∙ (ap (λ x. x ++ new.0) old.4 ∙ append_assoc old.1 old.2 new.0))
+    ]
+
+  -- where those of one block are unique, all are
+  pub all_unique : ((block : ℕ) (before : List ℕ) (entry entry' : ℕ) (after after' : List ℕ) → IsOne block before entry after → IsOne block before entry' after'
+      → (entry ≡ entry') × (after ≡ after'))
+      → (first n : ℕ) (before entries entries' after after' : List ℕ) → AreEntries IsOne first n before entries after → AreEntries IsOne first n before entries' after'
+      → ((i : ℕ) → i < n → get_or entries i 0 ≡ get_or entries' i 0) × (after ≡ after')
+  unfolding AreEntries
+  all_unique one first zero before entries entries' after after' known known' = (λ i l. absurd (omega arith), known ∙ sym known')
+  all_unique one first (suc n) before entries entries' after after' (middle, front, last) (middle', front', last') =
+      let old = all_unique one first n before entries entries' middle middle' front front' in
+      let new = one (first + n) middle (get_or entries n 0) (get_or entries' n 0) after after' last
+      (subst (λ m. IsOne (first + n) m (get_or entries' n 0) after') (sym old.1) last') in (
+        λ i l. elim (cases_eq i n) [
+          | inl e ↦ ap (λ k. get_or entries k 0) e ∙ (new.0 ∙ ap (λ k. get_or entries' k 0) (sym e))
+          | inr other ↦ old.0 i (omega arith)
+        ],
+        new.1,
+      )
+
+-- ---- a node's place
+-- the marks of the node at a place
+abbrev pub marks_at : List ℕ → ℕ → ℕ
+marks_at words place = get_or words (place + 1) 0 * 2 ^ 32 + get_or words place 0
+
+-- where the entry of a part is
+abbrev pub part_at : List ℕ → ℕ → ℕ → ℕ
+part_at words place part = place + 1 + count_ones (marks_at words place / 2 ^ (63 - part))
+
+-- the node behind other words
+module _ (middle entries more : List ℕ) where
+  abbrev whole : List ℕ
+  whole = middle ++ node entries ++ more
+
+  behind : (i : ℕ) → get_or whole (length middle + i) 0 ≡ get_or (node entries ++ more) i 0
+  behind i =
+      let e : length middle + i - length middle ≡ i = omega arith in
+      ap (λ l. get_or l (length middle + i) 0) (append_assoc middle (node entries) more)
+      ∙ (get_or-append_right middle (node entries ++ more) (length middle) (length middle + i) 0 refl (omega arith) ∙ ap (λ k. get_or (node entries ++ more) k 0) e)
+
+  long : length middle + 2 + length (runs entries 64) ≤ length whole
+  long = omega (arith, length-append (middle ++ node entries) more, length-append middle (node entries))
+
+  marks_of : marks_at whole (length middle) ≡ marks entries 64
+  marks_of =
+      let here : length middle + 0 ≡ length middle = omega arith in
+      let low : get_or whole (length middle) 0 ≡ marks entries 64 % 2 ^ 32 = ap (λ i. get_or whole i 0) (sym here) ∙ behind 0 in
+      let high : get_or whole (length middle + 1) 0 ≡ marks entries 64 / 2 ^ 32 = behind 1 in
+      omega (arith, low, high, shr_split (marks entries 64) 32)
+
+  -- has the parts' entries
+  pub part_is : (part : ℕ) → part < 64 → (length middle + 1 < part_at whole (length middle) part) × (part_at whole (length middle) part < length whole)
+      × (get_or whole (part_at whole (length middle) part) 0 ≡ get_or entries part 0)
+  part_is part l =
+      let ones = count_ones (marks entries 64 / 2 ^ (63 - part)) in
+      let found = run_of entries 64 part l in
+      let less : 64 - 1 - part ≡ 63 - part = omega arith in
+      let same : count_ones (marks entries 64 / 2 ^ (64 - 1 - part)) ≡ ones = ap (λ j. count_ones (marks entries 64 / 2 ^ j)) less in
+      let at : part_at whole (length middle) part ≡ length middle + 1 + ones = ap (λ m. length middle + 1 + count_ones (m / 2 ^ (63 - part))) marks_of in
+      let c = ones - 1 in
+      let some : 0 < ones = omega (arith, same, found.0) in
+      let upto : ones ≤ length (runs entries 64) = omega (arith, same, found.1) in
+      let place : length middle + 1 + ones ≡ length middle + suc (suc c) = omega arith in
+      let c_is : count_ones (marks entries 64 / 2 ^ (64 - 1 - part)) - 1 ≡ c = ap (λ n. n - 1) same in (
+        omega (arith, at),
+        omega (arith, at, long),
+        ap (λ i. get_or whole i 0) (at ∙ place) ∙ (behind (suc (suc c)) ∙ (get_or_append_left (runs entries 64) more 0 c (omega arith)
+            ∙ (ap (λ i. get_or (runs entries 64) i 0) (sym c_is) ∙ found.2))),
+      )
+
+-- ---- what an entry leads to
+module _ (Has : (number value : ℕ) → Type 0) where
+  -- the parts of a node in these words lead on
+  abbrev pub AreParts : (words : List ℕ) (IsOne : (block entry : ℕ) → Type 0) (block place : ℕ) → Type 0
+  AreParts words IsOne block place = (part : ℕ) → part < 64
+      → (place + 1 < length words) × (part_at words place part < length words) × IsOne (block * 64 + part) (get_or words (part_at words place part) 0)
+
+  -- each number of the block is led to its value
+  unfoldable pub Leads : (words : List ℕ) (steps block entry : ℕ) → Type 0
+  Leads words zero block entry = AllHave Has zero block entry
+  Leads words (suc steps) block entry = AllHave Has (suc steps) block entry ⊎ ((2 ^ 31 ≤ entry) × AreParts words (Leads words steps) block (entry - 2 ^ 31))
+
+  -- an entry that is a value, and one that is a node
+  pub value_entry : (steps block : ℕ) (before : List ℕ) (value : ℕ) → AllHave Has steps block value → IsEntry Has steps block before value before
+  unfolding IsEntry
+  value_entry zero block before value all = (all, refl)
+  value_entry (suc steps) block before value all = inl (all, refl)
+
+  pub node_entry : (steps block : ℕ) (before : List ℕ) (entry : ℕ) (after entries middle : List ℕ) → 0 < steps → ¬ ((value : ℕ) × AllHave Has steps block value)
+      → AreEntries (IsEntry Has (steps - 1)) (block * 64) 64 before entries middle → entry ≡ 2 ^ 31 + length middle → after ≡ middle ++ node entries
+      → IsEntry Has steps block before entry after
+  unfolding IsEntry
+  node_entry zero block before entry after entries middle some none parts is put = absurd (omega arith)
+  node_entry (suc steps) block before entry after entries middle some none parts is put =
+      let one : suc steps - 1 ≡ steps = omega arith in
+      inr (none, (entries, middle, subst (λ n. AreEntries (IsEntry Has n) (block * 64) 64 before entries middle) one parts, is, put))
+
+  -- the words after an entry are those before it and more
+  pub grows : (steps block : ℕ) (before : List ℕ) (entry : ℕ) (after : List ℕ) → IsEntry Has steps block before entry after → (rest : List ℕ) × (after ≡ before ++ rest)
+  unfolding IsEntry
+  grows zero block before entry after known = ([], known.1 ∙ sym (append-nil before))
+  grows (suc steps) block before entry after (inl known) = ([], known.1 ∙ sym (append-nil before))
+  grows (suc steps) block before entry after (inr (none, (entries, middle, parts, is, all))) =
+      let front = all_grow (IsEntry Has steps) (grows steps) (block * 64) 64 before entries middle parts in
+      (front.0 ++ node entries, all ∙ (ap (λ x. x ++ node entries) front.1 ∙ append_assoc before front.0 (node entries)))
+
+  pub leads : (words : List ℕ) (steps block : ℕ) (before : List ℕ) (entry : ℕ) (after more : List ℕ) → IsEntry Has steps block before entry after → words ≡ after ++ more
+      → Leads words steps block entry
+  unfolding IsEntry Leads
+  leads words zero block before entry after more known all = known.0
+  leads words (suc steps) block before entry after more (inl known) all = inl known.0
+  leads words (suc steps) block before entry after more (inr (none, (entries, middle, parts, is, put))) all =
+      let whole_is : words ≡ middle ++ node entries ++ more = all ∙ ap (λ x. x ++ more) put in
+      let place : entry - 2 ^ 31 ≡ length middle = omega (arith, is) in
+      let known : AreParts words (Leads words steps) block (length middle) = λ part l.
+      let one = each (IsEntry Has steps) (grows steps) (block * 64) 64 before entries middle parts part l in
+      let rest = one.2 ++ (node entries ++ more) in
+      let to : words ≡ one.1 ++ rest = whole_is ∙ (append_assoc middle (node entries) more ∙ (ap (λ x. x ++ (node entries ++ more)) one.4 ∙ append_assoc one.1 one.2 (node entries ++ more))) in
+      let lead = leads words steps (block * 64 + part) one.0 (get_or entries part 0) one.1 rest one.3 to in
+      let found = part_is middle entries more part l in
+      let W : List ℕ → Type 0 = λ ws. (length middle + 1 < length ws) × (part_at ws (length middle) part < length ws) × (get_or ws (part_at ws (length middle) part) 0 ≡ get_or entries part 0) in
+      let in_words = subst W (sym whole_is) (omega (arith, found.0, found.1), found.1, found.2) in
+      (in_words.0, in_words.1, subst (λ e. Leads words steps (block * 64 + part) e) (sym in_words.2) lead) in
+      inr (omega (arith, is), subst (λ p. AreParts words (Leads words steps) block p) (sym place) known)
+
+  -- a value is that of a number of the block
+  pub led : (words : List ℕ) (steps number entry : ℕ) → Leads words steps (number / 2 ^ (6 * steps)) entry → entry < 2 ^ 31 → Has number entry
+  unfolding Leads
+  led words zero number entry known low = known.1 number refl
+  led words (suc steps) number entry (inl known) low = known.1 number refl
+  led words (suc steps) number entry (inr node) low = absurd (omega (arith, node.0))
+
+  -- a node leads on by the next six bits
+  abbrev pub NextOf : (words : List ℕ) (number place rest : ℕ) → Type 0
+  NextOf words number place rest = (place + 1 < length words) × (part_at words place (number / 2 ^ (6 * rest) % 64) < length words)
+      × Leads words rest (number / 2 ^ (6 * rest)) (get_or words (part_at words place (number / 2 ^ (6 * rest) % 64)) 0)
+
+  pub next : (words : List ℕ) (steps number entry : ℕ) → Leads words steps (number / 2 ^ (6 * steps)) entry → 2 ^ 31 ≤ entry
+      → (rest : ℕ) × (steps ≡ rest + 1) × NextOf words number (entry - 2 ^ 31) rest
+  unfolding Leads
+  next words zero number entry known high = absurd (omega (arith, known.0))
+  next words (suc steps) number entry (inl known) high = absurd (omega (arith, known.0))
+  next words (suc steps) number entry (inr (high', parts)) high =
+      let q = number / 2 ^ (6 * steps) in
+      let six : 6 * steps + 6 ≡ 6 * suc steps = omega arith in
+      let up : number / 2 ^ (6 * suc steps) ≡ q / 2 ^ 6 = ap (λ j. number / 2 ^ j) (sym six) ∙ sym (shr-shr number (6 * steps) 6) in
+      let is : number / 2 ^ (6 * suc steps) * 64 + q % 64 ≡ q = omega (arith, up, shr_split q 6) in
+      let here = parts (q % 64) (omega arith) in
+      (steps, omega arith, (here.0, here.1, subst (λ b. Leads words steps b (get_or words (part_at words (entry - 2 ^ 31) (q % 64)) 0)) is here.2))
+
+  -- ---- the words are unique
+  module _ (one_value : (number value value' : ℕ) → Has number value → Has number value' → value ≡ value') where
+    value_unique : (steps block value value' : ℕ) → AllHave Has steps block value → AllHave Has steps block value' → value ≡ value'
+    value_unique steps block value value' known known' =
+        let number = block * 2 ^ (6 * steps) in
+        let in_block : number / 2 ^ (6 * steps) ≡ block = shl-shr block (6 * steps) in
+        one_value number value value' (known.1 number in_block) (known'.1 number in_block)
+
+    pub unique : (steps block : ℕ) (before : List ℕ) (entry entry' : ℕ) (after after' : List ℕ) → IsEntry Has steps block before entry after
+        → IsEntry Has steps block before entry' after' → (entry ≡ entry') × (after ≡ after')
+    unfolding IsEntry
+    unique zero block before entry entry' after after' known known' = (value_unique zero block entry entry' known.0 known'.0, known.1 ∙ sym known'.1)
+    unique (suc steps) block before entry entry' after after' (inl known) (inl known') = (value_unique (suc steps) block entry entry' known.0 known'.0, known.1 ∙ sym known'.1)
+    unique (suc steps) block before entry entry' after after' (inl known) (inr other) = absurd (other.0 (entry, known.0))
+    unique (suc steps) block before entry entry' after after' (inr other) (inl known) = absurd (other.0 (entry', known.0))
+    unique (suc steps) block before entry entry' after after' (inr (none, (entries, middle, parts, is, put))) (inr (none', (entries', middle', parts', is', put'))) =
+        let all = all_unique (IsEntry Has steps) (unique steps) (block * 64) 64 before entries entries' middle middle' parts parts' in
+        let same = same_node entries' entries 64 all.0 in
+        let nodes : node entries ≡ node entries' = ap₂ (λ r m. m % 2 ^ 32 ∷ m / 2 ^ 32 ∷ r) same.0 same.1 in
+        (is ∙ (ap (λ m. 2 ^ 31 + length m) all.1 ∙ sym is'), put ∙ (ap₂ (λ m x. m ++ x) all.1 nodes ∙ sym put'))

@@ -1,0 +1,5 @@
+-- The lemmas: the runs of a node, what entries lead to, what blocks have, and their parts.
+pub mod Nodes
+pub mod Entries
+pub mod Ranges
+pub mod Blocks

@@ -1,0 +1,16 @@
+use Rattle.std.proofs.Common.{◌≡◌, ◌+◌, ◌-◌, ◌*◌, ◌^◌, ◌<◌, ◌≤◌, get_or, length, map}
+use Rattle.cidr_arrays.specs.Arrays.{key_networks}
+use Rattle.cidr_lookup.specs.Nodes.{AreEntries, IsEntry}
+use Rattle.cidr_lookup.specs.Tables.{IsAnswer}
+use Rattle.cidr_lookup.proofs.building.+entry_of.Given as goal
+
+abbrev pub decreases-entry_of : goal.decreases-entry_of
+decreases-entry_of g l = l.steps
+
+abbrev pub invariant-loop-part : goal.invariant-loop-part
+invariant-loop-part g l = record {
+  long : length l.entries ≡ 64;
+  near : l.near < length l.starts;
+  upto : get_or (map g.A.Word.value l.starts) l.near 0 * 2 ^ g.A.Address.zeros ≤ (l.block * 64 + l.part) * 2 ^ (6 * (l.steps - 1));
+  entries : AreEntries (IsEntry (IsAnswer g.A.Word.width g.A.Address.zeros (key_networks g.A.Word.value l.keys)) (l.steps - 1)) (l.block * 64) l.part (g.S.Sink.put l.fn.sink) l.entries (g.S.Sink.put l.sink);
+}

@@ -1,0 +1,11 @@
+use Rattle.std.proofs.Common.{◌*◌, ◌-◌, ◌^◌, ◌<◌, ◌≤◌, get_or, length, map}
+use Rattle.cidr_lookup.proofs.building.last_upto.Given as goal
+
+abbrev pub invariant-loop-range : goal.invariant-loop-range
+invariant-loop-range g l = record {
+  within : l.range < length l.starts;
+  upto : get_or (map g.A.Word.value l.starts) l.range 0 * 2 ^ g.A.Address.zeros ≤ l.number;
+}
+
+abbrev pub decreases-loop-range : goal.decreases-loop-range
+decreases-loop-range g l = length l.starts - l.range

@@ -1,0 +1,13 @@
+use Rattle.std.proofs.Common.{◌≡◌, ◌*◌, ◌^◌, ◌<◌, ◌≤◌, [], get_or, length, map}
+use Rattle.cidr_arrays.specs.Arrays.{key_networks}
+use Rattle.cidr_lookup.specs.Nodes.{AreEntries, IsEntry}
+use Rattle.cidr_lookup.specs.Tables.{IsAnswer}
+use Rattle.cidr_lookup.proofs.building.put_table.Given as goal
+
+abbrev pub invariant-loop-block : goal.invariant-loop-block
+invariant-loop-block g l = record {
+  near : l.near < length l.starts;
+  upto : get_or (map g.A.Word.value l.starts) l.near 0 * 2 ^ g.A.Address.zeros ≤ l.block * 2 ^ (6 * l.steps);
+  long : length (g.F.Sink.put l.first) ≡ l.block;
+  entries : AreEntries (IsEntry (IsAnswer g.A.Word.width g.A.Address.zeros (key_networks g.A.Word.value l.keys)) l.steps) 0 l.block [] (g.F.Sink.put l.first) (g.S.Sink.put l.words);
+}

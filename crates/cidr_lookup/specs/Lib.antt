@@ -1,0 +1,3 @@
+-- What has to be believed: which words are a look-up table.
+pub mod Nodes
+pub mod Tables

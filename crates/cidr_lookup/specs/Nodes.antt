@@ -1,0 +1,49 @@
+-- A look-up table in words of 32 bits. A word below 2 ^ 31 is a value; another is 2 ^ 31 and the place of a node among the words.
+use Rattle.std.specs.Prelude.{◌≡◌, ℕ, zero, suc, ◌+◌, ◌-◌, ◌*◌, ◌/◌, ◌%◌, ◌^◌, ◌<◌, ◌⊎◌, ◌==◌, ◌||◌, Bool, not, if◌then◌else◌, List, [], ◌∷◌, ◌++◌, length, slice_index_or}
+
+-- ---- a node: entries of 64 parts, of which those one behind the other that are the same are a run
+-- whether a part begins a run
+abbrev pub begins_run : List ℕ → ℕ → Bool
+begins_run entries i = (i == 0) || not (slice_index_or entries i 0 == slice_index_or entries (i - 1) 0)
+
+-- the entry of each run of the first n parts
+unfoldable pub runs : List ℕ → ℕ → List ℕ
+runs entries zero = []
+runs entries (suc n) = if begins_run entries n then runs entries n ++ slice_index_or entries n 0 ∷ [] else runs entries n
+
+-- a bit for each of the first n parts, the first the highest: whether it begins a run
+unfoldable pub marks : List ℕ → ℕ → ℕ
+marks entries zero = 0
+marks entries (suc n) = marks entries n * 2 + (if begins_run entries n then 1 else 0)
+
+-- the words of a node: the lower and the higher 32 marks, and the runs
+abbrev pub node : List ℕ → List ℕ
+node entries = marks entries 64 % 2 ^ 32 ∷ marks entries 64 / 2 ^ 32 ∷ runs entries 64
+
+-- ---- entries: what the words before one and those after it are, where the words that it needs are put behind those before
+-- the entries of n blocks from one on, each with its words behind those of the one before it
+module _ (IsOne : (block : ℕ) (before : List ℕ) (entry : ℕ) (after : List ℕ) → Type 0) where
+  unfoldable pub AreEntries : (first n : ℕ) (before entries after : List ℕ) → Type 0
+  AreEntries first zero before entries after = after ≡ before
+  AreEntries first (suc n) before entries after =
+      (middle : List ℕ) × AreEntries first n before entries middle × IsOne (first + n) middle (slice_index_or entries n 0) after
+
+  -- the entry of a block that is a node of its 64 parts, whose words stand before the node's own
+  abbrev pub IsNode : (block : ℕ) (before : List ℕ) (entry : ℕ) (after : List ℕ) → Type 0
+  IsNode block before entry after = (entries : List ℕ) × (middle : List ℕ) × AreEntries (block * 64) 64 before entries middle
+      × (entry ≡ 2 ^ 31 + length middle) × (after ≡ middle ++ node entries)
+
+module _ (Has : (number value : ℕ) → Type 0) where
+  -- each number of a block of 64 ^ steps has the value
+  abbrev pub AllHave : (steps block value : ℕ) → Type 0
+  AllHave steps block value = (value < 2 ^ 31) × ((number : ℕ) → number / 2 ^ (6 * steps) ≡ block → Has number value)
+
+  -- the value of the block, for which no word is needed
+  abbrev pub IsValue : (steps block : ℕ) (before : List ℕ) (entry : ℕ) (after : List ℕ) → Type 0
+  IsValue steps block before entry after = AllHave steps block entry × (after ≡ before)
+
+  -- the entry of a block: its value, where all numbers have one, and else a node
+  unfoldable pub IsEntry : (steps block : ℕ) (before : List ℕ) (entry : ℕ) (after : List ℕ) → Type 0
+  IsEntry zero block before entry after = IsValue zero block before entry after
+  IsEntry (suc steps) block before entry after = IsValue (suc steps) block before entry after
+      ⊎ ((¬ ((value : ℕ) × AllHave (suc steps) block value)) × IsNode (IsEntry steps) block before entry after)

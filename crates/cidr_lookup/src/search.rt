@@ -1,0 +1,81 @@
+//! The longest match of an address.
+ghost use Rattle.std.specs.Prelude.{◌≡◌, ℕ, ◌*◌, ◌^◌, List};
+ghost use Rattle.cidr.specs.model.Bits.{bits};
+ghost use Rattle.cidr_table.specs.model.Prefixes.{IsLongestMatch};
+ghost use Rattle.cidr_arrays.specs.Arrays.{prefix_bits, row_of};
+ghost use Rattle.cidr_lookup.specs.Tables.{IsAnswer, IsLookupTable};
+
+use crate::address::Address;
+use crate::words::Words;
+
+/// The least word that is the place of a node.
+pub(crate) const PLACE: u32 = 1 << 31;
+
+/// How many steps an address of 128 bits may take.
+const MOST_STEPS: u32 = 21;
+
+/// The longest match.
+#[inline(always)]
+pub fn find<A: Address, T: Words>(first: &T, words: &T, steps: u32, address: A) -> Option<usize>
+    ensures { (networks : List (ℕ × ℕ))
+        → IsLookupTable A.width A.zeros steps networks (T.words first.now) (T.words words.now)
+        → IsLongestMatch (prefix_bits A.width) (bits A.width (A.value address)) networks result }
+{
+    row(value_of(first, words, steps, address))
+}
+
+/// What a value says.
+#[inline(always)]
+fn row(value: u32) -> Option<usize>
+    ensures { result ≡ row_of value }
+{
+    if value == 0 {
+        return None;
+    }
+    Some((value - 1) as usize)
+}
+
+/// The value of an address.
+#[inline(always)]
+fn value_of<A: Address, T: Words>(first: &T, words: &T, steps: u32, address: A) -> u32
+    ensures { (networks : List (ℕ × ℕ))
+        → IsLookupTable A.width A.zeros steps networks (T.words first.now) (T.words words.now)
+        → IsAnswer A.width A.zeros networks (A.value address * 2 ^ A.zeros) result }
+{
+    address.padded();
+    let width = A::padded_width();
+    if steps > MOST_STEPS {
+        return 0;
+    }
+    let shift = 6 * steps;
+    if shift >= width {
+        return 0;
+    }
+    if width - shift > 64 {
+        return 0;
+    }
+    let at = address.block(shift);
+    if at >= first.len() {
+        return 0;
+    }
+    let mut entry = first.word(at);
+    let mut left = shift;
+    while entry >= PLACE {
+        if left < 6 {
+            return 0;
+        }
+        left -= 6;
+        let place = (entry - PLACE) as usize;
+        if place + 1 >= words.len() {
+            return 0;
+        }
+        let marks = u64::from(words.word(place + 1)) * (1 << 32) + u64::from(words.word(place));
+        let upto = marks >> (63 - address.digit(left));
+        let next = place + 1 + upto.count_ones() as usize;
+        if next >= words.len() {
+            return 0;
+        }
+        entry = words.word(next);
+    }
+    entry
+}

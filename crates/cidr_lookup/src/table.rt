@@ -1,0 +1,90 @@
+//! Look-up tables of keys.
+ghost use Rattle.std.specs.Prelude.{◌^◌, ◌<◌, length, map, IfOk, IfErr};
+ghost use Rattle.cidr_arrays.specs.Arrays.{AreAscendingNetworks, AreMatchRanges, key_networks};
+ghost use Rattle.cidr_lookup.specs.Tables.{IsLookupTable, IsTableRefused};
+
+use crate::address::Address;
+use crate::building::put_table;
+use crate::words::Stop;
+use cidr_arrays::{BuildError, Key};
+use std::alloc::Global;
+
+/// The words of a look-up table.
+#[derive(Drop)]
+pub struct LookupTable {
+    /// The entries of the blocks that an address' first bits choose.
+    pub first: Vec<u32>,
+    /// The nodes.
+    pub words: Vec<u32>,
+    /// How many steps of six bits are behind the first bits.
+    pub steps: u32,
+}
+
+/// Why no table was built.
+#[derive(Debug, Drop, PartialEq)]
+pub enum TableError {
+    /// There are more than 2,147,483,647 keys.
+    TooMany,
+    /// The key at this index, counted from 0, is no network, or doesn't come after the one before it: the first such
+    /// key.
+    Refused(usize),
+    /// The nodes take 2,147,483,648 words or more.
+    TooLarge,
+    /// An allocation failed. It may come before each of the others but the first.
+    NoMemory,
+}
+
+/// The look-up table of keys that ascend.
+pub fn build<A: Address>(alloc: Global, keys: &[Key<A>]) -> Result<LookupTable, TableError>
+    ensures table { IfOk result (λ table. IsLookupTable A.width A.zeros table.steps (key_networks A.value keys.now) table.first.items table.words.items) }
+    ensures few { IfOk result (λ _. length keys.now < 2 ^ 31) }
+    ensures refused { IfErr result (IsTableRefused A.width (key_networks A.value keys.now)) }
+{
+    if keys.len() >= 1 << 31 {
+        return Err(TableError::TooMany);
+    }
+    let most = 2 * keys.len() + 1;
+    let Ok(mut starts) = vec![in alloc; A::of(0); most] else {
+        return Err(TableError::NoMemory);
+    };
+    let Ok(mut answers) = vec![in alloc; 0; most] else {
+        return Err(TableError::NoMemory);
+    };
+    match cidr_arrays::build(keys, starts.as_mut_slice(), answers.as_mut_slice()) {
+        Ok(count) => of_ranges(alloc, keys, &starts[..count], &answers[..count]),
+        Err(BuildError::TooMany) => Err(TableError::TooMany),
+        Err(BuildError::Refused(place)) => Err(TableError::Refused(place)),
+        Err(BuildError::NoRoom) => unreachable!(),
+    }
+}
+
+/// The look-up table of keys with these ranges.
+fn of_ranges<A: Address>(
+    alloc: Global,
+    keys: &[Key<A>],
+    starts: &[A],
+    answers: &[u32],
+) -> Result<LookupTable, TableError>
+    requires keys { AreAscendingNetworks A.width (key_networks A.value keys.now) }
+    requires ranges { AreMatchRanges A.width (key_networks A.value keys.now) (map A.value starts.now) answers.now }
+    requires number { length keys.now < 2 ^ 31 }
+    ensures table { IfOk result (λ table. IsLookupTable A.width A.zeros table.steps (key_networks A.value keys.now) table.first.items table.words.items) }
+    ensures refused { IfErr result (IsTableRefused A.width (key_networks A.value keys.now)) }
+{
+    let steps = A::steps_for(keys.len());
+    let mut first = Vec::new(alloc);
+    let mut words = Vec::new(alloc);
+    match put_table(keys, starts, answers, &mut first, &mut words, steps) {
+        Ok(()) => {
+            first.shrink_to_fit();
+            words.shrink_to_fit();
+            Ok(LookupTable {
+                first,
+                words,
+                steps,
+            })
+        }
+        Err(Stop::TooMany) => Err(TableError::TooLarge),
+        Err(Stop::Refused) => Err(TableError::NoMemory),
+    }
+}
