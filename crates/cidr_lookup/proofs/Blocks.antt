@@ -3,7 +3,7 @@ use Rattle.std.proofs.Common.{◌≡◌, sym, ap, ◌∙◌, arith, inl, inr, �
 use Rattle.std.proofs.Math.Nat.{mod-eq_of_lt, mul_assoc}
 use Rattle.std.proofs.Math.Pow.{pow_mono}
 use Rattle.std.proofs.lemmas.Bool.{cases_lt}
-use Rattle.std.proofs.lemmas.Nat.{pow_pos, pow-add, mul-le, one_shl}
+use Rattle.std.proofs.lemmas.Nat.{pow_pos, pow-add, mul-le, one_shl, shl-shr}
 
 power : (steps : ℕ) → 0 < steps → 2 ^ (6 * steps) ≡ 64 * 2 ^ (6 * (steps - 1))
 power steps some =
@@ -73,3 +73,8 @@ all_blocks steps size width is some few =
 -- and one of them fits
 pub block_fits : (steps size count block : ℕ) → count * 2 ^ (6 * steps) ≡ 2 ^ size → block < count → (block + 1) * 2 ^ (6 * steps) ≤ 2 ^ size
 block_fits steps size count block all l = omega (arith, mul-le (block + 1) (2 ^ (6 * steps)) count (2 ^ (6 * steps)) (omega arith) (omega arith))
+
+-- there is one count of them
+pub one_count : (steps all count count' : ℕ) → count * 2 ^ (6 * steps) ≡ all → count' * 2 ^ (6 * steps) ≡ all → count ≡ count'
+one_count steps all count count' is is' =
+    sym (shl-shr count (6 * steps)) ∙ (ap (λ n. n / 2 ^ (6 * steps)) (is ∙ sym is') ∙ shl-shr count' (6 * steps))

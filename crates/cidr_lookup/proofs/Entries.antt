@@ -1,9 +1,10 @@
 -- What an entry leads to, and that the words of entries are unique.
-use Rattle.std.proofs.Common.{◌≡◌, refl, sym, ap, ap₂, subst, ◌∙◌, arith, inl, inr, ℕ, zero, suc, ◌+◌, ◌-◌, ◌*◌, ◌/◌, ◌%◌, ◌^◌, ◌<◌, ◌≤◌, ◌⊎◌, List, [], ◌∷◌, ◌++◌, length, get_or, count_ones, append_assoc, length-append}
+use Rattle.std.proofs.Common.{◌≡◌, refl, sym, ap, ap₂, subst, ◌∙◌, arith, inl, inr, ℕ, zero, suc, ◌+◌, ◌-◌, ◌*◌, ◌/◌, ◌%◌, ◌^◌, ◌<◌, ◌≤◌, ◌⊎◌, List, [], ◌∷◌, ◌++◌, length, get_or, get_or-take, take, drop, length-take-le, ext_get_or, take-append-drop, count_ones, append_assoc, length-append}
 use Rattle.std.proofs.lemmas.Bool.{cases_eq}
-use Rattle.std.proofs.lemmas.List.{append-nil, get_or_append_left, get_or-append_right}
+use Rattle.std.proofs.lemmas.List.{append-nil, drop_more, get_or_append_left, get_or-append_right}
 use Rattle.std.proofs.lemmas.Nat.{shl-shr, shr-shr, shr_split}
-use Rattle.cidr_lookup.specs.Nodes.{AreEntries, AllHave, IsEntry, node, marks, runs}
+use Rattle.cidr_lookup.specs.Nodes.{AreEntries, AllHave, IsNode, IsEntry, node, marks, runs}
+use Rattle.cidr_lookup.specs.Putting.{StopsBefore}
 use Rattle.cidr_lookup.proofs.Nodes.{run_of, same_node}
 
 -- ---- entries of several blocks
@@ -76,6 +77,41 @@ module _ (IsOne : (block : ℕ) (before : List ℕ) (entry : ℕ) (after : List 
         ],
         new.1,
       )
+
+  -- and so is the next entry of those that are put
+  pub all_before : ((block : ℕ) (before : List ℕ) (entry : ℕ) (after : List ℕ) → IsOne block before entry after → (rest : List ℕ) × (after ≡ before ++ rest))
+      → ((block : ℕ) (before : List ℕ) (entry entry' : ℕ) (after after' : List ℕ) → IsOne block before entry after → IsOne block before entry' after'
+      → (entry ≡ entry') × (after ≡ after'))
+      → (first n m : ℕ) (before put entries middle after : List ℕ) → n < m → AreEntries IsOne first n before put middle → AreEntries IsOne first m before entries after
+      → (next : List ℕ) × (rest : List ℕ) × IsOne (first + n) middle (get_or entries n 0) next × (after ≡ next ++ rest)
+  unfolding AreEntries
+  all_before grow one first n zero before put entries middle after l known all = absurd (omega arith)
+  all_before grow one first n (suc m) before put entries middle after l known (front, start, last) = elim (cases_eq n m) [
+    | inl e ↦
+        let start' = subst (λ k. AreEntries IsOne first k before entries front) (sym e) start in
+        let same : front ≡ middle = (all_unique one first n before entries put front middle start' known).1 in
+        (after, [], subst (λ x. IsOne (first + n) x (get_or entries n 0) after) same (subst (λ k. IsOne (first + k) front (get_or entries k 0) after) (sym e) last), sym (append-nil after))
+    | inr other ↦
+        let old = all_before grow one first n m before put entries middle front (omega arith) known start in
+        let new = grow (first + m) front (get_or entries m 0) after last in
+        (old.0, old.1 ++ new.0, old.2, new.1 ∙ (ap (λ x. x ++ new.0) old.3 ∙ append_assoc old.0 old.1 new.0))
+  ]
+
+  -- the first of them
+  pub all_first_part : (first n m : ℕ) (before entries after : List ℕ) → n ≤ m → AreEntries IsOne first m before entries after → (middle : List ℕ) × AreEntries IsOne first n before entries middle
+  unfolding AreEntries
+  all_first_part first n zero before entries after le all = let z : n ≡ 0 = omega arith in (before, subst (λ k. AreEntries IsOne first k before entries before) (sym z) refl)
+  all_first_part first n (suc m) before entries after le (front, start, last) = elim (cases_eq n (suc m)) [
+    | inl e ↦ (after, subst (λ k. AreEntries IsOne first k before entries after) (sym e) (front, start, last))
+    | inr other ↦ all_first_part first n m before entries front (omega arith) start
+  ]
+
+-- what stops before some of the words does before all
+pub stops_more : (put : List ℕ) (Refuses : ℕ → Type 0) (some all rest : List ℕ) → all ≡ some ++ rest → StopsBefore put Refuses some → StopsBefore put Refuses all
+stops_more put Refuses some all rest is (inl (word, more, whole, refused)) =
+    inl (word, more ++ rest, is ∙ (ap (λ x. x ++ rest) whole ∙ append_assoc put (word ∷ more) rest), refused)
+stops_more put Refuses some all rest is (inr (full, (more, whole))) =
+    inr (full, (more ++ rest, is ∙ (ap (λ x. x ++ rest) whole ∙ append_assoc put more rest)))
 
 -- ---- a node's place
 -- the marks of the node at a place
@@ -154,6 +190,16 @@ module _ (Has : (number value : ℕ) → Type 0) where
       let one : suc steps - 1 ≡ steps = omega arith in
       inr (none, (entries, middle, subst (λ n. AreEntries (IsEntry Has n) (block * 64) 64 before entries middle) one parts, is, put))
 
+  -- which it is where no value is
+  pub node_of : (steps block : ℕ) (before : List ℕ) (entry : ℕ) (after : List ℕ) → 0 < steps → ¬ ((value : ℕ) × AllHave Has steps block value)
+      → IsEntry Has steps block before entry after → IsNode (IsEntry Has (steps - 1)) block before entry after
+  unfolding IsEntry
+  node_of zero block before entry after some none known = absurd (omega arith)
+  node_of (suc steps) block before entry after some none (inl known) = absurd (none (entry, known.0))
+  node_of (suc steps) block before entry after some none (inr known) =
+      let one : suc steps - 1 ≡ steps = omega arith in
+      subst (λ n. IsNode (IsEntry Has n) block before entry after) (sym one) known.1
+
   -- the words after an entry are those before it and more
   pub grows : (steps block : ℕ) (before : List ℕ) (entry : ℕ) (after : List ℕ) → IsEntry Has steps block before entry after → (rest : List ℕ) × (after ≡ before ++ rest)
   unfolding IsEntry
@@ -227,3 +273,57 @@ module _ (Has : (number value : ℕ) → Type 0) where
         let same = same_node entries' entries 64 all.0 in
         let nodes : node entries ≡ node entries' = ap₂ (λ r m. m % 2 ^ 32 ∷ m / 2 ^ 32 ∷ r) same.0 same.1 in
         (is ∙ (ap (λ m. 2 ^ 31 + length m) all.1 ∙ sym is'), put ∙ (ap₂ (λ m x. m ++ x) all.1 nodes ∙ sym put'))
+
+    -- ---- a word that is not taken, of a block in which a range begins
+    module _ (steps block : ℕ) (before : List ℕ) (entry : ℕ) (after entries put : List ℕ) (part : ℕ) (some : 0 < steps) (none : ¬ ((value : ℕ) × AllHave Has steps block value))
+        (known : IsEntry Has steps block before entry after) (parts : AreEntries (IsEntry Has (steps - 1)) (block * 64) part before entries put) (new : List ℕ) (Refuses : ℕ → Type 0) where
+      -- in a part
+      pub stops_in_part : part < 64 → ((entry : ℕ) (next : List ℕ) → IsEntry Has (steps - 1) (block * 64 + part) put entry next → StopsBefore new Refuses next) → StopsBefore new Refuses after
+      stops_in_part l stopped =
+          let made = node_of steps block before entry after some none known in
+          let on = all_before (IsEntry Has (steps - 1)) (grows (steps - 1)) (unique (steps - 1)) (block * 64) part 64 before entries made.0 put made.1 l parts made.2 in
+          stops_more new Refuses on.0 after (on.1 ++ node made.0) (made.4 ∙ (ap (λ x. x ++ node made.0) on.3 ∙ append_assoc on.0 on.1 (node made.0)))
+          (stopped (get_or made.0 part 0) on.0 on.2)
+
+      -- in the node itself
+      module _ (all_parts : part ≡ 64) where
+        own_node : (after ≡ put ++ node entries)
+        own_node =
+            let made = node_of steps block before entry after some none known in
+            let parts' = subst (λ n. AreEntries (IsEntry Has (steps - 1)) (block * 64) n before entries put) all_parts parts in
+            let both = all_unique (IsEntry Has (steps - 1)) (unique (steps - 1)) (block * 64) 64 before made.0 entries made.1 put made.2 parts' in
+            let same = same_node entries made.0 64 both.0 in
+            made.4 ∙ (ap (λ x. x ++ node made.0) both.1 ∙ ap₂ (λ r m. put ++ m % 2 ^ 32 ∷ m / 2 ^ 32 ∷ r) same.0 same.1)
+
+        pub stops_in_node : StopsBefore new Refuses (put ++ node entries) → StopsBefore new Refuses after
+        stops_in_node stopped = subst (λ x. StopsBefore new Refuses x) (sym own_node) stopped
+
+        pub stops_at_place : new ≡ put → 2 ^ 31 ≤ length put → StopsBefore new Refuses after
+        stops_at_place same full = inr (omega (arith, ap length same), (node entries, own_node ∙ ap (λ x. x ++ node entries) (sym same)))
+
+    -- ---- an entry that is not taken, of all blocks
+    module _ (steps count : ℕ) (all_first all_words first words : List ℕ) (n : ℕ) (all : AreEntries (IsEntry Has steps) 0 count [] all_first all_words)
+        (known : AreEntries (IsEntry Has steps) 0 n [] first words) (l : n < count) where
+      next_block : (next : List ℕ) × (rest : List ℕ) × IsEntry Has steps (0 + n) words (get_or all_first n 0) next × (all_words ≡ next ++ rest)
+      next_block = all_before (IsEntry Has steps) (grows steps) (unique steps) 0 n count [] first all_first words all_words l known all
+
+      -- its words
+      pub stops_in_block : (new : List ℕ) (Refuses : ℕ → Type 0) → ((entry : ℕ) (next : List ℕ) → IsEntry Has steps (0 + n) words entry next → StopsBefore new Refuses next)
+          → StopsBefore new Refuses all_words
+      stops_in_block new Refuses stopped = stops_more new Refuses next_block.0 all_words next_block.1 next_block.3 (stopped (get_or all_first n 0) next_block.0 next_block.2)
+
+      -- itself
+      pub stops_at_entry : (new : List ℕ) (Refuses : ℕ → Type 0) (entry : ℕ) (after : List ℕ) → length all_first ≡ count → length first ≡ n → IsEntry Has steps (0 + n) words entry after
+          → new ≡ first → Refuses entry → StopsBefore new Refuses all_first
+      stops_at_entry new Refuses entry after size long made same refused =
+          let is : get_or all_first n 0 ≡ entry = (unique steps (0 + n) words (get_or all_first n 0) entry next_block.0 after next_block.2 made).0 in
+          let front : take n all_first ≡ first = ext_get_or 0 (take n all_first) first (length-take-le n all_first (omega arith) ∙ sym long) (λ i lt.
+          get_or-take n all_first i 0 (omega (arith, length-take-le n all_first (omega arith), lt)) ∙ before i (omega (arith, length-take-le n all_first (omega arith), lt))) in
+          let whole : all_first ≡ take n all_first ++ (get_or all_first n 0 ∷ drop (n + 1) all_first) =
+          sym (take-append-drop n all_first) ∙ ap (λ x. take n all_first ++ x) (drop_more all_first n 0 (omega arith)) in
+          inl (entry, drop (n + 1) all_first, whole ∙ ap₂ (λ f e. f ++ e ∷ drop (n + 1) all_first) (front ∙ sym same) is, refused)
+        where
+          before : (i : ℕ) → i < n → get_or all_first i 0 ≡ get_or first i 0
+          before i lt =
+              let cut = all_first_part (IsEntry Has steps) 0 n count [] all_first all_words (omega arith) all in
+              (all_unique (IsEntry Has steps) (unique steps) 0 n [] all_first first cut.0 words cut.1 known).0 i lt

@@ -3,3 +3,4 @@ pub mod Nodes
 pub mod Entries
 pub mod Ranges
 pub mod Blocks
+pub mod Tables

@@ -1,10 +1,12 @@
 -- The runs of a node, which are counted by its marks.
-use Rattle.std.proofs.Common.{◌≡◌, refl, sym, ap, ap₂, subst, ◌∙◌, arith, inl, inr, Bool, ℕ, zero, suc, ◌+◌, ◌-◌, ◌*◌, ◌/◌, ◌%◌, ◌^◌, ◌<◌, ◌≤◌, ◌==◌, ◌||◌, not, if◌then◌else◌, List, [], ◌∷◌, ◌++◌, length, get_or, count_ones, append_assoc, length-append}
+use Rattle.std.proofs.Common.{◌≡◌, refl, sym, ap, ap₂, subst, ◌∙◌, arith, inl, inr, Bool, true, Result, Ok, Err, ℕ, zero, suc, ◌+◌, ◌-◌, ◌*◌, ◌/◌, ◌%◌, ◌^◌, ◌<◌, ◌≤◌, ◌==◌, ◌||◌, not, if◌then◌else◌, List, [], ◌∷◌, ◌++◌, length, get_or, count_ones, append_assoc, length-append}
 use Rattle.std.proofs.Math.Nat.{pow-succ'}
 use Rattle.std.proofs.lemmas.Bool.{cases_Bool, cases_eq, cond-true, cond-false, eqb-true, or_parts, not-false, cond_both}
-use Rattle.std.proofs.lemmas.List.{get_or_append_left, get_or_push}
+use Rattle.std.proofs.lemmas.List.{append-nil, get_or_append_left, get_or_push}
 use Rattle.std.proofs.lemmas.Nat.{shr-shr, shr_high, ones_cat, ones_le_self, zero_from_ones}
+use Rattle.std.specs.Result.{OnErr}
 use Rattle.cidr_lookup.specs.Nodes.{begins_run, runs, marks, node}
+use Rattle.cidr_lookup.specs.Putting.{StopsBefore}
 
 abbrev pub mark : Bool → ℕ
 mark b = if b then 1 else 0
@@ -158,3 +160,51 @@ put_node entries front one two all number part marked whole first second rest =
     let joined : two ++ runs entries part ≡ front ++ low ∷ high ∷ runs entries part =
     ap (λ x. x ++ runs entries part) (second ∙ ap (λ x. x ++ high ∷ []) first) ∙ (append_assoc (front ++ low ∷ []) (high ∷ []) (runs entries part) ∙ append_assoc front (low ∷ []) (high ∷ runs entries part)) in
     rest ∙ (joined ∙ ap₂ (λ m n. front ++ m % 2 ^ 32 ∷ m / 2 ^ 32 ∷ runs entries n) marked whole)
+
+-- the runs go on from those of fewer parts
+pub runs_go_on : (entries : List ℕ) (n k : ℕ) → k ≤ n → (rest : List ℕ) × (runs entries n ≡ runs entries k ++ rest)
+unfolding runs
+runs_go_on entries zero k le = let z : k ≡ zero = omega arith in ([], ap (runs entries) (sym z) ∙ sym (append-nil (runs entries k)))
+runs_go_on entries (suc n) k le = elim (cases_eq k (suc n)) [
+  | inl e ↦ ([], ap (runs entries) (sym e) ∙ sym (append-nil (runs entries k)))
+  | inr less ↦
+      let old = runs_go_on entries n k (omega arith) in
+      cond_both (begins_run entries n) (runs entries n ++ get_or entries n 0 ∷ []) (runs entries n) (λ xs. (rest : List ℕ) × (xs ≡ runs entries k ++ rest))
+      (λ _. (old.0 ++ get_or entries n 0 ∷ [], ap (λ x. x ++ get_or entries n 0 ∷ []) old.1 ∙ append_assoc (runs entries k) old.0 (get_or entries n 0 ∷ [])))
+      (λ _. old)
+]
+
+-- what is known of a call that failed
+pub on_err : {T E P : Type 0} (r : Result T E) → P → OnErr r P
+on_err (Ok value) known = tt
+on_err (Err error) known = known
+
+-- ---- a word of a node that is not taken
+module _ (Refuses : ℕ → Type 0) where
+  pub stops_low : (entries front new : List ℕ) (number : ℕ) → number ≡ marks entries 64 → new ≡ front → Refuses (number % 2 ^ 32) → StopsBefore new Refuses (front ++ node entries)
+  stops_low entries front new number marked same refused =
+      inl (number % 2 ^ 32, marks entries 64 / 2 ^ 32 ∷ runs entries 64, ap₂ (λ f m. f ++ m % 2 ^ 32 ∷ marks entries 64 / 2 ^ 32 ∷ runs entries 64) (sym same) (sym marked), refused)
+
+  pub stops_high : (entries front one new : List ℕ) (number : ℕ) → number ≡ marks entries 64 → one ≡ front ++ number % 2 ^ 32 ∷ [] → new ≡ one → Refuses (number / 2 ^ 32)
+      → StopsBefore new Refuses (front ++ node entries)
+  stops_high entries front one new number marked first same refused =
+      let low = number % 2 ^ 32 in
+      let high = number / 2 ^ 32 in
+      let whole : new ++ high ∷ runs entries 64 ≡ front ++ low ∷ high ∷ runs entries 64 = ap (λ x. x ++ high ∷ runs entries 64) (same ∙ first) ∙ append_assoc front (low ∷ []) (high ∷ runs entries 64) in
+      inl (high, runs entries 64, sym (whole ∙ ap (λ m. front ++ m % 2 ^ 32 ∷ m / 2 ^ 32 ∷ runs entries 64) marked), refused)
+
+  pub stops_run : (entries front one two put new : List ℕ) (number part : ℕ) → number ≡ marks entries 64 → part < 64 → one ≡ front ++ number % 2 ^ 32 ∷ []
+      → two ≡ one ++ number / 2 ^ 32 ∷ [] → put ≡ two ++ runs entries part → new ≡ put → begins_run entries part ≡ true → Refuses (get_or entries part 0)
+      → StopsBefore new Refuses (front ++ node entries)
+  stops_run entries front one two put new number part marked l first second rest same begins refused =
+      let low = number % 2 ^ 32 in
+      let high = number / 2 ^ 32 in
+      let e = get_or entries part 0 in
+      let on = runs_go_on entries 64 (part + 1) (omega arith) in
+      let more : runs entries (part + 1) ≡ runs entries part ++ e ∷ [] = runs_more entries part ∙ cond-true (begins_run entries part) (runs entries part ++ e ∷ []) (runs entries part) begins in
+      let all : runs entries 64 ≡ runs entries part ++ e ∷ on.0 = on.1 ∙ (ap (λ x. x ++ on.0) more ∙ append_assoc (runs entries part) (e ∷ []) on.0) in
+      let two_is : two ≡ front ++ low ∷ high ∷ [] = second ∙ (ap (λ x. x ++ high ∷ []) first ∙ append_assoc front (low ∷ []) (high ∷ [])) in
+      let whole : new ++ e ∷ on.0 ≡ front ++ low ∷ high ∷ (runs entries part ++ e ∷ on.0) =
+      ap (λ x. x ++ e ∷ on.0) (same ∙ (rest ∙ ap (λ x. x ++ runs entries part) two_is))
+      ∙ (append_assoc (front ++ low ∷ high ∷ []) (runs entries part) (e ∷ on.0) ∙ append_assoc front (low ∷ high ∷ []) (runs entries part ++ e ∷ on.0)) in
+      inl (e, on.0, sym (whole ∙ ap₂ (λ m r. front ++ m % 2 ^ 32 ∷ m / 2 ^ 32 ∷ r) marked (sym all)), refused)

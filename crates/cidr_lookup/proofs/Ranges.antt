@@ -12,6 +12,7 @@ use Rattle.cidr_arrays.specs.Passing.{HasNumber, at}
 use Rattle.cidr_arrays.proofs.Longest.{inside, length_network, row_within}
 use Rattle.cidr_arrays.proofs.Numbers.{nests}
 use Rattle.cidr_lookup.specs.Nodes.{AllHave}
+use Rattle.cidr_lookup.proofs.Blocks.{cut, whole_number}
 use Rattle.cidr_lookup.specs.Tables.{IsAnswer}
 
 -- ---- a number has one answer
@@ -51,10 +52,10 @@ module _ (w : ℕ) (networks : List (ℕ × ℕ)) (good : AreAscendingNetworks w
     ]
   ]
 
-pub one_answer : (w zeros : ℕ) (networks : List (ℕ × ℕ)) → AreAscendingNetworks w networks → (number value value' : ℕ)
-    → IsAnswer w zeros networks number value → IsAnswer w zeros networks number value' → value ≡ value'
-one_answer w zeros networks good number value value' known known' =
-    let address = number / 2 ^ zeros in
+pub one_answer : (w padding : ℕ) (networks : List (ℕ × ℕ)) → AreAscendingNetworks w networks → (number value value' : ℕ)
+    → IsAnswer w padding networks number value → IsAnswer w padding networks number value' → value ≡ value'
+one_answer w padding networks good number value value' known known' =
+    let address = number / 2 ^ padding in
     let same : bits w address ≡ bits w (address % 2 ^ w) = ap (bits w) (sym (shr_split address w)) ∙ bits_high w (address / 2 ^ w) (address % 2 ^ w) in
     one_match w networks good (address % 2 ^ w) (mod_below address (2 ^ w) (pow_pos w)) value value'
     (subst (λ b. IsLongestMatch (prefix_bits w) b networks (row_of value)) same known) (subst (λ b. IsLongestMatch (prefix_bits w) b networks (row_of value')) same known')
@@ -68,41 +69,41 @@ in_block number block s some e =
     let same : number / s * s ≡ block * s = ap (λ q. q * s) e in
     (omega (arith, split, same), omega (arith, split, less, same))
 
-module _ (w zeros : ℕ) (networks : List (ℕ × ℕ)) (starts answers : List ℕ) (ranges : AreMatchRanges w networks starts answers) where
+module _ (w padding : ℕ) (networks : List (ℕ × ℕ)) (starts answers : List ℕ) (ranges : AreMatchRanges w networks starts answers) where
   abbrev start : ℕ → ℕ
-  start k = get_or starts k 0 * 2 ^ zeros
+  start k = get_or starts k 0 * 2 ^ padding
 
   -- the range of a number has its answer
-  answered : (number k : ℕ) → number < 2 ^ (w + zeros) → k < length starts → start k ≤ number → (k + 1 < length starts → number < start (k + 1))
-      → IsAnswer w zeros networks number (get_or answers k 0)
-  answered number k fits within from next = ranges.matches (number / 2 ^ zeros) k (shr_below number w zeros fits) (record {
+  answered : (number k : ℕ) → number < 2 ^ (w + padding) → k < length starts → start k ≤ number → (k + 1 < length starts → number < start (k + 1))
+      → IsAnswer w padding networks number (get_or answers k 0)
+  answered number k fits within from next = ranges.matches (number / 2 ^ padding) k (shr_below number w padding fits) (record {
     within = within;
-    from = le-div (get_or starts k 0) number (2 ^ zeros) (pow_pos zeros) from;
+    from = le-div (get_or starts k 0) number (2 ^ padding) (pow_pos padding) from;
     last = λ i lt l.
-        let behind : number / 2 ^ zeros < get_or starts (k + 1) 0 = div_below number (2 ^ zeros) (get_or starts (k + 1) 0) (pow_pos zeros) (next (omega arith)) in
+        let behind : number / 2 ^ padding < get_or starts (k + 1) 0 = div_below number (2 ^ padding) (get_or starts (k + 1) 0) (pow_pos padding) (next (omega arith)) in
         elim (cases_eq i (k + 1)) [
           | inl e ↦ omega (arith, behind, ap (λ j. get_or starts j 0) e)
           | inr other ↦ omega (arith, behind, ranges.ordered.ascending (k + 1) i (omega arith) l)
         ];
   })
 
-  module _ (steps block k : ℕ) (fits : (block + 1) * 2 ^ (6 * steps) ≤ 2 ^ (w + zeros)) (within : k < length starts) (from : start k ≤ block * 2 ^ (6 * steps)) where
+  module _ (steps block k : ℕ) (fits : (block + 1) * 2 ^ (6 * steps) ≤ 2 ^ (w + padding)) (within : k < length starts) (from : start k ≤ block * 2 ^ (6 * steps)) where
     -- no later range begins in the block
-    pub whole : length networks < 2 ^ 31 → (k + 1 < length starts → block < start (k + 1) / 2 ^ (6 * steps)) → AllHave (IsAnswer w zeros networks) steps block (get_or answers k 0)
+    pub whole : length networks < 2 ^ 31 → (k + 1 < length starts → block < start (k + 1) / 2 ^ (6 * steps)) → AllHave (IsAnswer w padding networks) steps block (get_or answers k 0)
     whole few next =
         let s = 2 ^ (6 * steps) in
         let some : 0 < s = pow_pos (6 * steps) in
-        let all : (number : ℕ) → number / s ≡ block → IsAnswer w zeros networks number (get_or answers k 0) = λ number e.
+        let all : (number : ℕ) → number / s ≡ block → IsAnswer w padding networks number (get_or answers k 0) = λ number e.
         let inside = in_block number block s some e in
         answered number k (omega (arith, inside.1, fits)) within (omega (arith, inside.0, from)) (λ l.
         let far : (block + 1) * s ≤ start (k + 1) / s * s = mul-le (block + 1) s (start (k + 1) / s) s (omega (arith, next l)) (omega arith) in
         omega (arith, inside.1, far, div-add-mod' (start (k + 1)) s)) in
         let first = all (block * s) (shl-shr block (6 * steps)) in
-        (omega (arith, few, row_within w networks (bits w (block * s / 2 ^ zeros)) (get_or answers k 0) first), all)
+        (omega (arith, few, row_within w networks (bits w (block * s / 2 ^ padding)) (get_or answers k 0) first), all)
 
     -- one does
     pub parted : AreAscendingNetworks w networks → k + 1 < length starts → block * 2 ^ (6 * steps) < start (k + 1) → start (k + 1) / 2 ^ (6 * steps) ≤ block
-        → ¬ ((value : ℕ) × AllHave (IsAnswer w zeros networks) steps block value)
+        → ¬ ((value : ℕ) × AllHave (IsAnswer w padding networks) steps block value)
     parted good more behind inner = λ (value, all).
         let s = 2 ^ (6 * steps) in
         let some : 0 < s = pow_pos (6 * steps) in
@@ -111,11 +112,20 @@ module _ (w zeros : ℕ) (networks : List (ℕ × ℕ)) (starts answers : List �
         let here : next / s ≡ block = omega arith in
         let inside = in_block next block s some here in
         let last : k + 1 + 1 < length starts → next < start (k + 1 + 1) = λ l.
-        let up : (get_or starts (k + 1) 0 + 1) * 2 ^ zeros ≤ start (k + 1 + 1) =
-        mul-le (get_or starts (k + 1) 0 + 1) (2 ^ zeros) (get_or starts (k + 1 + 1) 0) (2 ^ zeros) (omega (arith, ranges.ordered.ascending (k + 1) (k + 1 + 1) (omega arith) l)) (omega arith) in
-        omega (arith, up, pow_pos zeros) in
-        let one = one_answer w zeros networks good (block * s) value (get_or answers k 0) (all.1 (block * s) (shl-shr block (6 * steps)))
+        let up : (get_or starts (k + 1) 0 + 1) * 2 ^ padding ≤ start (k + 1 + 1) =
+        mul-le (get_or starts (k + 1) 0 + 1) (2 ^ padding) (get_or starts (k + 1 + 1) 0) (2 ^ padding) (omega (arith, ranges.ordered.ascending (k + 1) (k + 1 + 1) (omega arith) l)) (omega arith) in
+        omega (arith, up, pow_pos padding) in
+        let one = one_answer w padding networks good (block * s) value (get_or answers k 0) (all.1 (block * s) (shl-shr block (6 * steps)))
         (answered (block * s) k (omega (arith, behind, inside.1, fits)) within from (λ _. behind)) in
-        let two = one_answer w zeros networks good next value (get_or answers (k + 1) 0) (all.1 next here)
+        let two = one_answer w padding networks good next value (get_or answers (k + 1) 0) (all.1 next here)
         (answered next (k + 1) (omega (arith, inside.1, fits)) more (omega arith) last) in
         ranges.changes k more (sym one ∙ two)
+
+  -- so a block has parts where a range begins in it, behind the last that begins at most with its first number
+  pub divided : (steps block k count : ℕ) → length starts ≡ count → AreAscendingNetworks w networks → w + padding ≤ 128 → (block + 1) * 2 ^ (6 * steps) ≤ 2 ^ (w + padding) → k < count
+      → start k ≤ block * 2 ^ (6 * steps) % 2 ^ 128 → (k + 1 < count → block * 2 ^ (6 * steps) % 2 ^ 128 < start (k + 1)) → ((k + 1 < count → block < start (k + 1) / 2 ^ (6 * steps)) → ⊥)
+      → (0 < steps) × ¬ ((value : ℕ) × AllHave (IsAnswer w padding networks) steps block value)
+  divided steps block k count size good wide fits within from behind other =
+      let at = cut steps block (w + padding) k count (start (k + 1)) wide fits behind other in
+      let number = whole_number steps block (w + padding) wide fits in
+      (at.0, parted steps block k fits (omega arith) (omega arith) good (omega (arith, at.1)) at.2 at.3)

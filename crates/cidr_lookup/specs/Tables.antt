@@ -8,16 +8,16 @@ use Rattle.cidr_lookup.specs.declared.table.TableError.TheVariants.{TooMany, Ref
 use Rattle.cidr_lookup.specs.Nodes.{AreEntries, IsEntry}
 
 -- what a value says of a number, which is an address of w bits with some zeros behind it: its longest match (RFC 1812, 5.2.4.3)
-abbrev pub IsAnswer : (w zeros : ℕ) → List (ℕ × ℕ) → (number value : ℕ) → Type 0
-IsAnswer w zeros networks number value = IsLongestMatch (prefix_bits w) (bits w (number / 2 ^ zeros)) networks (row_of value)
+abbrev pub IsAnswer : (w padding : ℕ) → List (ℕ × ℕ) → (number value : ℕ) → Type 0
+IsAnswer w padding networks number value = IsLongestMatch (prefix_bits w) (bits w (number / 2 ^ padding)) networks (row_of value)
 
 -- the entries of all blocks of 64 ^ steps numbers
-pub record IsLookupTable (w zeros steps : ℕ) (networks : List (ℕ × ℕ)) (first words : List ℕ) : Type 0 where
+pub record IsLookupTable (w padding steps : ℕ) (networks : List (ℕ × ℕ)) (first words : List ℕ) : Type 0 where
   pub keys : AreAscendingNetworks w networks
-  pub some : 6 * steps < w + zeros
-  pub few : w + zeros ≤ 6 * steps + 32
-  pub size : length first * 2 ^ (6 * steps) ≡ 2 ^ (w + zeros)
-  pub entries : AreEntries (IsEntry (IsAnswer w zeros networks) steps) 0 (length first) [] first words
+  pub some : 6 * steps < w + padding
+  pub few : w + padding ≤ 6 * steps + 32
+  pub size : length first * 2 ^ (6 * steps) ≡ 2 ^ (w + padding)
+  pub entries : AreEntries (IsEntry (IsAnswer w padding networks) steps) 0 (length first) [] first words
 
 -- why there is none: too many networks; or else one is refused; the others are told of no networks
 abbrev pub IsTableRefused : ℕ → List (ℕ × ℕ) → TableError → Type 0

@@ -7,37 +7,37 @@ use cidr_arrays::{Halves, Word};
 /// but the first are parts of six.
 pub trait Address: Word {
     /// How many zeros.
-    ghost zeros: { ℕ };
+    ghost padding: { ℕ };
 
     /// The number.
     fn padded(self) -> u128
-        ensures value { result ≡ Self.value self * 2 ^ zeros }
-        ensures fits { result < 2 ^ (Self.width + zeros) };
+        ensures value { result ≡ Self.value self * 2 ^ padding }
+        ensures fits { result < 2 ^ (Self.width + padding) };
 
     /// How many bits it has.
     fn padded_width() -> u32
-        ensures value { result ≡ Self.width + zeros }
+        ensures value { result ≡ Self.width + padding }
         ensures fits { result ≤ 128 };
 
     /// How many steps of six bits are best for so many networks.
     fn steps_for(networks: usize) -> u32
-        ensures some { 6 * result < Self.width + zeros }
-        ensures few { Self.width + zeros ≤ 6 * result + 32 };
+        ensures some { 6 * result < Self.width + padding }
+        ensures few { Self.width + padding ≤ 6 * result + 32 };
 
     /// The number of the bits before the last `shift`, of which there are at most 64.
     fn block(self, shift: u32) -> usize
-        requires some { shift < Self.width + zeros }
-        requires few { Self.width + zeros ≤ shift + 64 }
-        ensures { result ≡ Self.value self * 2 ^ zeros / 2 ^ shift };
+        requires some { shift < Self.width + padding }
+        requires few { Self.width + padding ≤ shift + 64 }
+        ensures { result ≡ Self.value self * 2 ^ padding / 2 ^ shift };
 
     /// The number of the six bits before the last `shift`.
     fn digit(self, shift: u32) -> u32
-        requires { shift < Self.width + zeros }
-        ensures { result ≡ Self.value self * 2 ^ zeros / 2 ^ shift % 64 };
+        requires { shift < Self.width + padding }
+        ensures { result ≡ Self.value self * 2 ^ padding / 2 ^ shift % 64 };
 }
 
 impl Address for u32 {
-    ghost zeros = { 4 };
+    ghost padding = { 4 };
 
     #[inline(always)]
     fn padded(self) -> u128 {
@@ -74,7 +74,7 @@ fn padded(address: u32) -> u64
 }
 
 impl Address for Halves {
-    ghost zeros = { 0 };
+    ghost padding = { 0 };
 
     #[inline(always)]
     fn padded(self) -> u128 {

@@ -1,13 +1,14 @@
 //! The words of networks, by their ranges.
-ghost use Rattle.std.specs.Prelude.{◌≡◌, ◌↔◌, ℕ, ◌+◌, ◌*◌, ◌/◌, ◌^◌, ◌<◌, ◌≤◌, ◌⊎◌, length, map, slice_index_or, [], IfOk, IsTrue, OnOk};
+ghost use Rattle.std.specs.Prelude.{◌≡◌, ◌↔◌, ℕ, ◌+◌, ◌*◌, ◌/◌, ◌^◌, ◌<◌, ◌≤◌, ◌⊎◌, List, [], length, map, slice_index_or, IfErr, IfOk, IsTrue, OnErr, OnOk};
 ghost use Rattle.cidr_arrays.specs.Arrays.{AreAscendingNetworks, AreMatchRanges, key_networks};
 ghost use Rattle.cidr_lookup.specs.Nodes.{IsEntry};
+ghost use Rattle.cidr_lookup.specs.Putting.{IsStopped, StopsBefore};
 ghost use Rattle.cidr_lookup.specs.Tables.{IsAnswer, IsLookupTable};
 
 use crate::address::Address;
 use crate::node::{PARTS, put_node};
 use crate::search::PLACE;
-use crate::words::{Sink, Stop};
+use crate::words::{Sink, Stop, Stopped};
 use cidr_arrays::Key;
 
 /// Puts the entries of all blocks of 64^steps numbers, and the words of their nodes.
@@ -18,20 +19,25 @@ pub(crate) fn put_table<A: Address, F: Sink, S: Sink>(
     first: &mut F,
     words: &mut S,
     steps: u32,
-) -> Result<(), Stop>
+) -> Result<(), Stopped>
     requires keys { AreAscendingNetworks A.width (key_networks A.value keys.now) }
     requires ranges { AreMatchRanges A.width (key_networks A.value keys.now) (map A.value starts.now) answers.now }
     requires number { length keys.now < 2 ^ 31 }
-    requires some { 6 * steps < A.width + A.zeros }
-    requires few { A.width + A.zeros ≤ 6 * steps + 32 }
+    requires some { 6 * steps < A.width + A.padding }
+    requires few { A.width + A.padding ≤ 6 * steps + 32 }
     requires first { F.put first.old ≡ [] }
     requires words { S.put words.old ≡ [] }
-    ensures { OnOk result (IsLookupTable A.width A.zeros steps (key_networks A.value keys.now) (F.put first.new) (S.put words.new)) }
+    ensures kept_first { F.given first.new ≡ F.given first.old }
+    ensures kept_words { S.given words.new ≡ S.given words.old }
+    ensures table { OnOk result (IsLookupTable A.width A.padding steps (key_networks A.value keys.now) (F.put first.new) (S.put words.new)) }
+    ensures stopped { IfErr result (λ stopped. (all_first all_words : List ℕ)
+        → IsLookupTable A.width A.padding steps (key_networks A.value keys.now) all_first all_words
+        → IsStopped stopped (F.put first.new) (F.refuses first.new) all_first (S.put words.new) (S.refuses words.new) all_words) }
 {
     let blocks = 1u64 << (A::padded_width() - 6 * steps);
     let mut near = 0;
     for block in 0..blocks {
-        let entry = entry_of(
+        let entry = match entry_of(
             keys,
             starts,
             answers,
@@ -39,8 +45,14 @@ pub(crate) fn put_table<A: Address, F: Sink, S: Sink>(
             steps,
             u128::from(block),
             &mut near,
-        )?;
-        first.push(entry)?;
+        ) {
+            Ok(entry) => entry,
+            Err(stop) => return Err(Stopped::Words(stop)),
+        };
+        match first.push(entry) {
+            Ok(()) => {}
+            Err(stop) => return Err(Stopped::First(stop)),
+        }
     }
     Ok(())
 }
@@ -60,14 +72,18 @@ pub(crate) fn entry_of<A: Address, S: Sink>(
     requires keys { AreAscendingNetworks A.width (key_networks A.value keys.now) }
     requires ranges { AreMatchRanges A.width (key_networks A.value keys.now) (map A.value starts.now) answers.now }
     requires few { length keys.now < 2 ^ 31 }
-    requires wide { A.width + A.zeros ≤ 128 }
-    requires steps { 6 * steps < A.width + A.zeros }
+    requires wide { A.width + A.padding ≤ 128 }
+    requires steps { 6 * steps < A.width + A.padding }
     requires near { near.old < length starts.now }
-    requires upto { slice_index_or (map A.value starts.now) near.old 0 * 2 ^ A.zeros ≤ block * 2 ^ (6 * steps) }
-    requires block { (block + 1) * 2 ^ (6 * steps) ≤ 2 ^ (A.width + A.zeros) }
+    requires upto { slice_index_or (map A.value starts.now) near.old 0 * 2 ^ A.padding ≤ block * 2 ^ (6 * steps) }
+    requires block { (block + 1) * 2 ^ (6 * steps) ≤ 2 ^ (A.width + A.padding) }
     ensures near { near.new < length starts.now }
-    ensures upto { slice_index_or (map A.value starts.now) near.new 0 * 2 ^ A.zeros ≤ (block + 1) * 2 ^ (6 * steps) }
-    ensures entry { IfOk result (λ entry. IsEntry (IsAnswer A.width A.zeros (key_networks A.value keys.now)) steps block (S.put sink.old) entry (S.put sink.new)) }
+    ensures upto { slice_index_or (map A.value starts.now) near.new 0 * 2 ^ A.padding ≤ (block + 1) * 2 ^ (6 * steps) }
+    ensures kept { S.given sink.new ≡ S.given sink.old }
+    ensures stopped { OnErr result ((entry : ℕ) (after : List ℕ)
+        → IsEntry (IsAnswer A.width A.padding (key_networks A.value keys.now)) steps block (S.put sink.old) entry after
+        → StopsBefore (S.put sink.new) (S.refuses sink.new) after) }
+    ensures entry { IfOk result (λ entry. IsEntry (IsAnswer A.width A.padding (key_networks A.value keys.now)) steps block (S.put sink.old) entry (S.put sink.new)) }
 {
     let shift = 6 * steps;
     *near = last_upto(starts, *near, block << shift);
@@ -97,8 +113,8 @@ pub(crate) fn entry_of<A: Address, S: Sink>(
 /// The number that a range begins with.
 fn start_of<A: Address>(starts: &[A], range: usize) -> u128
     requires { range < length starts.now }
-    ensures value { result ≡ slice_index_or (map A.value starts.now) range 0 * 2 ^ A.zeros }
-    ensures fits { result < 2 ^ (A.width + A.zeros) }
+    ensures value { result ≡ slice_index_or (map A.value starts.now) range 0 * 2 ^ A.padding }
+    ensures fits { result < 2 ^ (A.width + A.padding) }
 {
     starts[range].padded()
 }
@@ -106,10 +122,10 @@ fn start_of<A: Address>(starts: &[A], range: usize) -> u128
 /// The last range that begins at most with a number, from one on that does.
 fn last_upto<A: Address>(starts: &[A], from: usize, number: u128) -> usize
     requires from { from < length starts.now }
-    requires upto { slice_index_or (map A.value starts.now) from 0 * 2 ^ A.zeros ≤ number }
+    requires upto { slice_index_or (map A.value starts.now) from 0 * 2 ^ A.padding ≤ number }
     ensures within { result < length starts.now }
-    ensures upto { slice_index_or (map A.value starts.now) result 0 * 2 ^ A.zeros ≤ number }
-    ensures next { result + 1 < length starts.now → number < slice_index_or (map A.value starts.now) (result + 1) 0 * 2 ^ A.zeros }
+    ensures upto { slice_index_or (map A.value starts.now) result 0 * 2 ^ A.padding ≤ number }
+    ensures next { result + 1 < length starts.now → number < slice_index_or (map A.value starts.now) (result + 1) 0 * 2 ^ A.padding }
 {
     let mut range = from;
     while range + 1 < starts.len() {
@@ -125,7 +141,7 @@ fn last_upto<A: Address>(starts: &[A], from: usize, number: u128) -> usize
 fn is_whole<A: Address>(starts: &[A], range: usize, shift: u32, block: u128) -> bool
     requires range { range < length starts.now }
     requires shift { shift < 128 }
-    ensures { IsTrue result ↔ (range + 1 < length starts.now → block < slice_index_or (map A.value starts.now) (range + 1) 0 * 2 ^ A.zeros / 2 ^ shift) }
+    ensures { IsTrue result ↔ (range + 1 < length starts.now → block < slice_index_or (map A.value starts.now) (range + 1) 0 * 2 ^ A.padding / 2 ^ shift) }
 {
     let next = range + 1;
     if next == starts.len() {

@@ -1,6 +1,7 @@
 //! The words of a node.
-ghost use Rattle.std.specs.Prelude.{◌≡◌, ◌++◌, ◌∷◌, [], ◌<◌, if◌then◌else◌, length, slice_index_or, OnOk};
+ghost use Rattle.std.specs.Prelude.{◌≡◌, ◌++◌, ◌∷◌, [], ◌<◌, if◌then◌else◌, length, slice_index_or, true, OnErr, OnOk};
 ghost use Rattle.cidr_lookup.specs.Nodes.{begins_run, marks, node};
+ghost use Rattle.cidr_lookup.specs.Putting.{StopsBefore};
 
 use crate::words::{Sink, Stop};
 
@@ -10,7 +11,9 @@ pub(crate) const PARTS: usize = 64;
 /// Puts the words of a node: its marks and the entries of its runs.
 pub(crate) fn put_node<S: Sink>(entries: &[u32], sink: &mut S) -> Result<(), Stop>
     requires { length entries.now ≡ 64 }
-    ensures { OnOk result (S.put sink.new ≡ S.put sink.old ++ node entries.now) }
+    ensures kept { S.given sink.new ≡ S.given sink.old }
+    ensures put { OnOk result (S.put sink.new ≡ S.put sink.old ++ node entries.now) }
+    ensures stopped { OnErr result (StopsBefore (S.put sink.new) (S.refuses sink.new) (S.put sink.old ++ node entries.now)) }
 {
     let marks = marks_of(entries);
     sink.push((marks % (1 << 32)) as u32)?;
@@ -24,7 +27,9 @@ pub(crate) fn put_node<S: Sink>(entries: &[u32], sink: &mut S) -> Result<(), Sto
 /// Puts the entry of a part that begins a run.
 fn put_run<S: Sink>(entries: &[u32], part: usize, sink: &mut S) -> Result<(), Stop>
     requires { part < length entries.now }
-    ensures { OnOk result (S.put sink.new ≡ (if begins_run entries.now part then S.put sink.old ++ slice_index_or entries.now part 0 ∷ [] else S.put sink.old)) }
+    ensures kept { S.given sink.new ≡ S.given sink.old }
+    ensures put { OnOk result (S.put sink.new ≡ (if begins_run entries.now part then S.put sink.old ++ slice_index_or entries.now part 0 ∷ [] else S.put sink.old)) }
+    ensures refused { OnErr result ((S.put sink.new ≡ S.put sink.old) × (begins_run entries.now part ≡ true) × S.refuses sink.new (slice_index_or entries.now part 0)) }
 {
     if begins(entries, part) {
         return sink.push(entries[part]);

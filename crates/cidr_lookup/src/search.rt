@@ -18,7 +18,7 @@ const MOST_STEPS: u32 = 21;
 #[inline(always)]
 pub fn find<A: Address, T: Words>(first: &T, words: &T, steps: u32, address: A) -> Option<usize>
     ensures { (networks : List (ℕ × ℕ))
-        → IsLookupTable A.width A.zeros steps networks (T.words first.now) (T.words words.now)
+        → IsLookupTable A.width A.padding steps networks (T.words first.now) (T.words words.now)
         → IsLongestMatch (prefix_bits A.width) (bits A.width (A.value address)) networks result }
 {
     row(value_of(first, words, steps, address))
@@ -39,8 +39,8 @@ fn row(value: u32) -> Option<usize>
 #[inline(always)]
 fn value_of<A: Address, T: Words>(first: &T, words: &T, steps: u32, address: A) -> u32
     ensures { (networks : List (ℕ × ℕ))
-        → IsLookupTable A.width A.zeros steps networks (T.words first.now) (T.words words.now)
-        → IsAnswer A.width A.zeros networks (A.value address * 2 ^ A.zeros) result }
+        → IsLookupTable A.width A.padding steps networks (T.words first.now) (T.words words.now)
+        → IsAnswer A.width A.padding networks (A.value address * 2 ^ A.padding) result }
 {
     address.padded();
     let width = A::padded_width();

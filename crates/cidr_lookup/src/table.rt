@@ -5,7 +5,7 @@ ghost use Rattle.cidr_lookup.specs.Tables.{IsLookupTable, IsTableRefused};
 
 use crate::address::Address;
 use crate::building::put_table;
-use crate::words::Stop;
+use crate::words::{Stop, Stopped};
 use cidr_arrays::{BuildError, Key};
 use std::alloc::Global;
 
@@ -34,10 +34,45 @@ pub enum TableError {
     NoMemory,
 }
 
+/// The ranges of keys.
+#[derive(Drop)]
+pub(crate) struct Ranges<A> {
+    pub(crate) starts: Vec<A>,
+    pub(crate) answers: Vec<u32>,
+}
+
 /// The look-up table of keys that ascend.
 pub fn build<A: Address>(alloc: Global, keys: &[Key<A>]) -> Result<LookupTable, TableError>
-    ensures table { IfOk result (λ table. IsLookupTable A.width A.zeros table.steps (key_networks A.value keys.now) table.first.items table.words.items) }
+    ensures table { IfOk result (λ table. IsLookupTable A.width A.padding table.steps (key_networks A.value keys.now) table.first.items table.words.items) }
     ensures few { IfOk result (λ _. length keys.now < 2 ^ 31) }
+    ensures refused { IfErr result (IsTableRefused A.width (key_networks A.value keys.now)) }
+{
+    let ranges = ranges_of(alloc, keys)?;
+    let steps = A::steps_for(keys.len());
+    let mut first = Vec::new(alloc);
+    let mut words = Vec::new(alloc);
+    let starts = ranges.starts.as_slice();
+    let answers = ranges.answers.as_slice();
+    match put_table(keys, starts, answers, &mut first, &mut words, steps) {
+        Ok(()) => {
+            first.shrink_to_fit();
+            words.shrink_to_fit();
+            Ok(LookupTable {
+                first,
+                words,
+                steps,
+            })
+        }
+        Err(Stopped::Words(Stop::TooMany)) => Err(TableError::TooLarge),
+        Err(_) => Err(TableError::NoMemory),
+    }
+}
+
+/// The ranges of keys that ascend.
+pub(crate) fn ranges_of<A: Address>(alloc: Global, keys: &[Key<A>]) -> Result<Ranges<A>, TableError>
+    ensures few { IfOk result (λ _. length keys.now < 2 ^ 31) }
+    ensures keys { IfOk result (λ _. AreAscendingNetworks A.width (key_networks A.value keys.now)) }
+    ensures ranges { IfOk result (λ ranges. AreMatchRanges A.width (key_networks A.value keys.now) (map A.value ranges.starts.items) ranges.answers.items) }
     ensures refused { IfErr result (IsTableRefused A.width (key_networks A.value keys.now)) }
 {
     if keys.len() >= 1 << 31 {
@@ -51,40 +86,13 @@ pub fn build<A: Address>(alloc: Global, keys: &[Key<A>]) -> Result<LookupTable, 
         return Err(TableError::NoMemory);
     };
     match cidr_arrays::build(keys, starts.as_mut_slice(), answers.as_mut_slice()) {
-        Ok(count) => of_ranges(alloc, keys, &starts[..count], &answers[..count]),
+        Ok(count) => {
+            starts.truncate(count);
+            answers.truncate(count);
+            Ok(Ranges { starts, answers })
+        }
         Err(BuildError::TooMany) => Err(TableError::TooMany),
         Err(BuildError::Refused(place)) => Err(TableError::Refused(place)),
         Err(BuildError::NoRoom) => unreachable!(),
-    }
-}
-
-/// The look-up table of keys with these ranges.
-fn of_ranges<A: Address>(
-    alloc: Global,
-    keys: &[Key<A>],
-    starts: &[A],
-    answers: &[u32],
-) -> Result<LookupTable, TableError>
-    requires keys { AreAscendingNetworks A.width (key_networks A.value keys.now) }
-    requires ranges { AreMatchRanges A.width (key_networks A.value keys.now) (map A.value starts.now) answers.now }
-    requires number { length keys.now < 2 ^ 31 }
-    ensures table { IfOk result (λ table. IsLookupTable A.width A.zeros table.steps (key_networks A.value keys.now) table.first.items table.words.items) }
-    ensures refused { IfErr result (IsTableRefused A.width (key_networks A.value keys.now)) }
-{
-    let steps = A::steps_for(keys.len());
-    let mut first = Vec::new(alloc);
-    let mut words = Vec::new(alloc);
-    match put_table(keys, starts, answers, &mut first, &mut words, steps) {
-        Ok(()) => {
-            first.shrink_to_fit();
-            words.shrink_to_fit();
-            Ok(LookupTable {
-                first,
-                words,
-                steps,
-            })
-        }
-        Err(Stop::TooMany) => Err(TableError::TooLarge),
-        Err(Stop::Refused) => Err(TableError::NoMemory),
     }
 }

@@ -1,5 +1,5 @@
 //! Words of 32 bits, as they lie in an array or are put into one.
-ghost use Rattle.std.specs.Prelude.{◌≡◌, ℕ, ◌<◌, ◌++◌, ◌∷◌, [], List, length, slice_index_or, OnOk, OnErr};
+ghost use Rattle.std.specs.Prelude.{◌≡◌, ◌≢◌, ℕ, ◌<◌, ◌++◌, ◌∷◌, [], List, Some, length, slice_get, slice_index_or, take, OnErr, OnOk};
 
 /// Words that can be read.
 pub trait Words {
@@ -41,10 +41,23 @@ pub(crate) enum Stop {
     Refused,
 }
 
+/// Which of the two arrays has no more put into it.
+#[derive(Drop)]
+pub(crate) enum Stopped {
+    First(Stop),
+    Words(Stop),
+}
+
 /// What words are put into.
 pub(crate) trait Sink {
     /// The words that were put.
     ghost put: { Self → List ℕ };
+
+    /// The words that they are compared with, if they are.
+    ghost given: { Self → List ℕ };
+
+    /// What is known of a word that is not taken.
+    ghost refuses: { Self → ℕ → Type 0 };
 
     /// How many there are.
     fn len(&self) -> usize
@@ -52,11 +65,17 @@ pub(crate) trait Sink {
 
     /// Puts one more.
     fn push(&mut self, word: u32) -> Result<(), Stop>
-        ensures put { OnOk result (put self.new ≡ put self.old ++ word ∷ []) };
+        ensures kept { given self.new ≡ given self.old }
+        ensures put { OnOk result (put self.new ≡ put self.old ++ word ∷ []) }
+        ensures refused { OnErr result ((put self.new ≡ put self.old) × refuses self.new word) };
 }
 
 impl Sink for Vec<u32> {
     ghost put = { λ words. words.items };
+
+    ghost given = { λ _. [] };
+
+    ghost refuses = { λ _ _. Unit {0} };
 
     fn len(&self) -> usize {
         self.as_slice().len()
@@ -68,5 +87,36 @@ impl Sink for Vec<u32> {
             Ok(()) => Ok(()),
             Err(_) => Err(Stop::Refused),
         }
+    }
+}
+
+/// Words that are compared with those of an array, from its first on.
+#[derive(Drop)]
+pub(crate) struct Compared<'a, T> {
+    pub(crate) words: &'a T,
+    /// How many were put.
+    pub(crate) place: usize,
+}
+
+impl<T: Words> Sink for Compared<'_, T> {
+    ghost put = { λ s. take s.place (T.words s.words.now) };
+
+    ghost given = { λ s. T.words s.words.now };
+
+    ghost refuses = { λ s word. slice_get (T.words s.words.now) (length (take s.place (T.words s.words.now))) ≢ Some word };
+
+    fn len(&self) -> usize {
+        self.place.min(self.words.len())
+    }
+
+    fn push(&mut self, word: u32) -> Result<(), Stop> {
+        if self.place >= self.words.len() {
+            return Err(Stop::Refused);
+        }
+        if self.words.word(self.place) != word {
+            return Err(Stop::Refused);
+        }
+        self.place += 1;
+        Ok(())
     }
 }

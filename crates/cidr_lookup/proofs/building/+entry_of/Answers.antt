@@ -6,63 +6,65 @@ use Rattle.cidr_arrays.proofs.Numbers.{length_networks}
 use Rattle.cidr_lookup.specs.Nodes.{AreEntries, IsEntry}
 use Rattle.cidr_lookup.specs.Tables.{IsAnswer}
 use Rattle.cidr_lookup.proofs.Blocks.{cut, first_part, part_ends, part_fits, part_number, whole_number}
-use Rattle.cidr_lookup.proofs.Entries.{no_entries, node_entry, one_more, value_entry}
-use Rattle.cidr_lookup.proofs.Ranges.{parted, whole}
+use Rattle.cidr_lookup.proofs.Entries.{no_entries, node_entry, one_more, stops_at_place, stops_in_node, stops_in_part, value_entry}
+use Rattle.cidr_lookup.proofs.Nodes.{on_err}
+use Rattle.cidr_lookup.proofs.Ranges.{divided, one_answer, whole}
 use Rattle.cidr_lookup.proofs.building.+entry_of.Goals as goal
 
 pub last_upto-requires-clause-upto : goal.last_upto-requires-clause-upto
 last_upto-requires-clause-upto g t c =
-    omega (arith, c.requires.upto, whole_number c.args.steps c.args.block (g.A.Word.width + g.A.Address.zeros) c.requires.wide c.requires.block)
+    omega (arith, c.requires.upto, whole_number c.args.steps c.args.block (g.A.Word.width + g.A.Address.padding) c.requires.wide c.requires.block)
 
 pub returns-then-is_whole-clause-entry : goal.returns-then-is_whole-clause-entry
 returns-then-is_whole-clause-entry g t c =
     let w = g.A.Word.width in
-    let zeros = g.A.Address.zeros in
+    let padding = g.A.Address.padding in
     let networks = key_networks g.A.Word.value c.args.keys.now in
     let starts = map g.A.Word.value c.args.starts.now in
     let k = c.last_upto.result in
     let size : length starts ≡ length c.args.starts.now = length-map c.args.starts.now g.A.Word.value in
-    let number = whole_number c.args.steps c.args.block (w + zeros) c.requires.wide c.requires.block in
+    let number = whole_number c.args.steps c.args.block (w + padding) c.requires.wide c.requires.block in
     let same = length_networks g.A.Word.value c.args.keys.now in
-    value_entry (IsAnswer w zeros networks) c.args.steps c.args.block (g.S.Sink.put c.args.sink.now) (get_or c.args.answers.now k 0)
-    (whole w zeros networks starts c.args.answers.now c.requires.ranges c.args.steps c.args.block k c.requires.block (omega (arith, c.last_upto.ensures.within, size))
+    value_entry (IsAnswer w padding networks) c.args.steps c.args.block (g.S.Sink.put c.args.sink.now) (get_or c.args.answers.now k 0)
+    (whole w padding networks starts c.args.answers.now c.requires.ranges c.args.steps c.args.block k c.requires.block (omega (arith, c.last_upto.ensures.within, size))
     (omega (arith, c.last_upto.ensures.upto, number)) (omega (arith, c.requires.few, same)) (λ l. c.is_whole.ensures.0 c.if-is_whole.true (omega (arith, size))))
 
 pub returns-then-is_whole-clause-upto : goal.returns-then-is_whole-clause-upto
 returns-then-is_whole-clause-upto g t c =
-    omega (arith, c.last_upto.ensures.upto, whole_number c.args.steps c.args.block (g.A.Word.width + g.A.Address.zeros) c.requires.wide c.requires.block)
+    omega (arith, c.last_upto.ensures.upto, whole_number c.args.steps c.args.block (g.A.Word.width + g.A.Address.padding) c.requires.wide c.requires.block)
 
 pub loop-part-init : goal.loop-part-init
 loop-part-init g t c =
-    let size = g.A.Word.width + g.A.Address.zeros in
-    let at = cut c.args.steps c.args.block size c.last_upto.result (length c.args.starts.now) (get_or (map g.A.Word.value c.args.starts.now) (c.last_upto.result + 1) 0 * 2 ^ g.A.Address.zeros)
+    let size = g.A.Word.width + g.A.Address.padding in
+    let at = cut c.args.steps c.args.block size c.last_upto.result (length c.args.starts.now) (get_or (map g.A.Word.value c.args.starts.now) (c.last_upto.result + 1) 0 * 2 ^ g.A.Address.padding)
     c.requires.wide c.requires.block c.last_upto.ensures.next (iff_false c.is_whole.ensures c.if-is_whole.false) in
     record {
+      kept = refl;
       long = refl;
       near = c.last_upto.ensures.within;
       upto = omega (arith, c.last_upto.ensures.upto, whole_number c.args.steps c.args.block size c.requires.wide c.requires.block, first_part c.args.steps c.args.block at.0);
-      entries = no_entries (IsEntry (IsAnswer g.A.Word.width g.A.Address.zeros (key_networks g.A.Word.value c.args.keys.now)) (c.args.steps - 1)) (c.args.block * 64)
+      entries = no_entries (IsEntry (IsAnswer g.A.Word.width g.A.Address.padding (key_networks g.A.Word.value c.args.keys.now)) (c.args.steps - 1)) (c.args.block * 64)
           (g.S.Sink.put c.args.sink.now) _;
     }
 
 pub overflow_mul-block : goal.overflow_mul-block
 overflow_mul-block g t c =
-    let size = g.A.Word.width + g.A.Address.zeros in
-    let at = cut c.args.steps c.args.block size c.last_upto.result (length c.args.starts.now) (get_or (map g.A.Word.value c.args.starts.now) (c.last_upto.result + 1) 0 * 2 ^ g.A.Address.zeros)
+    let size = g.A.Word.width + g.A.Address.padding in
+    let at = cut c.args.steps c.args.block size c.last_upto.result (length c.args.starts.now) (get_or (map g.A.Word.value c.args.starts.now) (c.last_upto.result + 1) 0 * 2 ^ g.A.Address.padding)
     c.requires.wide c.requires.block c.last_upto.ensures.next (iff_false c.is_whole.ensures c.if-is_whole.false) in
     omega (arith, part_number c.args.steps c.args.block c.loop-part.part size at.0 c.loop-part-test.true c.requires.wide c.requires.block)
 
 pub overflow_add-block : goal.overflow_add-block
 overflow_add-block g t c =
-    let size = g.A.Word.width + g.A.Address.zeros in
-    let at = cut c.args.steps c.args.block size c.last_upto.result (length c.args.starts.now) (get_or (map g.A.Word.value c.args.starts.now) (c.last_upto.result + 1) 0 * 2 ^ g.A.Address.zeros)
+    let size = g.A.Word.width + g.A.Address.padding in
+    let at = cut c.args.steps c.args.block size c.last_upto.result (length c.args.starts.now) (get_or (map g.A.Word.value c.args.starts.now) (c.last_upto.result + 1) 0 * 2 ^ g.A.Address.padding)
     c.requires.wide c.requires.block c.last_upto.ensures.next (iff_false c.is_whole.ensures c.if-is_whole.false) in
     omega (arith, part_number c.args.steps c.args.block c.loop-part.part size at.0 c.loop-part-test.true c.requires.wide c.requires.block)
 
 pub entry_of-requires : goal.entry_of-requires
 entry_of-requires g t c = λ κs h.
-    let size = g.A.Word.width + g.A.Address.zeros in
-    let at = cut c.args.steps c.args.block size c.last_upto.result (length c.args.starts.now) (get_or (map g.A.Word.value c.args.starts.now) (c.last_upto.result + 1) 0 * 2 ^ g.A.Address.zeros)
+    let size = g.A.Word.width + g.A.Address.padding in
+    let at = cut c.args.steps c.args.block size c.last_upto.result (length c.args.starts.now) (get_or (map g.A.Word.value c.args.starts.now) (c.last_upto.result + 1) 0 * 2 ^ g.A.Address.padding)
     c.requires.wide c.requires.block c.last_upto.ensures.next (iff_false c.is_whole.ensures c.if-is_whole.false) in
     let some : 0 < c.args.steps = at.0 in (
       omega (arith, c.decreases),
@@ -98,8 +100,8 @@ entry_of-requires g t c = λ κs h.
 
 pub returns-in_err-entries-clause-upto : goal.returns-in_err-entries-clause-upto
 returns-in_err-entries-clause-upto g t c =
-    let size = g.A.Word.width + g.A.Address.zeros in
-    let at = cut c.args.steps c.args.block size c.last_upto.result (length c.args.starts.now) (get_or (map g.A.Word.value c.args.starts.now) (c.last_upto.result + 1) 0 * 2 ^ g.A.Address.zeros)
+    let size = g.A.Word.width + g.A.Address.padding in
+    let at = cut c.args.steps c.args.block size c.last_upto.result (length c.args.starts.now) (get_or (map g.A.Word.value c.args.starts.now) (c.last_upto.result + 1) 0 * 2 ^ g.A.Address.padding)
     c.requires.wide c.requires.block c.last_upto.ensures.next (iff_false c.is_whole.ensures c.if-is_whole.false) in
     omega (arith, c.entry_of.ensures.upto, part_fits c.args.steps c.args.block c.loop-part.part ((c.args.block + 1) * 2 ^ (6 * c.args.steps)) at.0 c.loop-part-test.true (omega arith))
 
@@ -107,10 +109,11 @@ pub loop-part-preserved : goal.loop-part-preserved
 loop-part-preserved g t c =
     let part = c.loop-part.part in
     let entries = c.loop-part.entries in
-    let IsOne = IsEntry (IsAnswer g.A.Word.width g.A.Address.zeros (key_networks g.A.Word.value c.args.keys.now)) (c.args.steps - 1) in
+    let IsOne = IsEntry (IsAnswer g.A.Word.width g.A.Address.padding (key_networks g.A.Word.value c.args.keys.now)) (c.args.steps - 1) in
     let e : c.args.block * 64 + part + 1 ≡ c.args.block * 64 + (part + 1) = omega arith in
     let within : part < length entries = omega (arith, c.loop-part.invariant.long, c.loop-part-test.true) in
     record {
+      kept = c.entry_of.ensures.kept ∙ c.loop-part.invariant.kept;
       long = length-set entries part c.in_ok-entries.field-0 ∙ c.loop-part.invariant.long;
       near = c.entry_of.ensures.near;
       upto = omega (arith, c.entry_of.ensures.upto, ap (λ n. n * 2 ^ (6 * (c.args.steps - 1))) e);
@@ -127,39 +130,72 @@ upto_block steps block size k count next start part wide fits behind other le up
 
 pub returns-then-place-clause-upto : goal.returns-then-place-clause-upto
 returns-then-place-clause-upto g t c =
-    upto_block c.args.steps c.args.block (g.A.Word.width + g.A.Address.zeros) c.last_upto.result (length c.args.starts.now)
-    (get_or (map g.A.Word.value c.args.starts.now) (c.last_upto.result + 1) 0 * 2 ^ g.A.Address.zeros) (get_or (map g.A.Word.value c.args.starts.now) c.loop-part.near 0 * 2 ^ g.A.Address.zeros) c.loop-part.part
+    upto_block c.args.steps c.args.block (g.A.Word.width + g.A.Address.padding) c.last_upto.result (length c.args.starts.now)
+    (get_or (map g.A.Word.value c.args.starts.now) (c.last_upto.result + 1) 0 * 2 ^ g.A.Address.padding) (get_or (map g.A.Word.value c.args.starts.now) c.loop-part.near 0 * 2 ^ g.A.Address.padding) c.loop-part.part
     c.requires.wide c.requires.block c.last_upto.ensures.next (iff_false c.is_whole.ensures c.if-is_whole.false) c.loop-part.auto.part-end c.loop-part.invariant.upto
 
 pub returns-in_err-put_node-clause-upto : goal.returns-in_err-put_node-clause-upto
 returns-in_err-put_node-clause-upto g t c =
-    upto_block c.args.steps c.args.block (g.A.Word.width + g.A.Address.zeros) c.last_upto.result (length c.args.starts.now)
-    (get_or (map g.A.Word.value c.args.starts.now) (c.last_upto.result + 1) 0 * 2 ^ g.A.Address.zeros) (get_or (map g.A.Word.value c.args.starts.now) c.loop-part.near 0 * 2 ^ g.A.Address.zeros) c.loop-part.part
+    upto_block c.args.steps c.args.block (g.A.Word.width + g.A.Address.padding) c.last_upto.result (length c.args.starts.now)
+    (get_or (map g.A.Word.value c.args.starts.now) (c.last_upto.result + 1) 0 * 2 ^ g.A.Address.padding) (get_or (map g.A.Word.value c.args.starts.now) c.loop-part.near 0 * 2 ^ g.A.Address.padding) c.loop-part.part
     c.requires.wide c.requires.block c.last_upto.ensures.next (iff_false c.is_whole.ensures c.if-is_whole.false) c.loop-part.auto.part-end c.loop-part.invariant.upto
 
 pub returns-clause-upto : goal.returns-clause-upto
 returns-clause-upto g t c =
-    upto_block c.args.steps c.args.block (g.A.Word.width + g.A.Address.zeros) c.last_upto.result (length c.args.starts.now)
-    (get_or (map g.A.Word.value c.args.starts.now) (c.last_upto.result + 1) 0 * 2 ^ g.A.Address.zeros) (get_or (map g.A.Word.value c.args.starts.now) c.loop-part.near 0 * 2 ^ g.A.Address.zeros) c.loop-part.part
+    upto_block c.args.steps c.args.block (g.A.Word.width + g.A.Address.padding) c.last_upto.result (length c.args.starts.now)
+    (get_or (map g.A.Word.value c.args.starts.now) (c.last_upto.result + 1) 0 * 2 ^ g.A.Address.padding) (get_or (map g.A.Word.value c.args.starts.now) c.loop-part.near 0 * 2 ^ g.A.Address.padding) c.loop-part.part
     c.requires.wide c.requires.block c.last_upto.ensures.next (iff_false c.is_whole.ensures c.if-is_whole.false) c.loop-part.auto.part-end c.loop-part.invariant.upto
+
+pub returns-in_err-entries-clause-stopped : goal.returns-in_err-entries-clause-stopped
+returns-in_err-entries-clause-stopped g t c =
+    let w = g.A.Word.width in
+    let padding = g.A.Address.padding in
+    let networks = key_networks g.A.Word.value c.args.keys.now in
+    let part = c.loop-part.part in
+    let at = divided w padding networks (map g.A.Word.value c.args.starts.now) c.args.answers.now c.requires.ranges c.args.steps c.args.block c.last_upto.result (length c.args.starts.now)
+    (length-map c.args.starts.now g.A.Word.value) c.requires.keys c.requires.wide c.requires.block c.last_upto.ensures.within c.last_upto.ensures.upto c.last_upto.ensures.next
+    (iff_false c.is_whole.ensures c.if-is_whole.false) in
+    on_err c.from_residual.result (λ entry after known.
+    stops_in_part (IsAnswer w padding networks) (one_answer w padding networks c.requires.keys) c.args.steps c.args.block (g.S.Sink.put c.args.sink.now) entry after c.loop-part.entries
+    (g.S.Sink.put c.loop-part.sink) part at.0 at.1 known c.loop-part.invariant.entries (g.S.Sink.put c.entry_of.new.sink) (g.S.Sink.refuses c.entry_of.new.sink) c.loop-part-test.true
+    c.in_err-entries.ensures.stopped)
+
+pub returns-then-place-clause-stopped : goal.returns-then-place-clause-stopped
+returns-then-place-clause-stopped g t c = λ entry after known.
+    let w = g.A.Word.width in
+    let padding = g.A.Address.padding in
+    let networks = key_networks g.A.Word.value c.args.keys.now in
+    let at = divided w padding networks (map g.A.Word.value c.args.starts.now) c.args.answers.now c.requires.ranges c.args.steps c.args.block c.last_upto.result (length c.args.starts.now)
+    (length-map c.args.starts.now g.A.Word.value) c.requires.keys c.requires.wide c.requires.block c.last_upto.ensures.within c.last_upto.ensures.upto c.last_upto.ensures.next
+    (iff_false c.is_whole.ensures c.if-is_whole.false) in
+    stops_at_place (IsAnswer w padding networks) (one_answer w padding networks c.requires.keys) c.args.steps c.args.block (g.S.Sink.put c.args.sink.now) entry after c.loop-part.entries
+    (g.S.Sink.put c.loop-part.sink) c.loop-part.part at.0 at.1 known c.loop-part.invariant.entries (g.S.Sink.put c.loop-part.sink) (g.S.Sink.refuses c.loop-part.sink) (omega arith) refl
+    (omega (arith, c.len-place.ensures, c.if-place.true))
+
+pub returns-in_err-put_node-clause-stopped : goal.returns-in_err-put_node-clause-stopped
+returns-in_err-put_node-clause-stopped g t c =
+    let w = g.A.Word.width in
+    let padding = g.A.Address.padding in
+    let networks = key_networks g.A.Word.value c.args.keys.now in
+    let at = divided w padding networks (map g.A.Word.value c.args.starts.now) c.args.answers.now c.requires.ranges c.args.steps c.args.block c.last_upto.result (length c.args.starts.now)
+    (length-map c.args.starts.now g.A.Word.value) c.requires.keys c.requires.wide c.requires.block c.last_upto.ensures.within c.last_upto.ensures.upto c.last_upto.ensures.next
+    (iff_false c.is_whole.ensures c.if-is_whole.false) in
+    on_err c.from_residual-in_err-put_node.result (λ entry after known.
+    stops_in_node (IsAnswer w padding networks) (one_answer w padding networks c.requires.keys) c.args.steps c.args.block (g.S.Sink.put c.args.sink.now) entry after c.loop-part.entries
+    (g.S.Sink.put c.loop-part.sink) c.loop-part.part at.0 at.1 known c.loop-part.invariant.entries (g.S.Sink.put c.put_node.new.sink) (g.S.Sink.refuses c.put_node.new.sink) (omega arith)
+    c.in_err-put_node.ensures.stopped)
 
 pub returns-clause-entry : goal.returns-clause-entry
 returns-clause-entry g t c =
     let w = g.A.Word.width in
-    let zeros = g.A.Address.zeros in
+    let padding = g.A.Address.padding in
     let networks = key_networks g.A.Word.value c.args.keys.now in
-    let starts = map g.A.Word.value c.args.starts.now in
-    let Has = IsAnswer w zeros networks in
-    let k = c.last_upto.result in
-    let block = c.args.block in
-    let steps = c.args.steps in
-    let at = cut steps block (w + zeros) k (length c.args.starts.now) (get_or starts (k + 1) 0 * 2 ^ zeros)
-    c.requires.wide c.requires.block c.last_upto.ensures.next (iff_false c.is_whole.ensures c.if-is_whole.false) in
-    let size : length starts ≡ length c.args.starts.now = length-map c.args.starts.now g.A.Word.value in
-    let number = whole_number steps block (w + zeros) c.requires.wide c.requires.block in
-    let none = parted w zeros networks starts c.args.answers.now c.requires.ranges steps block k c.requires.block (omega (arith, c.last_upto.ensures.within, size))
-    (omega (arith, c.last_upto.ensures.upto, number)) c.requires.keys (omega (arith, at.1, size)) at.2 at.3 in
+    let Has = IsAnswer w padding networks in
+    let at = divided w padding networks (map g.A.Word.value c.args.starts.now) c.args.answers.now c.requires.ranges c.args.steps c.args.block c.last_upto.result (length c.args.starts.now)
+    (length-map c.args.starts.now g.A.Word.value) c.requires.keys c.requires.wide c.requires.block c.last_upto.ensures.within c.last_upto.ensures.upto c.last_upto.ensures.next
+    (iff_false c.is_whole.ensures c.if-is_whole.false) in
     let all : c.loop-part.part ≡ 64 = omega arith in
-    node_entry Has steps block (g.S.Sink.put c.args.sink.now) (2 ^ 31 + c.len-place.result) (g.S.Sink.put c.put_node.new.sink) c.loop-part.entries (g.S.Sink.put c.loop-part.sink) at.0 none
-    (subst (λ n. AreEntries (IsEntry Has (steps - 1)) (block * 64) n (g.S.Sink.put c.args.sink.now) c.loop-part.entries (g.S.Sink.put c.loop-part.sink)) all c.loop-part.invariant.entries)
-    (ap (λ n. 2 ^ 31 + n) c.len-place.ensures) c.in_ok-put_node.ensures
+    node_entry Has c.args.steps c.args.block (g.S.Sink.put c.args.sink.now) (2 ^ 31 + c.len-place.result) (g.S.Sink.put c.put_node.new.sink) c.loop-part.entries (g.S.Sink.put c.loop-part.sink)
+    at.0 at.1
+    (subst (λ n. AreEntries (IsEntry Has (c.args.steps - 1)) (c.args.block * 64) n (g.S.Sink.put c.args.sink.now) c.loop-part.entries (g.S.Sink.put c.loop-part.sink)) all
+    c.loop-part.invariant.entries) (ap (λ n. 2 ^ 31 + n) c.len-place.ensures) c.in_ok-put_node.ensures.put

@@ -9,8 +9,9 @@ decreases-entry_of g l = l.steps
 
 abbrev pub invariant-loop-part : goal.invariant-loop-part
 invariant-loop-part g l = record {
+  kept : g.S.Sink.given l.sink ≡ g.S.Sink.given l.fn.sink;
   long : length l.entries ≡ 64;
   near : l.near < length l.starts;
-  upto : get_or (map g.A.Word.value l.starts) l.near 0 * 2 ^ g.A.Address.zeros ≤ (l.block * 64 + l.part) * 2 ^ (6 * (l.steps - 1));
-  entries : AreEntries (IsEntry (IsAnswer g.A.Word.width g.A.Address.zeros (key_networks g.A.Word.value l.keys)) (l.steps - 1)) (l.block * 64) l.part (g.S.Sink.put l.fn.sink) l.entries (g.S.Sink.put l.sink);
+  upto : get_or (map g.A.Word.value l.starts) l.near 0 * 2 ^ g.A.Address.padding ≤ (l.block * 64 + l.part) * 2 ^ (6 * (l.steps - 1));
+  entries : AreEntries (IsEntry (IsAnswer g.A.Word.width g.A.Address.padding (key_networks g.A.Word.value l.keys)) (l.steps - 1)) (l.block * 64) l.part (g.S.Sink.put l.fn.sink) l.entries (g.S.Sink.put l.sink);
 }

@@ -11,4 +11,4 @@ returns g c = λ networks table.
     let value = g.A.Word.value c.args.address in
     let known = c.value_of.ensures networks table in
     subst (λ r. IsLongestMatch (prefix_bits w) (bits w value) networks r) (sym c.row.ensures)
-    (subst (λ a. IsLongestMatch (prefix_bits w) (bits w a) networks (row_of c.value_of.result)) (shl-shr value g.A.Address.zeros) known)
+    (subst (λ a. IsLongestMatch (prefix_bits w) (bits w a) networks (row_of c.value_of.result)) (shl-shr value g.A.Address.padding) known)

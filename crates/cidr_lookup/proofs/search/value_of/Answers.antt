@@ -19,16 +19,16 @@ within number shift steps count size at e is fits all =
 
 pub returns-then-at-len : goal.returns-then-at-len
 returns-then-at-len g c = λ networks table.
-    let number = g.A.Word.value c.args.address * 2 ^ g.A.Address.zeros in
-    let fits : number < 2 ^ (g.A.Word.width + g.A.Address.zeros) = omega (arith, c.padded.ensures.value, c.padded.ensures.fits) in
-    absurd (omega (arith, c.len.ensures, within number (6 * c.args.steps) c.args.steps (length (g.T.Words.words c.args.first.now)) (g.A.Word.width + g.A.Address.zeros) c.block-at.result refl c.block-at.ensures fits table.size))
+    let number = g.A.Word.value c.args.address * 2 ^ g.A.Address.padding in
+    let fits : number < 2 ^ (g.A.Word.width + g.A.Address.padding) = omega (arith, c.padded.ensures.value, c.padded.ensures.fits) in
+    absurd (omega (arith, c.len.ensures, within number (6 * c.args.steps) c.args.steps (length (g.T.Words.words c.args.first.now)) (g.A.Word.width + g.A.Address.padding) c.block-at.result refl c.block-at.ensures fits table.size))
 
 pub loop-entry-init : goal.loop-entry-init
 loop-entry-init g c = record {
   fits = omega arith;
   leads = λ networks table.
-      let number = g.A.Word.value c.args.address * 2 ^ g.A.Address.zeros in
-      let Has = IsAnswer g.A.Word.width g.A.Address.zeros networks in
+      let number = g.A.Word.value c.args.address * 2 ^ g.A.Address.padding in
+      let Has = IsAnswer g.A.Word.width g.A.Address.padding networks in
       let first = g.T.Words.words c.args.first.now in
       let words = g.T.Words.words c.args.words.now in
       let at = c.block-at.result in
@@ -46,24 +46,24 @@ placed words place part high low digit h l d = ap₂ (λ m k. place + 1 + count_
 
 pub returns-then-left-lt6 : goal.returns-then-left-lt6
 returns-then-left-lt6 g c = λ networks table.
-    let number = g.A.Word.value c.args.address * 2 ^ g.A.Address.zeros in
+    let number = g.A.Word.value c.args.address * 2 ^ g.A.Address.padding in
     let h = c.loop-entry.invariant.leads networks table in
-    let on = next (IsAnswer g.A.Word.width g.A.Address.zeros networks) (g.T.Words.words c.args.words.now) h.0 number c.loop-entry.entry h.2 c.loop-entry-test.true in
+    let on = next (IsAnswer g.A.Word.width g.A.Address.padding networks) (g.T.Words.words c.args.words.now) h.0 number c.loop-entry.entry h.2 c.loop-entry-test.true in
     absurd (omega (arith, h.1, on.1))
 
 pub returns-then-place-len : goal.returns-then-place-len
 returns-then-place-len g c = λ networks table.
-    let number = g.A.Word.value c.args.address * 2 ^ g.A.Address.zeros in
+    let number = g.A.Word.value c.args.address * 2 ^ g.A.Address.padding in
     let h = c.loop-entry.invariant.leads networks table in
-    let on = next (IsAnswer g.A.Word.width g.A.Address.zeros networks) (g.T.Words.words c.args.words.now) h.0 number c.loop-entry.entry h.2 c.loop-entry-test.true in
+    let on = next (IsAnswer g.A.Word.width g.A.Address.padding networks) (g.T.Words.words c.args.words.now) h.0 number c.loop-entry.entry h.2 c.loop-entry-test.true in
     absurd (omega (arith, on.2.0, c.len-in-loop-entry.ensures))
 
 pub returns-then-next-len : goal.returns-then-next-len
 returns-then-next-len g c = λ networks table.
-    let number = g.A.Word.value c.args.address * 2 ^ g.A.Address.zeros in
+    let number = g.A.Word.value c.args.address * 2 ^ g.A.Address.padding in
     let words = g.T.Words.words c.args.words.now in
     let h = c.loop-entry.invariant.leads networks table in
-    let on = next (IsAnswer g.A.Word.width g.A.Address.zeros networks) words h.0 number c.loop-entry.entry h.2 c.loop-entry-test.true in
+    let on = next (IsAnswer g.A.Word.width g.A.Address.padding networks) words h.0 number c.loop-entry.entry h.2 c.loop-entry-test.true in
     let left : c.loop-entry.left - 6 ≡ 6 * on.0 = omega (arith, h.1, on.1) in
     let at = placed words (c.loop-entry.entry - 2 ^ 31) (number / 2 ^ (6 * on.0) % 64) c.from.result c.from-in-loop-entry.result c.digit.result
     (c.from.ensures ∙ c.word.ensures) (c.from-in-loop-entry.ensures ∙ c.word-in-loop-entry.ensures) (c.digit.ensures ∙ ap (λ s. number / 2 ^ s % 64) left) in
@@ -73,9 +73,9 @@ pub loop-entry-preserved : goal.loop-entry-preserved
 loop-entry-preserved g c = record {
   fits = omega (arith, c.loop-entry.invariant.fits);
   leads = λ networks table.
-      let number = g.A.Word.value c.args.address * 2 ^ g.A.Address.zeros in
+      let number = g.A.Word.value c.args.address * 2 ^ g.A.Address.padding in
       let words = g.T.Words.words c.args.words.now in
-      let Has = IsAnswer g.A.Word.width g.A.Address.zeros networks in
+      let Has = IsAnswer g.A.Word.width g.A.Address.padding networks in
       let h = c.loop-entry.invariant.leads networks table in
       let on = next Has words h.0 number c.loop-entry.entry h.2 c.loop-entry-test.true in
       let left : c.loop-entry.left - 6 ≡ 6 * on.0 = omega (arith, h.1, on.1) in
@@ -86,6 +86,6 @@ loop-entry-preserved g c = record {
 
 pub returns : goal.returns
 returns g c = λ networks table.
-    let number = g.A.Word.value c.args.address * 2 ^ g.A.Address.zeros in
+    let number = g.A.Word.value c.args.address * 2 ^ g.A.Address.padding in
     let h = c.loop-entry.invariant.leads networks table in
-    led (IsAnswer g.A.Word.width g.A.Address.zeros networks) (g.T.Words.words c.args.words.now) h.0 number c.loop-entry.entry h.2 c.loop-entry-test.false
+    led (IsAnswer g.A.Word.width g.A.Address.padding networks) (g.T.Words.words c.args.words.now) h.0 number c.loop-entry.entry h.2 c.loop-entry-test.false
