@@ -677,8 +677,8 @@ uint32_t pcidr_permits(const pcidr_rule *rules, size_t rules_len, const pcidr_va
 uint32_t pcidr_permitted(const pcidr_rule *rules, size_t rules_len, pcidr_value *out, size_t out_len, size_t *count);
 
 /* The indexes of the rules that no address reaches, since earlier rules decide each address of their networks: the
- * first `count` of `out`, ascending. Errors as above; with NO_ROOM `count` is how many they are. Allocates; O(n^2) at
- * most. */
+ * first `count` of `out`, ascending. Errors as above; with NO_ROOM `count` is how many they are. Allocates;
+ * O(n log^2 n). */
 uint32_t pcidr_shadowed(const pcidr_rule *rules, size_t rules_len, size_t *out, size_t out_len, size_t *count);
 
 /* The indexes of the rules that decide the addresses of a network, each the first rule for some of them, in `out` as

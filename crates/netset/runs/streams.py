@@ -1,7 +1,7 @@
 #!/usr/bin/env python3
 """streams.py PROGRAM: runs the built program `netset` where the contract can't see: how many calls write a line, two runs
-that append to one file, answers before more is read, terminals, and a pipe that nobody reads. Prints nothing where all
-is as wanted, and else what differs, and ends with status 1."""
+that append to one file, answers before more is read, terminals, a pipe that nobody reads, and how long long access lists
+take. Prints nothing where all is as wanted, and else what differs, and ends with status 1."""
 import contextlib
 import glob
 import os
@@ -265,6 +265,23 @@ def little_stack():
         wanted(f"{words} with a stack of 192 KB", same and small.returncode >= 0, small)
 
 
+def long_access_lists():
+    """120,000 addresses, none beside another, and the same from the last to the first: with the square of the number of rules it
+    would take more than a minute."""
+    hosts = [f"10.{i >> 16}.{i >> 8 & 255}.{i & 255}" for i in range(0, 240_000, 2)]
+    count = len(hosts)
+    with open("long", "w", encoding="ascii") as it:
+        it.writelines(f"permit {host}\n" for host in hosts + hosts[::-1])
+    shadows = "".join(f"long:{count + 1 + k}: shadowed by long:{count - k}\n" for k in range(count))
+    for words, answer in ((["acl", "--shadowed", "long"], (1, shadows)), (["acl", "long"], (0, "".join(f"{host}\n" for host in hosts)))):
+        try:
+            ran = subprocess.run([PROGRAM, *words], capture_output=True, text=True, check=False, timeout=WAIT)
+        except subprocess.TimeoutExpired:
+            wanted(f"{words} in {WAIT} seconds", False)
+        else:
+            wanted(f"{words}", (ran.returncode, ran.stdout, ran.stderr) == (*answer, ""), ran.stdout)
+
+
 def main():
     with tempfile.TemporaryDirectory() as room:
         os.chdir(room)
@@ -272,7 +289,7 @@ def main():
                            ("owners", b"10.0.0.0/8 ten\n")):
             with open(name, "wb") as it:
                 it.write(text)
-        for test in (one_call_a_line, two_runs_append, answers_before_more_is_read, terminals, closed_pipes, killed_while_it_writes, little_stack):
+        for test in (one_call_a_line, two_runs_append, answers_before_more_is_read, terminals, closed_pipes, killed_while_it_writes, little_stack, long_access_lists):
             test()
     for line in WRONG:
         print(f"{os.path.basename(PROGRAM)}: {line}", file=sys.stderr)
