@@ -52,7 +52,7 @@ def chunk(kind, data):
 
 
 def main():
-    browser = driver.Browser(1240, 800)
+    browser = driver.Browser(1300, 800)
     try:
         page = Page(browser, pathlib.Path(sys.argv[1]).resolve().as_uri())
         page.ask("10.20.17.9")
