@@ -6,6 +6,8 @@
 #include <string.h>
 
 enum { COUNT = 64, ROOM = 4 * COUNT };
+/* More than any call allocates. */
+enum { TRIES = 10000 };
 
 static int failures;
 /* How many allocations there are before the one that is refused. */
@@ -146,7 +148,7 @@ int main(void) {
     for (size_t i = 0; i < sizeof calls / sizeof *calls; i++) {
         uint32_t code = PCIDR_NO_MEMORY;
         size_t refused = 0;
-        for (; code == PCIDR_NO_MEMORY && refused < 100; refused++) {
+        for (; code == PCIDR_NO_MEMORY && refused < TRIES; refused++) {
             set_values();
             before = refused;
             code = calls[i]();
