@@ -59,6 +59,14 @@ fn a_list_stays_as_it_was() {
 }
 
 #[test]
+fn a_list_keeps_its_room() {
+    let mut list = Vec::with_capacity(Global, 9).unwrap();
+    list.push(7).unwrap();
+    with_most(0, || list.shrink_to_fit());
+    assert_eq!((list.as_slice(), list.capacity()), (&[7][..], 9));
+}
+
+#[test]
 fn no_list_is_made() {
     assert_eq!(with_most(0, || Vec::<u8>::with_capacity(Global, 1)), Err(AllocError));
     assert_eq!(with_most(0, || Vec::from_slice(Global, &[1])), Err(AllocError));

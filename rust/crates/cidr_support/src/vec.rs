@@ -249,6 +249,25 @@ impl<T> Vec<T> {
         Ok(())
     }
 
+    /// Gives back memory that no item is in, if the system has as much as the items take besides.
+    ///
+    /// ```
+    /// # use cidr_support::{alloc::*, vec::Vec};
+    /// let mut list = Vec::with_capacity(Global, 9)?;
+    /// list.push(7)?;
+    /// list.shrink_to_fit();
+    /// assert!(list.as_slice() == [7] && list.capacity() < 9);
+    /// # Ok::<(), AllocError>(())
+    /// ```
+    pub fn shrink_to_fit(&mut self) {
+        // where the system refuses to shrink a list in its place, `std` ends the program
+        let mut list = vec::Vec::new();
+        if self.0.len() < self.0.capacity() && list.try_reserve_exact(self.0.len()).is_ok() {
+            list.append(&mut self.0);
+            self.0 = list;
+        }
+    }
+
     /// Removes the last item.
     ///
     /// ```
