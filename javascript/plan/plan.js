@@ -475,11 +475,11 @@ async function page(pcidr, script) {
         else if (kinds) item("purpose", kinds);
         const around = rowsAround(network).filter((row) => !rows.includes(row));
         if (around.length) item("inside", around.map(shown).join(", "));
-        const inside = rows.some((row) => plan.leaf[row]) ? 0 : plan.list.covered(network).length - rows.length;
-        if (inside) {
-            item("rows inside", many(inside));
-            const used = plan.leaves.intersection([network]).numAddresses(network.version);
-            item("in use", `${(Number((used * 10000n) / network.numAddresses) / 100).toFixed(2)} %`);
+        const isUsed = rowsAround(network).some((row) => plan.leaf[row]), within = isUsed ? rows : plan.list.covered(network);
+        const used = new NetworkSet(plan.list.pick(within.filter((row) => plan.leaf[row])));
+        if (within.length > rows.length) {
+            item("rows inside", many(within.length - rows.length));
+            item("in use", `${(Number((used.numAddresses(network.version) * 10000n) / network.numAddresses) / 100).toFixed(2)} %`);
         }
         const title = document.createElement("h2"), list = document.createElement("dl"), buttons = document.createElement("div");
         title.textContent = network.withPrefixlen;
@@ -497,8 +497,8 @@ async function page(pcidr, script) {
             button("Show line", "In the text", () => selectLine(plan.lines[rows[0]]));
         }
         const names = rows.map((row) => nameOf(row)).filter(Boolean).join("; "), isPool = rows.some((row) => !plan.leaf[row]);
-        const state = () => (plan.leaves.isDisjointFrom([network]) ? "free" : plan.leaves.has(network) ? "in use" : "in use in part");
-        $("detail").replaceChildren(title, paragraph(rows.length ? `${names || "in the plan"}${isPool ? ", with rows inside" : ""}` : state()), list, buttons);
+        const state = isUsed || (used.length && used.has(network)) ? "in use" : used.length ? "in use in part" : "free";
+        $("detail").replaceChildren(title, paragraph(rows.length ? `${names || "in the plan"}${isPool ? ", with rows inside" : ""}` : state), list, buttons);
     }
     function zoom(network) {
         if (network.numAddresses === 1n) return;

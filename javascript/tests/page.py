@@ -123,6 +123,18 @@ def small_plan(page):
     x, y = page.browser.run("const box = document.getElementById('canvas').getBoundingClientRect(); return [box.x + box.width * 0.99, box.y + box.height * 0.99]")
     page.browser.click(x, y)
     is_so(page.chosen().startswith("10.20.") and "free" in page.text("#detail p"), f"a click: {page.chosen()} {page.text('#detail p')}")
+    # how much of a network is in use
+    for asked, name, used in (("10.20.0.0/18", "in use in part", "35.93 %"), ("10.20.128.0/18", "residences, with rows inside", "50.00 %"), ("10.20.128.0/22", "in use", None)):
+        page.browser.run("document.getElementById('asked').value = ''")
+        page.ask(asked)
+        if page.chosen() != asked:
+            page.browser.run("document.getElementById('canvas').focus()")
+            while page.browser.run("return Number(document.querySelector('#detail h2').textContent.split('/')[1])") > int(asked.split("/")[1]):
+                page.press("Up")
+            while page.browser.run("return Number(document.querySelector('#detail h2').textContent.split('/')[1])") < int(asked.split("/")[1]):
+                page.press("Down")
+        shown = dict(zip(page.texts("#detail dt"), page.texts("#detail dd")))
+        is_so((page.chosen(), page.text("#detail p"), shown.get("in use")) == (asked, name, used), f"{page.chosen()}: {page.text('#detail p')}, {shown.get('in use')}")
     # lists
     for tab, rows, first in (("plan", 22, "10.20.0.0/16 campus"), ("merged", 2, "10.20.0.0/16 65,536"), ("overlaps", 20, "10.20.0.0/20 campus core in 10.20.0.0/16 campus"),
                              ("kinds", 22, "10.20.0.0/16 private: campus"), ("free", 15, "10.20.2.0/23 512")):
