@@ -25,7 +25,7 @@ function limited(more) {
     }
 }
 
-const strings = Array.from({ length: 2500 }, (_, i) => `${10 + (i % 3)}.${(i >> 8) & 255}.${i & 255}.0/24`);
+const strings = Array.from({ length: 1500 }, (_, i) => `${10 + (i % 3)}.${(i >> 8) & 255}.${i & 255}.0/24`);
 const text = strings.join("\n");
 /** What is done in one module: each call that takes memory. It tells how many were refused. */
 function run(pages) {
