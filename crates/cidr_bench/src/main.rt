@@ -6,24 +6,19 @@
 //! tab between each two. The programs beside have the same number where they do the same work in another way. Without
 //! an argument each row but those of large tables is done once, and nothing is printed.
 //!
-//! With `from C` as the second argument the calls are those that the library for C makes, on values from standard
-//! input, one a line. With `growth` the first argument is a number of rows and networks, on which calls are made once a
+//! With `growth` as the second argument the first one is a number of rows and networks, on which calls are made once a
 //! turn.
 #![tactic(auto)]
 
-mod arrays;
 mod bench;
 mod bits;
 mod bytes;
 mod changing;
 mod containing;
 mod covering;
-mod files;
-mod from_c;
 mod growth;
 mod idle;
 mod loading;
-mod long;
 mod loose;
 mod numbers;
 mod ordering;
@@ -65,9 +60,6 @@ fn text_of(word: &Option<String>) -> &str {
 
 /// Does the rows that are asked for.
 fn run(bench: &Bench<'_>) -> io::Result<()> {
-    if bench.row == "from C" {
-        return time_from_c(bench);
-    }
     if bench.row == "growth" {
         return growth::time_all(&bench.all().slower(bench.rounds), bench.rounds as usize);
     }
@@ -79,17 +71,10 @@ fn run(bench: &Bench<'_>) -> io::Result<()> {
     time_many(bench)
 }
 
-/// Does the calls of the library for C on the values from standard input.
-fn time_from_c(bench: &Bench<'_>) -> io::Result<()> {
-    let values = io::read_to_string(bench.rt.alloc(), bench.rt.reader())?;
-    from_c::time_all(&bench.all(), values.as_str())
-}
-
 /// Does the rows of texts and bytes.
 fn time_texts(bench: &Bench<'_>) -> io::Result<()> {
     reading::time_all(&bench.slower(16))?;
     loose::time_all(bench)?;
-    long::time_all(bench)?;
     printing::time_all(&bench.slower(16))?;
     bytes::time_all(&bench.slower(16))
 }

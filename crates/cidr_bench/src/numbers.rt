@@ -1,9 +1,7 @@
 //! One number out of a result, which hangs on each of its bits.
 
 use arrayvec::{ArrayString, ArrayVec};
-use cidr::{
-    AnyIpCidr, IpAddr, IpCidr, IpInet, Ipv4Addr, Ipv4Cidr, Ipv4Inet, Ipv6Addr, Ipv6Cidr, Ipv6Inet,
-};
+use cidr::{AnyIpCidr, IpAddr, IpCidr, Ipv4Addr, Ipv4Cidr, Ipv4Inet, Ipv6Addr, Ipv6Cidr, Ipv6Inet};
 
 /// A result of a call.
 pub trait Number {
@@ -121,12 +119,6 @@ impl Number for Ipv4Inet {
 }
 
 impl Number for Ipv6Inet {
-    fn number(&self) -> u32 {
-        with_length(self.address().number(), self.network_length())
-    }
-}
-
-impl Number for IpInet {
     fn number(&self) -> u32 {
         with_length(self.address().number(), self.network_length())
     }

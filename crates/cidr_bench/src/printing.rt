@@ -4,12 +4,12 @@ use crate::bench::{Bench, Call};
 use crate::numbers::Number;
 use crate::samples::{Sample, samples};
 use arrayvec::ArrayString;
-use cidr::{AnyIpCidr, IpCidr, Ipv4Addr, Ipv4Cidr, Ipv6Addr, Ipv6Cidr};
+use cidr::{IpCidr, Ipv4Addr, Ipv4Cidr, Ipv6Addr, Ipv6Cidr};
 use std::io;
 
 /// Prints a value.
 #[derive(Drop)]
-pub struct Print;
+struct Print;
 
 impl Call<Ipv4Addr> for Print {
     fn number(&self, value: &Ipv4Addr) -> u32 {
@@ -37,12 +37,6 @@ impl Call<Ipv6Cidr> for Print {
 
 impl Call<IpCidr> for Print {
     fn number(&self, value: &IpCidr) -> u32 {
-        value.to_text().number()
-    }
-}
-
-impl Call<AnyIpCidr> for Print {
-    fn number(&self, value: &AnyIpCidr) -> u32 {
         value.to_text().number()
     }
 }

@@ -17,11 +17,11 @@ use std::marker::PhantomData;
 use std::str::FromStr;
 
 /// A text that is read.
-pub type Text = ArrayString<43>;
+type Text = ArrayString<43>;
 
 /// Reads a text as a value of type `T`.
 #[derive(Drop)]
-pub struct Read<T>(pub PhantomData<T>);
+struct Read<T>(PhantomData<T>);
 
 impl<T: FromStr<Err: Drop> + Number + Drop> Call<Text> for Read<T> {
     fn number(&self, text: &Text) -> u32 {

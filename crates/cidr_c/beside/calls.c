@@ -1,7 +1,6 @@
 /* calls ROUNDS: times calls of the library. Prints of each a line with tabs between: its name, the nanoseconds that it
  * takes, the least of five turns, and a number that hangs on all results. `calls ROUNDS plain` times in their place plain
- * loops in C that do the same, where there is one. `calls values` prints the values that the calls get, one a line, for
- * crates/cidr_bench. */
+ * loops in C that do the same, where there is one. */
 #define _POSIX_C_SOURCE 199309L
 #include <pcidr.h>
 #include <stdio.h>
@@ -318,23 +317,8 @@ static void row(const char *name, uint32_t (*round)(uint32_t), size_t calls, uns
     printf("%s\t%.3f\t%u\n", name, least, (unsigned)sum);
 }
 
-static void print_values(const pcidr_value *values, size_t count) {
-    char text[PCIDR_TEXT_ROOM];
-    for (size_t i = 0; i < count; i++) {
-        pcidr_print_host(&values[i], text, sizeof text);
-        puts(text);
-    }
-}
-
 int main(int argc, char **argv) {
     make_values();
-    if (argc == 2 && strcmp(argv[1], "values") == 0) {
-        print_values(hosts, MANY);
-        print_values(around, MANY);
-        print_values(many_networks, NETWORKS);
-        print_values(asked, ASKED);
-        return 0;
-    }
     unsigned long rounds = argc > 1 ? strtoul(argv[1], NULL, 10) : 0, fewer = rounds / 1000;
     if (rounds == 0) rounds = 1;
     if (fewer == 0) fewer = 1;
