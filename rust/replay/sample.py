@@ -325,15 +325,33 @@ def stored_lines_of_groups():
 
 
 def run_of_kit(stored):
-    """The run of crates/cidr_replay: of each operation and type the first line of each outcome."""
+    """The run of crates/cidr_replay: of each operation, at the types that it has there, the first line of each outcome
+    and family."""
+    types_of_name = defaultdict(set)
+    for operation, expected in stored.items():
+        if expected != b"malformed":
+            name, kind, *_ = operation.split(b" ") + [b""]
+            types_of_name[name].add(kind)
     sample, seen = {}, set()
     for operation, expected in stored.items():
-        # those of `inside` name no type
-        of = key(operation)[: 1 if operation.startswith(b"inside.") else None], outcome(expected)
-        if of not in seen:
+        words = operation.split(b" ")
+        if expected == b"malformed" or b"%" in operation or not are_parsers_of_kit(words) or words[0] == b"load" and words[3:]:
+            continue
+        types = types_of_name[words[0]]
+        # `inside`, `family`, `convert` and `tool` name no type in this place
+        widest = [kind for kind in (b"any", b"ip", b"v6", b"v4") if kind in types] or [words[1]]
+        wanted = widest[: 2 if words[0].startswith(b"cidr.") and widest[0] == b"any" else 1]
+        of = key(operation)[: 1 if operation.startswith(b"inside.") else None], outcome(expected), b":" in operation
+        if words[1] in wanted and of not in seen:
             seen.add(of)
             sample[operation] = expected
     return sample
+
+
+def are_parsers_of_kit(words):
+    """Whether the parsers that a line passes are those that crates/cidr_replay knows, or it passes none."""
+    passed = words[2:-1] if words[0].startswith(b"parse.") else []
+    return passed in ([], [b"strict"], [b"strict", b"hrefuse"])
 
 
 def files_of_runs(stored):

@@ -1,93 +1,107 @@
-//! Operations on addresses.
+//! Operations on addresses and families.
 
 use crate::answer::Answer;
-use crate::line_error::{LineError, Outcome};
-use crate::queries;
 use crate::tokens::Tokens;
-use crate::values::Value;
-use cidr::{AddrParseError, IpAddr, Ipv4Addr, Ipv6Addr};
-use std::str::FromStr;
-
-/// What addresses have beside the calls of `cidr::Address`.
-pub trait Address: Copy + Ord + FromStr<Err = AddrParseError> + Value {
-    /// Answers the printed text by the call for texts, by `Display` and by `Debug`.
-    fn texts(&self, answer: &mut Answer) -> Outcome;
-
-    /// Answers an operation of this type alone.
-    fn answer_own(name: &str, tokens: &mut Tokens<'_>, answer: &mut Answer) -> Outcome;
-}
-
-impl Address for Ipv4Addr {
-    fn texts(&self, answer: &mut Answer) -> Outcome {
-        answer.word(self.to_text().as_str())?;
-        answer.display(self)?;
-        answer.display(&format_args!("{self:?}"))
-    }
-
-    fn answer_own(name: &str, tokens: &mut Tokens<'_>, answer: &mut Answer) -> Outcome {
-        match name {
-            "new" => {
-                let (a, b) = (tokens.number()?, tokens.number()?);
-                let (c, d) = (tokens.number()?, tokens.number()?);
-                answer.value(&Ipv4Addr::new(a, b, c, d))
-            }
-            "octets" => answer.bytes(&tokens.value::<Ipv4Addr>()?.octets()),
-            "to_bits" => answer.display(&tokens.value::<Ipv4Addr>()?.to_bits()),
-            "from_bits" => answer.value(&Ipv4Addr::from_bits(tokens.number()?)),
-            _ => Err(LineError::Malformed),
-        }
-    }
-}
-
-impl Address for Ipv6Addr {
-    fn texts(&self, answer: &mut Answer) -> Outcome {
-        answer.word(self.to_text().as_str())?;
-        answer.display(self)?;
-        answer.display(&format_args!("{self:?}"))
-    }
-
-    fn answer_own(name: &str, tokens: &mut Tokens<'_>, answer: &mut Answer) -> Outcome {
-        match name {
-            "new" => {
-                let [a, b, c, d, e, f, g, h] = tokens.groups()?;
-                answer.value(&Ipv6Addr::new(a, b, c, d, e, f, g, h))
-            }
-            "octets" => answer.bytes(&tokens.value::<Ipv6Addr>()?.octets()),
-            "segments" => {
-                for group in &tokens.value::<Ipv6Addr>()?.segments() {
-                    answer.display(group)?;
-                }
-                Ok(())
-            }
-            "to_bits" => answer.display(&tokens.value::<Ipv6Addr>()?.to_bits()),
-            "from_bits" => answer.value(&Ipv6Addr::from_bits(tokens.number()?)),
-            _ => Err(LineError::Malformed),
-        }
-    }
-}
-
-impl Address for IpAddr {
-    fn texts(&self, answer: &mut Answer) -> Outcome {
-        answer.word(self.to_text().as_str())?;
-        answer.display(self)?;
-        answer.display(&format_args!("{self:?}"))
-    }
-
-    fn answer_own(name: &str, tokens: &mut Tokens<'_>, answer: &mut Answer) -> Outcome {
-        if name != "is" {
-            return Err(LineError::Malformed);
-        }
-        let address = tokens.value::<IpAddr>()?;
-        answer.value(&(address.is_ipv4(), address.is_ipv6()))
-    }
-}
+use cidr::{Family, IpAddr, Ipv6Addr};
 
 /// Answers the operation on addresses that has this name.
-pub fn answer<A: Address>(name: &str, tokens: &mut Tokens<'_>, answer: &mut Answer) -> Outcome {
+pub fn answer(name: &str, kind: &str, tokens: &mut Tokens<'_>, answer: &mut Answer) -> Option<()> {
+    match kind {
+        "v6" => of_ipv6(name, tokens, answer),
+        "ip" => of_either_family(name, tokens, answer),
+        _ => None,
+    }
+}
+
+fn of_ipv6(name: &str, tokens: &mut Tokens<'_>, answer: &mut Answer) -> Option<()> {
     match name {
-        "parse" => queries::parse::<A>(tokens, answer),
-        "cmp" => queries::compare::<A>(tokens, answer),
-        "text" => tokens.value::<A>()?.texts(answer),
-        _ => A::answer_own(name, tokens, answer),
+        "new" => {
+            let [a, b, c, d, e, f, g, h] = groups(tokens)?;
+            answer.show(&Ipv6Addr::new(a, b, c, d, e, f, g, h));
+        }
+        "from_bits" => answer.show(&Ipv6Addr::from_bits(tokens.value()?)),
+        _ => parts_of_ipv6(name, tokens.value()?, answer)?,
+    }
+    Some(())
+}
+
+fn parts_of_ipv6(name: &str, address: Ipv6Addr, answer: &mut Answer) -> Option<()> {
+    match name {
+        "octets" => answer.bytes(&address.octets()),
+        "to_bits" => answer.show(&address.to_bits()),
+        "segments" => {
+            for group in &address.segments() {
+                answer.show(group);
+            }
+        }
+        _ => return None,
+    }
+    Some(())
+}
+
+/// Eight groups of an IPv6 address, in decimal.
+pub fn groups(tokens: &mut Tokens<'_>) -> Option<[u16; 8]> {
+    let mut groups = [0u16; 8];
+    for group in groups.iter_mut() {
+        *group = tokens.value()?;
+    }
+    Some(groups)
+}
+
+/// Appends an address that a string is parsed as, or the error.
+fn parsed(text: &str, answer: &mut Answer) {
+    match text.parse::<IpAddr>() {
+        Ok(address) => answer.show(&format_args!("ok {address}")),
+        Err(e) => answer.error("err AddrParseError", &e),
+    }
+}
+
+fn of_either_family(name: &str, tokens: &mut Tokens<'_>, answer: &mut Answer) -> Option<()> {
+    if name == "parse" {
+        parsed(tokens.text()?, answer);
+        return Some(());
+    }
+    let address = tokens.value::<IpAddr>()?;
+    match name {
+        "cmp" => answer.order(address.cmp(&tokens.value()?)),
+        "text" => {
+            answer.show(&address.to_text().as_str());
+            answer.show(&address);
+            answer.debug(&address);
+        }
+        "is" => {
+            answer.show(&address.is_ipv4());
+            answer.show(&address.is_ipv6());
+        }
+        _ => return None,
+    }
+    Some(())
+}
+
+/// Answers the operation on families that has this name; the second token names one.
+pub fn families(
+    name: &str,
+    kind: &str,
+    tokens: &mut Tokens<'_>,
+    answer: &mut Answer,
+) -> Option<()> {
+    let family = family(kind)?;
+    match name {
+        "cmp" => answer.order(family.cmp(&self::family(tokens.word()?)?)),
+        "show" => {
+            answer.show(&family.len());
+            answer.show(&family.unspecified_address());
+            answer.show(&family.loopback_address());
+        }
+        _ => return None,
+    }
+    Some(())
+}
+
+fn family(name: &str) -> Option<Family> {
+    match name {
+        "Ipv4" => Some(Family::Ipv4),
+        "Ipv6" => Some(Family::Ipv6),
+        _ => None,
     }
 }

@@ -1,16 +1,18 @@
 //! The answer to a line, token by token.
-use crate::line_error::Outcome;
-use crate::refusals::Refusal;
-use crate::values::Value;
+
 use std::alloc::{AllocError, Global};
+use std::cmp::Ordering;
 use std::fmt::{Debug, Display};
 
 /// An answer line that is being written; its memory serves the next line too.
 #[derive(Drop)]
 pub struct Answer {
+    /// A space before each token.
     line: String,
-    /// The text of the token that is being escaped.
+    /// The string of the token that is being escaped.
     unescaped: String,
+    /// Whether there was no memory for all of it.
+    is_cut: bool,
 }
 
 impl Answer {
@@ -19,100 +21,82 @@ impl Answer {
         Answer {
             line: String::new(alloc),
             unescaped: String::new(alloc),
+            is_cut: false,
         }
-    }
-
-    /// The line as it stands.
-    pub fn as_bytes(&self) -> &[u8] {
-        self.line.as_bytes()
     }
 
     /// Begins anew.
-    pub fn clear(&mut self) {
+    pub fn begin(&mut self) {
         self.line.clear();
     }
 
-    /// Puts what `Display` prints in place of all tokens.
-    pub fn replace<D: Display>(&mut self, value: &D) -> Result<(), AllocError> {
-        self.line.clear();
-        write!(self.line, "{value}")
+    /// The whole line, which is ended, or an error where there was no memory for it.
+    pub fn line(&mut self) -> Result<&[u8], AllocError> {
+        self.more(&'\n');
+        if self.is_cut {
+            return Err(AllocError);
+        }
+        let line = self.line.as_bytes();
+        Ok(line.get(1..).unwrap_or(line))
     }
 
-    /// Ends the line.
-    pub fn end(&mut self) -> Result<(), AllocError> {
-        self.line.push('\n')
+    /// Appends to the last token what `Display` prints.
+    pub fn more<D: Display>(&mut self, value: &D) {
+        self.is_cut |= write!(self.line, "{value}").is_err();
     }
 
-    /// Appends a word as a token.
-    pub fn word(&mut self, word: &str) -> Outcome {
-        self.begin_token()?;
-        Ok(self.line.push_str(word)?)
-    }
-
-    /// Appends a token, the text that `Display` prints.
-    pub fn display<D: Display>(&mut self, value: &D) -> Outcome {
-        self.begin_token()?;
-        Ok(write!(self.line, "{value}")?)
+    /// Appends a token or tokens, what `Display` prints.
+    pub fn show<D: Display>(&mut self, value: &D) {
+        self.is_cut |= write!(self.line, " {value}").is_err();
     }
 
     /// Appends what `Debug` prints, with its spaces.
-    pub fn shown<D: Debug>(&mut self, value: &D) -> Outcome {
-        self.begin_token()?;
-        Ok(write!(self.line, "{value:?}")?)
+    pub fn debug<D: Debug>(&mut self, value: &D) {
+        self.is_cut |= write!(self.line, " {value:?}").is_err();
     }
 
-    /// Appends to the last token.
-    pub fn more<D: Display>(&mut self, value: &D) -> Outcome {
-        Ok(write!(self.line, "{value}")?)
+    /// Appends what `Display` prints of a value, or `none`.
+    pub fn option<D: Display>(&mut self, value: &Option<D>) {
+        match value {
+            Some(value) => self.show(value),
+            None => self.show(&"none"),
+        }
     }
 
-    /// Appends a token or tokens as they stand for the value.
-    pub fn value<V: Value>(&mut self, value: &V) -> Outcome {
-        value.push_to(self)
+    /// Appends an order.
+    pub fn order(&mut self, order: Ordering) {
+        self.show(&match order {
+            Ordering::Less => "less",
+            Ordering::Equal => "equal",
+            Ordering::Greater => "greater",
+        });
     }
 
     /// Appends bytes: `x`, and two hexadecimal digits for each.
-    pub fn bytes(&mut self, bytes: &[u8]) -> Outcome {
-        self.begin_token()?;
-        self.line.push('x')?;
+    pub fn bytes(&mut self, bytes: &[u8]) {
+        self.show(&'x');
         for byte in bytes {
-            write!(self.line, "{byte:02x}")?;
+            self.more(&format_args!("{byte:02x}"));
         }
-        Ok(())
     }
 
-    /// Appends a text, what `Display` prints: `=`, and the text with its blanks and the like escaped.
-    pub fn text<D: Display>(&mut self, value: &D) -> Outcome {
-        self.begin_token()?;
-        self.line.push('=')?;
+    /// Appends a string, what `Display` prints: `=`, and the string with its blanks and the like escaped.
+    pub fn text<D: Display>(&mut self, value: &D) {
+        self.show(&'=');
         self.unescaped.clear();
-        write!(self.unescaped, "{value}")?;
+        self.is_cut |= write!(self.unescaped, "{value}").is_err();
         for byte in self.unescaped.as_bytes() {
-            push_escaped(&mut self.line, *byte)?;
-        }
-        Ok(())
-    }
-
-    /// Appends a refusal: its kind, and its words as a text.
-    pub fn refusal<R: Refusal>(&mut self, refusal: &R) -> Outcome {
-        self.word(refusal.kind())?;
-        self.text(refusal)
-    }
-
-    /// Appends the space that stands before each token but the first.
-    fn begin_token(&mut self) -> Result<(), AllocError> {
-        if self.line.is_empty() {
-            Ok(())
-        } else {
-            self.line.push(' ')
+            self.is_cut |= if *byte != b'%' && byte.is_ascii_graphic() {
+                self.line.push(char::from(*byte)).is_err()
+            } else {
+                write!(self.line, "%{byte:02X}").is_err()
+            };
         }
     }
-}
 
-/// Appends a byte of a text, escaped where it cannot stand in a token.
-fn push_escaped(line: &mut String, byte: u8) -> Result<(), AllocError> {
-    if byte != b'%' && byte.is_ascii_graphic() {
-        return line.push(char::from(byte));
+    /// Appends an error: its kind, and its message as a string.
+    pub fn error<D: Display>(&mut self, kind: &str, error: &D) {
+        self.show(&kind);
+        self.text(error);
     }
-    write!(line, "%{byte:02X}")
 }

@@ -1,86 +1,106 @@
 //! Operations on networks and hosts as strings of bits.
-ghost use Rattle.std.specs.Prelude.{◌<◌, length, IfOk};
 
 use crate::answer::Answer;
-use crate::line_error::{LineError, Outcome};
 use crate::tokens::Tokens;
-use crate::values::Value;
-use cidr::errors::NetworkParseError;
-use cidr::{AnyIpCidr, BitString, Ipv4Cidr, Ipv4Inet, Ipv6Cidr, Ipv6Inet};
-use std::str::FromStr;
+use cidr::{AnyIpCidr, BitString, Ipv6Inet};
 
-/// The strings of bits of which there are operations.
-pub trait Bits: BitString + FromStr<Err = NetworkParseError> + Value {}
-
-impl Bits for Ipv4Cidr {}
-
-impl Bits for Ipv6Cidr {}
-
-impl Bits for AnyIpCidr {}
-
-impl Bits for Ipv4Inet {}
-
-impl Bits for Ipv6Inet {}
-
-/// Answers the operation on strings of bits that has this name.
-pub fn answer<B: Bits>(name: &str, tokens: &mut Tokens<'_>, answer: &mut Answer) -> Outcome {
+/// Answers the operation of this name on the bits of a network.
+pub fn of_network(
+    name: &str,
+    kind: &str,
+    tokens: &mut Tokens<'_>,
+    answer: &mut Answer,
+) -> Option<()> {
+    if kind != "any" {
+        return None;
+    }
+    if name == "null" {
+        answer.show(&AnyIpCidr::null().with_length());
+        return Some(());
+    }
+    let mut bits = tokens.value::<AnyIpCidr>()?;
     match name {
-        "len" => answer.value(&tokens.value::<B>()?.len()),
+        "len" => answer.show(&bits.len()),
+        "shared_prefix_len" => answer.show(&bits.shared_prefix_len(&tokens.value()?)),
         "get" => {
-            let bits = tokens.value::<B>()?;
-            let i = index(&bits, tokens)?;
-            answer.value(&bits.get(i))
+            let i = tokens.value::<usize>()?;
+            if i >= bits.len() {
+                return None;
+            }
+            answer.show(&bits.get(i));
         }
-        "set" => set::<B>(tokens, answer),
-        "flip" => flip::<B>(tokens, answer),
-        "clip" => {
-            let mut bits = tokens.value::<B>()?;
-            bits.clip(tokens.number()?);
-            answer.value(&bits)
+        _ => {
+            changed(name, &mut bits, tokens)?;
+            answer.show(&bits.with_length());
         }
-        "append" => append::<B>(tokens, answer),
-        "null" => answer.value(&B::null()),
-        "shared_prefix_len" => {
-            let bits = tokens.value::<B>()?;
-            answer.value(&bits.shared_prefix_len(&tokens.value()?))
+    }
+    Some(())
+}
+
+/// Makes the change of this name; one of a bit that is not there, or for which there is no room, is none.
+fn changed(name: &str, bits: &mut AnyIpCidr, tokens: &mut Tokens<'_>) -> Option<()> {
+    match name {
+        "append" if bits.room() > 0 => bits.append(tokens.value()?),
+        "clip" => bits.clip(tokens.value()?),
+        _ => {
+            let i = tokens.value::<usize>()?;
+            if i >= bits.len() {
+                return None;
+            }
+            match name {
+                "set" => bits.set(i, tokens.value()?),
+                "flip" => bits.flip(i),
+                _ => return None,
+            }
         }
-        _ => Err(LineError::Malformed),
     }
+    Some(())
 }
 
-/// Which bit of the string is meant; one that it does not have is none of the format.
-fn index<B: Bits>(bits: &B, tokens: &mut Tokens<'_>) -> Result<usize, LineError>
-    ensures { IfOk result (λ i. i < length (B.BitString.bits bits.now)) }
-{
-    let i = tokens.number::<usize>()?;
-    if i < bits.len() {
-        Ok(i)
-    } else {
-        Err(LineError::Malformed)
+/// Answers the operation of this name on the bits of a host of IPv6.
+pub fn of_host(name: &str, kind: &str, tokens: &mut Tokens<'_>, answer: &mut Answer) -> Option<()> {
+    if kind != "v6" {
+        return None;
     }
-}
-
-fn set<B: Bits>(tokens: &mut Tokens<'_>, answer: &mut Answer) -> Outcome {
-    let mut bits = tokens.value::<B>()?;
-    let i = index(&bits, tokens)?;
-    bits.set(i, tokens.truth()?);
-    answer.value(&bits)
-}
-
-fn flip<B: Bits>(tokens: &mut Tokens<'_>, answer: &mut Answer) -> Outcome {
-    let mut bits = tokens.value::<B>()?;
-    let i = index(&bits, tokens)?;
-    bits.flip(i);
-    answer.value(&bits)
-}
-
-/// Appends a bit; to a full string is none of the format.
-fn append<B: Bits>(tokens: &mut Tokens<'_>, answer: &mut Answer) -> Outcome {
-    let mut bits = tokens.value::<B>()?;
-    let bit = tokens.truth()?;
-    if bits.room() == 0 {
-        return Err(LineError::Malformed);
+    if name == "null" {
+        answer.show(&Ipv6Inet::null().with_length());
+        return Some(());
     }
-    bits.append(bit);
-    answer.value(&bits)
+    let mut bits = tokens.value::<Ipv6Inet>()?;
+    match name {
+        "len" => answer.show(&bits.len()),
+        "shared_prefix_len" => answer.show(&bits.shared_prefix_len(&tokens.value()?)),
+        "get" => {
+            let i = tokens.value::<usize>()?;
+            if i >= bits.len() {
+                return None;
+            }
+            answer.show(&bits.get(i));
+        }
+        _ => {
+            changed_host(name, &mut bits, tokens)?;
+            answer.show(&bits.with_length());
+        }
+    }
+    Some(())
+}
+
+/// Makes the change of this name; one of a bit that is not there, or for which there is no room, is none.
+fn changed_host(name: &str, bits: &mut Ipv6Inet, tokens: &mut Tokens<'_>) -> Option<()> {
+    match name {
+        "append" if bits.room() > 0 => bits.append(tokens.value()?),
+        "clip" => bits.clip(tokens.value()?),
+        _ => {
+            let i = tokens.value::<usize>()?;
+            if i >= bits.len() {
+                return None;
+            }
+            match name {
+                "set" => bits.set(i, tokens.value()?),
+                "flip" => bits.flip(i),
+                _ => return None,
+            }
+        }
+    }
+    Some(())
 }

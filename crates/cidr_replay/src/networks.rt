@@ -1,130 +1,165 @@
 //! Operations on networks.
 
 use crate::answer::Answer;
-use crate::line_error::{LineError, Outcome};
-use crate::queries;
-use crate::queries::HasTexts;
+use crate::errors;
 use crate::tokens::Tokens;
-use crate::values::Value;
 use cidr::errors::NetworkParseError;
-use cidr::{Address, AnyIpCidr, Cidr, IpCidr, Ipv4Cidr, Ipv6Cidr};
-use std::str::FromStr;
+use cidr::{AnyIpCidr, IpAddr, IpCidr, Ipv6Cidr};
 
-pub mod any;
-
-/// What all networks have.
-pub trait Network: Copy + Ord + FromStr<Err = NetworkParseError> + HasTexts + Value {
-    fn contains_cidr(&self, other: &Self) -> bool;
-
-    /// Answers an operation of this type alone.
-    fn answer_own(name: &str, tokens: &mut Tokens<'_>, answer: &mut Answer) -> Outcome;
+/// Answers the operation on networks that has this name.
+pub fn answer(name: &str, kind: &str, tokens: &mut Tokens<'_>, answer: &mut Answer) -> Option<()> {
+    match kind {
+        "ip" => of_either_family(name, tokens, answer),
+        "any" => of_any(name, tokens, answer),
+        "v6" if name == "first_address_ref" => {
+            answer.show(tokens.value::<Ipv6Cidr>()?.first_address_ref());
+            Some(())
+        }
+        _ => None,
+    }
 }
 
-impl Network for Ipv4Cidr {
-    fn contains_cidr(&self, other: &Ipv4Cidr) -> bool {
-        Ipv4Cidr::contains_cidr(self, other)
-    }
-
-    fn answer_own(name: &str, tokens: &mut Tokens<'_>, answer: &mut Answer) -> Outcome {
-        match name {
-            "first_address_ref" => answer.value(tokens.value::<Ipv4Cidr>()?.first_address_ref()),
-            _ => Err(LineError::Malformed),
+/// Appends a network that was made, or the error.
+pub fn outcome(made: Result<IpCidr, NetworkParseError>, answer: &mut Answer) {
+    match made {
+        Ok(network) => answer.show(&format_args!("ok {}", network.with_length())),
+        Err(e) => {
+            answer.show(&"err");
+            errors::of_network(&e, answer);
         }
     }
 }
 
-impl Network for Ipv6Cidr {
-    fn contains_cidr(&self, other: &Ipv6Cidr) -> bool {
-        Ipv6Cidr::contains_cidr(self, other)
-    }
-
-    fn answer_own(name: &str, tokens: &mut Tokens<'_>, answer: &mut Answer) -> Outcome {
-        match name {
-            "first_address_ref" => answer.value(tokens.value::<Ipv6Cidr>()?.first_address_ref()),
-            _ => Err(LineError::Malformed),
+/// Appends a network that was made and may be all addresses, or the error.
+pub fn any_outcome(made: Result<AnyIpCidr, NetworkParseError>, answer: &mut Answer) {
+    match made {
+        Ok(network) => answer.show(&format_args!("ok {}", network.with_length())),
+        Err(e) => {
+            answer.show(&"err");
+            errors::of_network(&e, answer);
         }
     }
 }
 
-impl Network for IpCidr {
-    fn contains_cidr(&self, other: &IpCidr) -> bool {
-        IpCidr::contains_cidr(self, other)
-    }
-
-    fn answer_own(name: &str, tokens: &mut Tokens<'_>, answer: &mut Answer) -> Outcome {
-        match name {
-            "is" => {
-                let network = tokens.value::<IpCidr>()?;
-                answer.value(&(network.is_ipv4(), network.is_ipv6()))
-            }
-            _ => Err(LineError::Malformed),
-        }
-    }
-}
-
-impl Network for AnyIpCidr {
-    fn contains_cidr(&self, other: &AnyIpCidr) -> bool {
-        AnyIpCidr::contains_cidr(self, other)
-    }
-
-    fn answer_own(name: &str, tokens: &mut Tokens<'_>, answer: &mut Answer) -> Outcome {
-        any::answer_own(name, tokens, answer)
-    }
-}
-
-/// Answers the operation that has this name on networks that always have a family, which are told by their addresses.
-pub fn answer<A: Address + Value>(
-    name: &str,
-    tokens: &mut Tokens<'_>,
-    answer: &mut Answer,
-) -> Outcome
-where
-    A::Cidr: Cidr<Address = A> + Network,
-    A::Inet: Value,
-{
+fn of_either_family(name: &str, tokens: &mut Tokens<'_>, answer: &mut Answer) -> Option<()> {
     match name {
         "new" => {
-            let address = tokens.value::<A>()?;
-            answer.value(&A::Cidr::new(address, tokens.number()?))
+            let address = tokens.value::<IpAddr>()?;
+            outcome(IpCidr::new(address, tokens.value()?), answer);
         }
-        "new_host" => answer.value(&A::Cidr::new_host(tokens.value::<A>()?)),
-        "contains" => {
-            let network = tokens.value::<A::Cidr>()?;
-            answer.value(&network.contains(&tokens.value::<A>()?))
+        "new_host" => {
+            answer.show(&IpCidr::new_host(tokens.value::<IpAddr>()?).with_length());
         }
-        "show" => show::<A>(tokens, answer),
-        "ends" => {
-            let network = tokens.value::<A::Cidr>()?;
-            answer.value(&(network.first(), network.last()))
-        }
-        _ => answer_each::<A::Cidr>(name, tokens, answer),
+        "parse" => outcome(tokens.text()?.parse::<IpCidr>(), answer),
+        _ => asked(name, tokens.value()?, tokens, answer)?,
     }
+    Some(())
 }
 
-/// The operations of every type.
-fn answer_each<N: Network>(name: &str, tokens: &mut Tokens<'_>, answer: &mut Answer) -> Outcome {
+fn asked(name: &str, network: IpCidr, tokens: &mut Tokens<'_>, answer: &mut Answer) -> Option<()> {
     match name {
-        "contains_cidr" => {
-            let network = tokens.value::<N>()?;
-            answer.value(&network.contains_cidr(&tokens.value::<N>()?))
-        }
-        "parse" => queries::parse::<N>(tokens, answer),
-        "cmp" => queries::compare::<N>(tokens, answer),
-        "text" => tokens.value::<N>()?.texts(answer),
-        _ => N::answer_own(name, tokens, answer),
+        "cmp" => answer.order(network.cmp(&tokens.value()?)),
+        "contains" => answer.show(&network.contains(&tokens.value()?)),
+        "contains_cidr" => answer.show(&network.contains_cidr(&tokens.value()?)),
+        _ => shown(name, &network, answer)?,
     }
+    Some(())
 }
 
-/// The ends, the mask, the length, the family, and whether the length is full.
-fn show<A: Address + Value>(tokens: &mut Tokens<'_>, answer: &mut Answer) -> Outcome
-where
-    A::Cidr: Cidr<Address = A>,
-{
-    let network = tokens.value::<A::Cidr>()?;
-    let ends = (network.first_address(), network.last_address());
-    let length = (
-        network.network_length(),
-        (network.family(), network.is_host_address()),
-    );
-    answer.value(&(ends, (network.mask(), length)))
+fn shown(name: &str, network: &IpCidr, answer: &mut Answer) -> Option<()> {
+    match name {
+        "ends" => {
+            answer.show(&network.first().with_length());
+            answer.show(&network.last().with_length());
+        }
+        "is" => {
+            answer.show(&network.is_ipv4());
+            answer.show(&network.is_ipv6());
+        }
+        "show" => {
+            answer.show(&network.first_address());
+            answer.show(&network.last_address());
+            answer.show(&network.mask());
+            answer.show(&network.network_length());
+            answer.debug(&network.family());
+            answer.show(&network.is_host_address());
+        }
+        "text" => {
+            let forced = network.with_length();
+            answer.show(&network.to_text().as_str());
+            answer.show(network);
+            answer.show(&forced.to_text().as_str());
+            answer.show(&forced);
+        }
+        _ => return None,
+    }
+    Some(())
+}
+
+fn of_any(name: &str, tokens: &mut Tokens<'_>, answer: &mut Answer) -> Option<()> {
+    match name {
+        "new" => {
+            let address = tokens.value::<IpAddr>()?;
+            any_outcome(AnyIpCidr::new(address, tokens.value()?), answer);
+        }
+        "new_host" => {
+            answer.show(&AnyIpCidr::new_host(tokens.value::<IpAddr>()?).with_length());
+        }
+        "parse" => any_outcome(tokens.text()?.parse::<AnyIpCidr>(), answer),
+        _ => asked_any(name, tokens.value()?, tokens, answer)?,
+    }
+    Some(())
+}
+
+fn asked_any(
+    name: &str,
+    network: AnyIpCidr,
+    tokens: &mut Tokens<'_>,
+    answer: &mut Answer,
+) -> Option<()> {
+    match name {
+        "cmp" => answer.order(network.cmp(&tokens.value()?)),
+        "contains" => answer.show(&network.contains(&tokens.value()?)),
+        "contains_cidr" => answer.show(&network.contains_cidr(&tokens.value()?)),
+        _ => shown_any(name, &network, answer)?,
+    }
+    Some(())
+}
+
+/// What networks that may be all addresses have, or none where there are no ends and no family.
+fn shown_any(name: &str, network: &AnyIpCidr, answer: &mut Answer) -> Option<()> {
+    match name {
+        "ends" => match (network.first(), network.last()) {
+            (Some(first), Some(last)) => {
+                answer.show(&first.with_length());
+                answer.show(&last.with_length());
+            }
+            _ => answer.show(&"none none"),
+        },
+        "is" => {
+            answer.show(&network.is_any());
+            answer.show(&network.is_ipv4());
+            answer.show(&network.is_ipv6());
+        }
+        "show" => {
+            answer.option(&network.first_address());
+            answer.option(&network.last_address());
+            answer.option(&network.mask());
+            answer.option(&network.network_length());
+            match network.family() {
+                Some(family) => answer.debug(&family),
+                None => answer.show(&"none"),
+            }
+            answer.show(&network.is_host_address());
+        }
+        "text" => {
+            let forced = network.with_length();
+            answer.show(&network.to_text().as_str());
+            answer.show(network);
+            answer.show(&forced.to_text().as_str());
+            answer.show(&forced);
+        }
+        _ => return None,
+    }
+    Some(())
 }

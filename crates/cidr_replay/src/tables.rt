@@ -1,136 +1,129 @@
 //! Operations on a longest-prefix table, which a line builds step by step.
 
 use crate::answer::Answer;
-use crate::line_error::{LineError, Outcome};
+use crate::errors;
 use crate::tokens::Tokens;
-use crate::values::Value;
-use cidr::errors::NetworkParseError;
-use cidr::{AnyIpCidr, Ipv4Cidr, Ipv6Cidr, NetworkBits, PrefixBytes};
+use cidr::{AnyIpCidr, Ipv6Cidr};
 use cidr_table::{LoadError, LpmTable, longest_match};
-use std::str::FromStr;
 
-/// The types of keys.
-pub trait Key: NetworkBits + Copy + FromStr<Err = NetworkParseError> + Value {
-    /// Appends the key to the last token.
-    fn more_to(&self, answer: &mut Answer) -> Outcome;
-}
-
-impl Key for Ipv4Cidr {
-    fn more_to(&self, answer: &mut Answer) -> Outcome {
-        answer.more(&self.with_length())
-    }
-}
-
-impl Key for Ipv6Cidr {
-    fn more_to(&self, answer: &mut Answer) -> Outcome {
-        answer.more(&self.with_length())
-    }
-}
-
-impl Key for AnyIpCidr {
-    fn more_to(&self, answer: &mut Answer) -> Outcome {
-        answer.more(&self.with_length())
-    }
-}
+/// A table whose keys may be all addresses.
+type Table = LpmTable<AnyIpCidr, usize>;
 
 /// Answers the steps on an empty table, and then all its rows.
-pub fn answer<C: Key>(tokens: &mut Tokens<'_>, answer: &mut Answer) -> Outcome {
-    answer_steps::<C>(LpmTable::new(tokens.alloc()), tokens, answer)
+pub fn answer(kind: &str, tokens: &mut Tokens<'_>, answer: &mut Answer) -> Option<()> {
+    if kind != "any" {
+        return None;
+    }
+    let mut table = Table::new(tokens.alloc);
+    for _ in 0..usize::MAX {
+        let Some(step) = tokens.word() else {
+            break;
+        };
+        match step {
+            "insert" => {
+                let before = table.insert(tokens.value()?, tokens.value()?).ok()?;
+                answer.option(&before);
+            }
+            "remove" => answer.option(&table.remove(&tokens.value()?)),
+            _ => asked(step, &table, tokens, answer)?,
+        }
+    }
+    answer.show(&"rows");
+    for row in table.iter() {
+        shown(row, answer);
+    }
+    Some(())
 }
 
-/// Answers the steps on the table that prefix bytes are loaded as, or why they are refused.
-pub fn answer_load<C: Key + PrefixBytes>(tokens: &mut Tokens<'_>, answer: &mut Answer) -> Outcome {
-    let bytes = tokens.bytes()?;
-    match LpmTable::<C, usize>::load(tokens.alloc(), bytes.as_slice()) {
+/// The steps that change nothing.
+fn asked(step: &str, table: &Table, tokens: &mut Tokens<'_>, answer: &mut Answer) -> Option<()> {
+    match step {
+        "row" => row(table.row(tokens.value()?), answer),
+        "inside" => rows(table.inside(&tokens.value()?), answer),
+        "get" => answer.option(&table.get(&tokens.value()?)),
+        "match" => matched(table, &tokens.value()?, answer),
+        _ => return None,
+    }
+    Some(())
+}
+
+/// Appends a row as a token.
+fn shown(row: &(AnyIpCidr, usize), answer: &mut Answer) {
+    answer.show(&row.0.with_length());
+    answer.more(&format_args!("={}", row.1));
+}
+
+/// Appends a row, or `none`.
+fn row(row: Option<&(AnyIpCidr, usize)>, answer: &mut Answer) {
+    match row {
+        Some(row) => shown(row, answer),
+        None => answer.show(&"none"),
+    }
+}
+
+/// Appends the rows between brackets, with commas between them.
+fn rows(rows: &[(AnyIpCidr, usize)], answer: &mut Answer) {
+    answer.show(&'[');
+    let mut between = "";
+    for (key, value) in rows {
+        answer.more(&format_args!("{between}{}={value}", key.with_length()));
+        between = ",";
+    }
+    answer.more(&']');
+}
+
+/// Appends the row of the longest match behind its place, or `none`.
+fn matched(table: &Table, asked: &AnyIpCidr, answer: &mut Answer) {
+    let Some(place) = longest_match(&mut table.probe(), asked) else {
+        return answer.show(&"none");
+    };
+    if let Some((key, value)) = table.row(place) {
+        answer.show(&format_args!("{place}@{}={value}", key.with_length()));
+    }
+}
+
+/// Answers the rows of the table that prefix bytes are loaded as, or the error.
+pub fn load(kind: &str, tokens: &mut Tokens<'_>, answer: &mut Answer) -> Option<()> {
+    if kind != "v6" {
+        return None;
+    }
+    match LpmTable::<Ipv6Cidr, usize>::load(tokens.alloc, tokens.bytes()?.as_slice()) {
         Ok(table) => {
-            answer.word("ok")?;
-            answer_steps(table, tokens, answer)
+            answer.show(&"ok rows");
+            for (key, value) in table.iter() {
+                answer.show(&format_args!("{}={value}", key.with_length()));
+            }
+            Some(())
         }
         Err(LoadError::Prefix(place, error)) => {
-            tokens.skip_all();
-            answer.word("err")?;
-            answer.word("Prefix")?;
-            answer.value(&place)?;
-            answer.refusal(&error)
+            answer.show(&format_args!("err Prefix {place}"));
+            errors::of_prefix(&error, answer);
+            Some(())
         }
-        Err(LoadError::NoMemory) => Err(LineError::OutOfMemory),
+        Err(LoadError::NoMemory) => None,
     }
 }
 
-fn answer_steps<C: Key>(
-    mut table: LpmTable<C, usize>,
-    tokens: &mut Tokens<'_>,
-    answer: &mut Answer,
-) -> Outcome {
-    for _ in 0..usize::MAX {
-        if tokens.is_empty() {
+/// Answers the least cover of the networks that are left of the line, or `none` where there is none.
+pub fn cover(kind: &str, tokens: &mut Tokens<'_>, answer: &mut Answer) -> Option<()> {
+    if kind != "any" {
+        return None;
+    }
+    let mut table = Table::new(tokens.alloc);
+    for place in 0..usize::MAX {
+        let Some(word) = tokens.word() else {
             break;
-        }
-        answer_step(&mut table, tokens, answer)?;
+        };
+        table.set(word.parse().ok()?, place).ok()?;
     }
-    answer.word("rows")?;
-    for row in table.iter() {
-        answer.word("")?;
-        more_of_row(row, answer)?;
+    let mut networks = vec![in tokens.alloc; AnyIpCidr::Any; table.len()].ok()?;
+    let count = table.least_cover(networks.as_mut_slice());
+    if count == 0 {
+        answer.show(&"none");
     }
-    Ok(())
-}
-
-fn answer_step<C: Key>(
-    table: &mut LpmTable<C, usize>,
-    tokens: &mut Tokens<'_>,
-    answer: &mut Answer,
-) -> Outcome {
-    match tokens.word()? {
-        "insert" => match table.insert(tokens.value()?, tokens.number()?) {
-            Ok(before) => answer.value(&before),
-            Err(_) => Err(LineError::OutOfMemory),
-        },
-        "remove" => answer.value(&table.remove(&tokens.value()?)),
-        "get" => answer.value(&table.get(&tokens.value()?).copied()),
-        "match" => answer_match(table, &tokens.value()?, answer),
-        "inside" => answer_rows(table.inside(&tokens.value()?), answer),
-        "row" => answer_row(table.row(tokens.number()?), answer),
-        _ => Err(LineError::Malformed),
+    networks.truncate(count);
+    for network in networks.as_slice() {
+        answer.show(&network.with_length());
     }
-}
-
-/// The row of the longest match behind its place.
-fn answer_match<C: Key>(table: &LpmTable<C, usize>, asked: &C, answer: &mut Answer) -> Outcome {
-    let Some(place) = longest_match(&mut table.probe(), asked) else {
-        return answer.word("none");
-    };
-    let Some(row) = table.row(place) else {
-        return answer.word("none");
-    };
-    answer.display(&format_args!("{place}@"))?;
-    more_of_row(row, answer)
-}
-
-fn answer_row<C: Key>(row: Option<&(C, usize)>, answer: &mut Answer) -> Outcome {
-    match row {
-        Some(row) => {
-            answer.word("")?;
-            more_of_row(row, answer)
-        }
-        None => answer.word("none"),
-    }
-}
-
-/// The rows between brackets, with commas between them.
-fn answer_rows<C: Key>(rows: &[(C, usize)], answer: &mut Answer) -> Outcome {
-    answer.word("[")?;
-    for (i, row) in rows.iter().enumerate() {
-        if i > 0 {
-            answer.more(&',')?;
-        }
-        more_of_row(row, answer)?;
-    }
-    answer.more(&']')
-}
-
-/// Appends a row to the last token.
-fn more_of_row<C: Key>(row: &(C, usize), answer: &mut Answer) -> Outcome {
-    row.0.more_to(answer)?;
-    answer.more(&format_args!("={}", row.1))
+    Some(())
 }

@@ -6,6 +6,7 @@ mod from_rows;
 mod large_tables;
 mod many_prefixes;
 mod map_calls;
+mod owned_values;
 
 /// The next of a fixed sequence of numbers (Knuth's linear congruential generator for 64 bits).
 fn next(state: &mut u64) -> u32 {

@@ -7,6 +7,7 @@
 mod addresses;
 mod answer;
 mod bits;
+mod calls;
 mod compact;
 mod conversions;
 mod covers;
@@ -23,6 +24,7 @@ mod prefixes;
 mod queries;
 mod refusals;
 mod sets;
+mod sizes;
 mod tables;
 mod tokens;
 mod values;

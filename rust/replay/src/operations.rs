@@ -10,8 +10,8 @@ use crate::parsers::ShortParsers;
 use crate::tables::Key;
 use crate::tokens::{Kind, Tokens};
 use crate::{
-    addresses, bits, compact, conversions, covers, ext, families, faults, hosts, networks, pairs,
-    parsers, prefixes, sets, tables, walks,
+    addresses, bits, calls, compact, conversions, covers, ext, families, faults, hosts, networks,
+    pairs, parsers, prefixes, sets, sizes, tables, walks,
 };
 use cidr::{
     AddrParseError, Address, AnyIpCidr, Cidr, Inet, InetPair, IpAddr, Ipv4Addr, Ipv4Cidr, Ipv4Inet,
@@ -76,6 +76,8 @@ fn answer_operation(
         "compact" | "hostcompact" | "agree" => compact::answer(section, name, tokens, answer),
         "convert" if name.is_empty() => conversions::answer(tokens, answer),
         "inside" => ext::inside(name, tokens, answer),
+        "calls" => calls::answer(name, tokens, answer),
+        "size" if name.is_empty() => sizes::answer(tokens, answer),
         "tool" => Err(LineError::Unsupported),
         _ => answer_of_type(section, name, tokens, answer),
     }
