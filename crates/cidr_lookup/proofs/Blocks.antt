@@ -78,3 +78,23 @@ block_fits steps size count block all l = omega (arith, mul-le (block + 1) (2 ^ 
 pub one_count : (steps all count count' : ℕ) → count * 2 ^ (6 * steps) ≡ all → count' * 2 ^ (6 * steps) ≡ all → count ≡ count'
 one_count steps all count count' is is' =
     sym (shl-shr count (6 * steps)) ∙ (ap (λ n. n / 2 ^ (6 * steps)) (is ∙ sym is') ∙ shl-shr count' (6 * steps))
+
+-- one of 64 parts is within them
+pub block_within : (steps first part limit : ℕ) → part < 64 → (first + 64) * 2 ^ (6 * steps) ≤ limit → (first + part + 1) * 2 ^ (6 * steps) ≤ limit
+block_within steps first part limit l fits =
+    omega (arith, mul-le (first + part + 1) (2 ^ (6 * steps)) (first + 64) (2 ^ (6 * steps)) (omega arith) (omega arith))
+
+-- and the next begins no earlier
+pub later_block : (steps first part : ℕ) → (first + part) * 2 ^ (6 * steps) ≤ (first + (part + 1)) * 2 ^ (6 * steps)
+later_block steps first part = mul-le (first + part) (2 ^ (6 * steps)) (first + (part + 1)) (2 ^ (6 * steps)) (omega arith) (omega arith)
+
+-- all parts of a block are within it
+pub all_parts : (steps block limit : ℕ) → 0 < steps → (block + 1) * 2 ^ (6 * steps) ≤ limit → (block * 64 + 64) * 2 ^ (6 * (steps - 1)) ≤ limit
+all_parts steps block limit some fits = omega (arith, part_ends steps block 64 some (omega arith))
+
+pub fits_number : (steps block size : ℕ) → size ≤ 128 → (block + 1) * 2 ^ (6 * steps) ≤ 2 ^ size → block < 2 ^ 128
+fits_number steps block size wide fits =
+    let p = 2 ^ (6 * steps) in
+    let most : 2 ^ size ≤ 2 ^ 128 = pow_mono {j = 128} wide in
+    let up : (block + 1) * 1 ≤ (block + 1) * p = mul-le (block + 1) 1 (block + 1) p (omega arith) (omega (arith, pow_pos (6 * steps))) in
+    omega (arith, up)

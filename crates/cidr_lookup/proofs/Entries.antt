@@ -190,6 +190,23 @@ module _ (Has : (number value : ℕ) → Type 0) where
       let one : suc steps - 1 ≡ steps = omega arith in
       inr (none, (entries, middle, subst (λ n. AreEntries (IsEntry Has n) (block * 64) 64 before entries middle) one parts, is, put))
 
+  -- and several that are values
+  pub values_more : (steps first n m : ℕ) (before entries entries' middle : List ℕ) → n ≤ m → ((i : ℕ) → i < n → get_or entries' i 0 ≡ get_or entries i 0)
+      → ((i : ℕ) → n ≤ i → i < m → AllHave Has steps (first + i) (get_or entries' i 0)) → AreEntries (IsEntry Has steps) first n before entries middle
+      → AreEntries (IsEntry Has steps) first m before entries' middle
+  unfolding AreEntries
+  values_more steps first n zero before entries entries' middle le same values known =
+      let z : n ≡ 0 = omega arith in
+      subst (λ k. AreEntries (IsEntry Has steps) first k before entries middle) z known
+  values_more steps first n (suc m) before entries entries' middle le same values known = elim (cases_eq n (suc m)) [
+    | inl e ↦ subst (λ k. AreEntries (IsEntry Has steps) first k before entries' middle) e (same_entries (IsEntry Has steps) first n before entries entries' middle same known)
+    | inr other ↦ (
+      middle,
+      values_more steps first n m before entries entries' middle (omega arith) same (λ i low l. values i low (omega arith)) known,
+      value_entry steps (first + m) middle (get_or entries' m 0) (values m (omega arith) (omega arith)),
+    )
+  ]
+
   -- which it is where no value is
   pub node_of : (steps block : ℕ) (before : List ℕ) (entry : ℕ) (after : List ℕ) → 0 < steps → ¬ ((value : ℕ) × AllHave Has steps block value)
       → IsEntry Has steps block before entry after → IsNode (IsEntry Has (steps - 1)) block before entry after

@@ -1,6 +1,7 @@
--- What has to be believed: which words are a look-up table, and what is wrong with others. `Putting` is what private functions
--- promise each other.
+-- What has to be believed: which words are a look-up table, what is wrong with others, and the messages. `Putting` is what private
+-- functions promise each other.
 pub mod Nodes
 pub mod Tables
 pub mod Faults
+pub mod Messages
 pub mod Putting

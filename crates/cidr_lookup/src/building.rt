@@ -1,7 +1,7 @@
 //! The words of networks, by their ranges.
 ghost use Rattle.std.specs.Prelude.{◌≡◌, ◌↔◌, ℕ, ◌+◌, ◌*◌, ◌/◌, ◌^◌, ◌<◌, ◌≤◌, ◌⊎◌, List, [], length, map, slice_index_or, IfErr, IfOk, IsTrue, OnErr, OnOk};
 ghost use Rattle.cidr_arrays.specs.Arrays.{AreAscendingNetworks, AreMatchRanges, key_networks};
-ghost use Rattle.cidr_lookup.specs.Nodes.{IsEntry};
+ghost use Rattle.cidr_lookup.specs.Nodes.{AllHave, IsEntry};
 ghost use Rattle.cidr_lookup.specs.Putting.{IsStopped, StopsBefore};
 ghost use Rattle.cidr_lookup.specs.Tables.{IsAnswer, IsLookupTable};
 
@@ -90,17 +90,33 @@ pub(crate) fn entry_of<A: Address, S: Sink>(
     if is_whole(starts, *near, shift, block) {
         return Ok(answers[*near]);
     }
+    let first = block * PARTS as u128;
     let mut entries = [0; PARTS];
-    for part in 0..PARTS {
+    let mut part = 0;
+    loop {
+        part = fill_whole(
+            keys,
+            starts,
+            answers,
+            &mut entries,
+            steps - 1,
+            first,
+            part,
+            near,
+        );
+        if part >= PARTS {
+            break;
+        }
         entries[part] = entry_of(
             keys,
             starts,
             answers,
             sink,
             steps - 1,
-            block * PARTS as u128 + part as u128,
+            first + part as u128,
             near,
         )?;
+        part += 1;
     }
     let place = sink.len();
     if place >= PLACE as usize {
@@ -108,6 +124,52 @@ pub(crate) fn entry_of<A: Address, S: Sink>(
     }
     put_node(&entries, sink)?;
     Ok(PLACE + place as u32)
+}
+
+/// Puts the values of parts from one on, up to the first in which a range begins, which is returned, or the number of parts.
+/// `first` is the number of the first part among all blocks of 64^steps numbers, and the rest as in `entry_of`.
+fn fill_whole<A: Address>(
+    keys: &[Key<A>],
+    starts: &[A],
+    answers: &[u32],
+    entries: &mut [u32],
+    steps: u32,
+    first: u128,
+    from: usize,
+    near: &mut usize,
+) -> usize
+    requires ranges { AreMatchRanges A.width (key_networks A.value keys.now) (map A.value starts.now) answers.now }
+    requires few { length keys.now < 2 ^ 31 }
+    requires wide { A.width + A.padding ≤ 128 }
+    requires steps { 6 * steps < A.width + A.padding }
+    requires long { length entries.old ≡ 64 }
+    requires from { from ≤ 64 }
+    requires near { near.old < length starts.now }
+    requires upto { slice_index_or (map A.value starts.now) near.old 0 * 2 ^ A.padding ≤ (first + from) * 2 ^ (6 * steps) }
+    requires blocks { (first + 64) * 2 ^ (6 * steps) ≤ 2 ^ (A.width + A.padding) }
+    ensures from { from ≤ result }
+    ensures parts { result ≤ 64 }
+    ensures near { near.new < length starts.now }
+    ensures upto { slice_index_or (map A.value starts.now) near.new 0 * 2 ^ A.padding ≤ (first + result) * 2 ^ (6 * steps) }
+    ensures others { (i : ℕ) → i < from → slice_index_or entries.new i 0 ≡ slice_index_or entries.old i 0 }
+    ensures values { (i : ℕ) → from ≤ i → i < result
+        → AllHave (IsAnswer A.width A.padding (key_networks A.value keys.now)) steps (first + i) (slice_index_or entries.new i 0) }
+{
+    let shift = 6 * steps;
+    let mut part = from;
+    let mut range = *near;
+    while part < PARTS {
+        let block = first + part as u128;
+        let next = last_upto(starts, range, block << shift);
+        if !is_whole(starts, next, shift, block) {
+            break;
+        }
+        range = next;
+        entries[part] = answers[range];
+        part += 1;
+    }
+    *near = range;
+    part
 }
 
 /// The number that a range begins with.

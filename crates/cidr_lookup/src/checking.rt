@@ -10,27 +10,54 @@ use crate::table::{TableError, ranges_of};
 use crate::words::{Compared, Sink, Stopped, Words};
 use cidr_arrays::Key;
 use std::alloc::Global;
+use std::error::Error;
+use std::fmt;
 
 /// What is wrong with words: the first of these.
 #[derive(Debug, Drop, PartialEq)]
 pub enum Fault {
-    /// So many steps leave no first bits, or more than 32.
+    /// So many steps leave no first bits, or more than 32: `no such number of steps`.
     Steps,
-    /// One of the two arrays has 2,147,483,648 words or more.
+    /// One of the two arrays has more words than a table may have: `more than 2147483647 words`.
     TooLong,
-    /// The keys have no table, or an allocation failed.
+    /// The keys have no table, or an allocation failed: the error's own message.
     Keys(TableError),
     /// The entry at this index, counted from 0, is another than in the table of the keys, or one of the two has fewer: the
-    /// first such entry, where all words up to it are those of the table.
+    /// first such entry. `not of the keys: entry 2`.
     First(usize),
-    /// The same of the words.
+    /// The same of the words of the nodes: `not of the keys: word 2`.
     Word(usize),
 }
+
+impl fmt::Display for Fault {
+    ghost use Rattle.std.specs.Prelude.{Some};
+    ghost use Rattle.cidr_lookup.specs.Messages.{fault_message};
+
+    ghost output = { λ e. Some (fault_message e) };
+
+    fn fmt<W: fmt::Write>(&self, f: &mut fmt::Formatter<W>) -> fmt::Result {
+        match self {
+            Fault::Steps => f.write_str("no such number of steps"),
+            Fault::TooLong => f.write_str("more than 2147483647 words"),
+            Fault::Keys(error) => fmt::Display::fmt(error, f),
+            Fault::First(place) => write!(f, "not of the keys: entry {place}"),
+            Fault::Word(place) => write!(f, "not of the keys: word {place}"),
+        }
+    }
+}
+
+impl Error for Fault {}
 
 /// Whether words are the look-up table of keys, so that look-ups in them are right: the table is built, and compared as it
 /// goes. What [`build`](crate::build) returned is accepted.
 ///
-/// It takes the time of `build`, and of its memory what that takes while it runs.
+/// It takes the time of `build`, and the memory that it takes besides the table. The error is the first that [`Fault`] names,
+/// in its order, but that an entry and a word are told as they are built.
+///
+/// ```
+/// check(alloc, keys, &first, &words, steps)?;
+/// Ok(find(&first, &words, steps, address.to_bits()))
+/// ```
 pub fn check<A: Address, T: Words>(
     alloc: Global,
     keys: &[Key<A>],

@@ -1,4 +1,14 @@
-//! The longest match of an address, by words of 32 bits.
+//! The longest match of an address, by words of 32 bits that an array or a file may hold.
+//!
+//! [`build`] writes the look-up table of keys, which is unique, and [`find`] reads it, from whatever is [`Words`]. [`check`]
+//! says whether words from elsewhere are the table of keys.
+//!
+//! ```
+//! let table = build(alloc, keys)?;
+//! let first = table.first.as_slice();
+//! let words = table.words.as_slice();
+//! Ok(find(&first, &words, table.steps, address.to_bits()))
+//! ```
 #![tactic(auto)]
 
 mod address;

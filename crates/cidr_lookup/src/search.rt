@@ -14,7 +14,17 @@ pub(crate) const PLACE: u32 = 1 << 31;
 /// How many steps an address of 128 bits may take.
 const MOST_STEPS: u32 = 21;
 
-/// The longest match.
+/// The index of the longest of the keys that have an address, or `None` where none has it: the longest match of a
+/// forwarding table (RFC 1812, 5.2.4.3). The keys are not read.
+///
+/// Whatever the words are, it reads none outside of them, and ends. It is the longest match in the table of keys, as
+/// [`build`](crate::build) returned it or [`check`](crate::check) accepted it. In other words it may be any index.
+///
+/// It takes one step for each six bits that are needed to tell the match: each reads two lines of memory at most.
+///
+/// ```
+/// Ok(find(&first, &words, steps, address.to_bits()))
+/// ```
 #[inline(always)]
 pub fn find<A: Address, T: Words>(first: &T, words: &T, steps: u32, address: A) -> Option<usize>
     ensures { (networks : List (ℕ × ℕ))
@@ -24,7 +34,7 @@ pub fn find<A: Address, T: Words>(first: &T, words: &T, steps: u32, address: A) 
     row(value_of(first, words, steps, address))
 }
 
-/// What a value says.
+/// The index that a value says.
 #[inline(always)]
 fn row(value: u32) -> Option<usize>
     ensures { result ≡ row_of value }
@@ -35,7 +45,7 @@ fn row(value: u32) -> Option<usize>
     Some((value - 1) as usize)
 }
 
-/// The value of an address.
+/// The value that an address is led to.
 #[inline(always)]
 fn value_of<A: Address, T: Words>(first: &T, words: &T, steps: u32, address: A) -> u32
     ensures { (networks : List (ℕ × ℕ))

@@ -8,31 +8,52 @@ use crate::building::put_table;
 use crate::words::{Stop, Stopped};
 use cidr_arrays::{BuildError, Key};
 use std::alloc::Global;
+use std::error::Error;
+use std::fmt;
 
-/// The words of a look-up table.
+/// The words of a look-up table, for [`find`](crate::find).
 #[derive(Drop)]
 pub struct LookupTable {
-    /// The entries of the blocks that an address' first bits choose.
+    /// The entries of the blocks of addresses that have the same first bits.
     pub first: Vec<u32>,
-    /// The nodes.
+    /// The nodes, each behind those that it leads to.
     pub words: Vec<u32>,
-    /// How many steps of six bits are behind the first bits.
+    /// How many steps of six bits there are behind the first bits: 3 or 4 of IPv4, 18 or 19 of IPv6, whose last step in
+    /// IPv4 has two bits.
     pub steps: u32,
 }
 
-/// Why no table was built.
+/// Why no table was built: the first of these, but that an allocation may fail before any but the first.
 #[derive(Debug, Drop, PartialEq)]
 pub enum TableError {
-    /// There are more than 2,147,483,647 keys.
+    /// There are more than 2,147,483,647 keys: `more than 2147483647 keys`.
     TooMany,
     /// The key at this index, counted from 0, is no network, or doesn't come after the one before it: the first such
-    /// key.
+    /// key. `no network, or out of order: key 2`.
     Refused(usize),
-    /// The nodes take 2,147,483,648 words or more.
+    /// A node would stand behind 2,147,483,647 words: `more than 2147483647 words`.
     TooLarge,
-    /// An allocation failed. It may come before each of the others but the first.
+    /// An allocation failed: `out of memory`.
     NoMemory,
 }
+
+impl fmt::Display for TableError {
+    ghost use Rattle.std.specs.Prelude.{Some};
+    ghost use Rattle.cidr_lookup.specs.Messages.{table_message};
+
+    ghost output = { λ e. Some (table_message e) };
+
+    fn fmt<W: fmt::Write>(&self, f: &mut fmt::Formatter<W>) -> fmt::Result {
+        match self {
+            TableError::TooMany => f.write_str("more than 2147483647 keys"),
+            TableError::Refused(place) => { write!(f, "no network, or out of order: key {place}") }
+            TableError::TooLarge => f.write_str("more than 2147483647 words"),
+            TableError::NoMemory => f.write_str("out of memory"),
+        }
+    }
+}
+
+impl Error for TableError {}
 
 /// The ranges of keys.
 #[derive(Drop)]
@@ -41,7 +62,17 @@ pub(crate) struct Ranges<A> {
     pub(crate) answers: Vec<u32>,
 }
 
-/// The look-up table of keys that ascend.
+/// The look-up table of keys that ascend by their first addresses and then by their lengths, and of which none repeats. Keys
+/// have one table alone. Values stand beside the keys: [`find`](crate::find) gives the index of a key.
+///
+/// It takes O(n) for n keys, and while it runs 16 bytes a key of IPv4, or 40 of IPv6, besides the table.
+///
+/// ```
+/// let table = build(alloc, keys)?;
+/// let first = table.first.as_slice();
+/// let words = table.words.as_slice();
+/// Ok(find(&first, &words, table.steps, address.to_bits()))
+/// ```
 pub fn build<A: Address>(alloc: Global, keys: &[Key<A>]) -> Result<LookupTable, TableError>
     ensures table { IfOk result (λ table. IsLookupTable A.width A.padding table.steps (key_networks A.value keys.now) table.first.items table.words.items) }
     ensures few { IfOk result (λ _. length keys.now < 2 ^ 31) }

@@ -5,8 +5,8 @@ use Rattle.cidr_arrays.specs.Arrays.{key_networks}
 use Rattle.cidr_arrays.proofs.Numbers.{length_networks}
 use Rattle.cidr_lookup.specs.Nodes.{AreEntries, IsEntry}
 use Rattle.cidr_lookup.specs.Tables.{IsAnswer}
-use Rattle.cidr_lookup.proofs.Blocks.{cut, first_part, part_ends, part_fits, part_number, whole_number}
-use Rattle.cidr_lookup.proofs.Entries.{no_entries, node_entry, one_more, stops_at_place, stops_in_node, stops_in_part, value_entry}
+use Rattle.cidr_lookup.proofs.Blocks.{all_parts, cut, first_part, part_ends, part_fits, part_number, whole_number}
+use Rattle.cidr_lookup.proofs.Entries.{no_entries, node_entry, one_more, stops_at_place, stops_in_node, stops_in_part, value_entry, values_more}
 use Rattle.cidr_lookup.proofs.Nodes.{on_err}
 use Rattle.cidr_lookup.proofs.Ranges.{divided, one_answer, whole}
 use Rattle.cidr_lookup.proofs.building.+entry_of.Goals as goal
@@ -40,6 +40,7 @@ loop-part-init g t c =
     c.requires.wide c.requires.block c.last_upto.ensures.next (iff_false c.is_whole.ensures c.if-is_whole.false) in
     record {
       kept = refl;
+      parts = omega arith;
       long = refl;
       near = c.last_upto.ensures.within;
       upto = omega (arith, c.last_upto.ensures.upto, whole_number c.args.steps c.args.block size c.requires.wide c.requires.block, first_part c.args.steps c.args.block at.0);
@@ -47,19 +48,26 @@ loop-part-init g t c =
           (g.S.Sink.put c.args.sink.now) _;
     }
 
-pub overflow_mul-block : goal.overflow_mul-block
-overflow_mul-block g t c =
+pub overflow_mul-first : goal.overflow_mul-first
+overflow_mul-first g t c =
     let size = g.A.Word.width + g.A.Address.padding in
     let at = cut c.args.steps c.args.block size c.last_upto.result (length c.args.starts.now) (get_or (map g.A.Word.value c.args.starts.now) (c.last_upto.result + 1) 0 * 2 ^ g.A.Address.padding)
     c.requires.wide c.requires.block c.last_upto.ensures.next (iff_false c.is_whole.ensures c.if-is_whole.false) in
-    omega (arith, part_number c.args.steps c.args.block c.loop-part.part size at.0 c.loop-part-test.true c.requires.wide c.requires.block)
+    omega (arith, part_number c.args.steps c.args.block 0 size at.0 (omega arith) c.requires.wide c.requires.block)
 
-pub overflow_add-block : goal.overflow_add-block
-overflow_add-block g t c =
+pub overflow_add-first : goal.overflow_add-first
+overflow_add-first g t c =
     let size = g.A.Word.width + g.A.Address.padding in
     let at = cut c.args.steps c.args.block size c.last_upto.result (length c.args.starts.now) (get_or (map g.A.Word.value c.args.starts.now) (c.last_upto.result + 1) 0 * 2 ^ g.A.Address.padding)
     c.requires.wide c.requires.block c.last_upto.ensures.next (iff_false c.is_whole.ensures c.if-is_whole.false) in
-    omega (arith, part_number c.args.steps c.args.block c.loop-part.part size at.0 c.loop-part-test.true c.requires.wide c.requires.block)
+    omega (arith, part_number c.args.steps c.args.block c.fill_whole-part.result size at.0 c.if-part-ge-PARTS.false c.requires.wide c.requires.block)
+
+pub fill_whole-part-requires-clause-blocks : goal.fill_whole-part-requires-clause-blocks
+fill_whole-part-requires-clause-blocks g t c =
+    let size = g.A.Word.width + g.A.Address.padding in
+    let at = cut c.args.steps c.args.block size c.last_upto.result (length c.args.starts.now) (get_or (map g.A.Word.value c.args.starts.now) (c.last_upto.result + 1) 0 * 2 ^ g.A.Address.padding)
+    c.requires.wide c.requires.block c.last_upto.ensures.next (iff_false c.is_whole.ensures c.if-is_whole.false) in
+    all_parts c.args.steps c.args.block (2 ^ size) at.0 c.requires.block
 
 pub entry_of-requires : goal.entry_of-requires
 entry_of-requires g t c = λ κs h.
@@ -83,11 +91,8 @@ entry_of-requires g t c = λ κs h.
                   (
                     omega (arith, c.requires.steps),
                     (
-                      c.loop-part.invariant.near,
-                      (
-                        c.loop-part.invariant.upto,
-                        part_fits c.args.steps c.args.block c.loop-part.part (2 ^ size) some c.loop-part-test.true c.requires.block,
-                      ),
+                      c.fill_whole-part.ensures.near,
+                      (c.fill_whole-part.ensures.upto, part_fits c.args.steps c.args.block c.fill_whole-part.result (2 ^ size) some c.if-part-ge-PARTS.false c.requires.block),
                     ),
                   ),
                 ),
@@ -103,23 +108,29 @@ returns-in_err-entries-clause-upto g t c =
     let size = g.A.Word.width + g.A.Address.padding in
     let at = cut c.args.steps c.args.block size c.last_upto.result (length c.args.starts.now) (get_or (map g.A.Word.value c.args.starts.now) (c.last_upto.result + 1) 0 * 2 ^ g.A.Address.padding)
     c.requires.wide c.requires.block c.last_upto.ensures.next (iff_false c.is_whole.ensures c.if-is_whole.false) in
-    omega (arith, c.entry_of.ensures.upto, part_fits c.args.steps c.args.block c.loop-part.part ((c.args.block + 1) * 2 ^ (6 * c.args.steps)) at.0 c.loop-part-test.true (omega arith))
+    omega (arith, c.entry_of.ensures.upto, part_fits c.args.steps c.args.block c.fill_whole-part.result ((c.args.block + 1) * 2 ^ (6 * c.args.steps)) at.0 c.if-part-ge-PARTS.false (omega arith))
 
 pub loop-part-preserved : goal.loop-part-preserved
 loop-part-preserved g t c =
-    let part = c.loop-part.part in
-    let entries = c.loop-part.entries in
-    let IsOne = IsEntry (IsAnswer g.A.Word.width g.A.Address.padding (key_networks g.A.Word.value c.args.keys.now)) (c.args.steps - 1) in
+    let w = g.A.Word.width in
+    let padding = g.A.Address.padding in
+    let networks = key_networks g.A.Word.value c.args.keys.now in
+    let Has = IsAnswer w padding networks in
+    let filled = values_more Has (c.args.steps - 1) (c.args.block * 64) c.loop-part.part c.fill_whole-part.result (g.S.Sink.put c.args.sink.now) c.loop-part.entries c.fill_whole-part.new.entries
+    (g.S.Sink.put c.loop-part.sink) c.fill_whole-part.ensures.from c.fill_whole-part.ensures.others c.fill_whole-part.ensures.values c.loop-part.invariant.entries in
+    let part = c.fill_whole-part.result in
+    let entries = c.fill_whole-part.new.entries in
     let e : c.args.block * 64 + part + 1 ≡ c.args.block * 64 + (part + 1) = omega arith in
-    let within : part < length entries = omega (arith, c.loop-part.invariant.long, c.loop-part-test.true) in
+    let size : length entries ≡ 64 = omega (arith, c.fill_whole-part.auto.entries, c.loop-part.invariant.long) in
     record {
       kept = c.entry_of.ensures.kept ∙ c.loop-part.invariant.kept;
-      long = length-set entries part c.in_ok-entries.field-0 ∙ c.loop-part.invariant.long;
+      parts = omega (arith, c.if-part-ge-PARTS.false);
+      long = length-set entries part c.in_ok-entries.field-0 ∙ size;
       near = c.entry_of.ensures.near;
       upto = omega (arith, c.entry_of.ensures.upto, ap (λ n. n * 2 ^ (6 * (c.args.steps - 1))) e);
-      entries = one_more IsOne (c.args.block * 64) part (g.S.Sink.put c.args.sink.now) entries (slice_set entries part c.in_ok-entries.field-0) (g.S.Sink.put c.loop-part.sink)
+      entries = one_more (IsEntry Has (c.args.steps - 1)) (c.args.block * 64) part (g.S.Sink.put c.args.sink.now) entries (slice_set entries part c.in_ok-entries.field-0) (g.S.Sink.put c.loop-part.sink)
           (g.S.Sink.put c.entry_of.new.sink) c.in_ok-entries.field-0 (λ i l. get_or-set_other entries part i c.in_ok-entries.field-0 0 (λ same. absurd (omega arith)))
-          (get_or-set_same entries part c.in_ok-entries.field-0 0 within) c.loop-part.invariant.entries c.in_ok-entries.ensures.entry;
+          (get_or-set_same entries part c.in_ok-entries.field-0 0 (omega (arith, size, c.if-part-ge-PARTS.false))) filled c.in_ok-entries.ensures.entry;
     }
 
 -- whatever part it came to, it is in the block
@@ -131,33 +142,35 @@ upto_block steps block size k count next start part wide fits behind other le up
 pub returns-then-place-clause-upto : goal.returns-then-place-clause-upto
 returns-then-place-clause-upto g t c =
     upto_block c.args.steps c.args.block (g.A.Word.width + g.A.Address.padding) c.last_upto.result (length c.args.starts.now)
-    (get_or (map g.A.Word.value c.args.starts.now) (c.last_upto.result + 1) 0 * 2 ^ g.A.Address.padding) (get_or (map g.A.Word.value c.args.starts.now) c.loop-part.near 0 * 2 ^ g.A.Address.padding) c.loop-part.part
-    c.requires.wide c.requires.block c.last_upto.ensures.next (iff_false c.is_whole.ensures c.if-is_whole.false) c.loop-part.auto.part-end c.loop-part.invariant.upto
+    (get_or (map g.A.Word.value c.args.starts.now) (c.last_upto.result + 1) 0 * 2 ^ g.A.Address.padding) (get_or (map g.A.Word.value c.args.starts.now) c.fill_whole-part.new.near 0 * 2 ^ g.A.Address.padding) c.fill_whole-part.result
+    c.requires.wide c.requires.block c.last_upto.ensures.next (iff_false c.is_whole.ensures c.if-is_whole.false) c.fill_whole-part.ensures.parts c.fill_whole-part.ensures.upto
 
 pub returns-in_err-put_node-clause-upto : goal.returns-in_err-put_node-clause-upto
 returns-in_err-put_node-clause-upto g t c =
     upto_block c.args.steps c.args.block (g.A.Word.width + g.A.Address.padding) c.last_upto.result (length c.args.starts.now)
-    (get_or (map g.A.Word.value c.args.starts.now) (c.last_upto.result + 1) 0 * 2 ^ g.A.Address.padding) (get_or (map g.A.Word.value c.args.starts.now) c.loop-part.near 0 * 2 ^ g.A.Address.padding) c.loop-part.part
-    c.requires.wide c.requires.block c.last_upto.ensures.next (iff_false c.is_whole.ensures c.if-is_whole.false) c.loop-part.auto.part-end c.loop-part.invariant.upto
+    (get_or (map g.A.Word.value c.args.starts.now) (c.last_upto.result + 1) 0 * 2 ^ g.A.Address.padding) (get_or (map g.A.Word.value c.args.starts.now) c.fill_whole-part.new.near 0 * 2 ^ g.A.Address.padding) c.fill_whole-part.result
+    c.requires.wide c.requires.block c.last_upto.ensures.next (iff_false c.is_whole.ensures c.if-is_whole.false) c.fill_whole-part.ensures.parts c.fill_whole-part.ensures.upto
 
 pub returns-clause-upto : goal.returns-clause-upto
 returns-clause-upto g t c =
     upto_block c.args.steps c.args.block (g.A.Word.width + g.A.Address.padding) c.last_upto.result (length c.args.starts.now)
-    (get_or (map g.A.Word.value c.args.starts.now) (c.last_upto.result + 1) 0 * 2 ^ g.A.Address.padding) (get_or (map g.A.Word.value c.args.starts.now) c.loop-part.near 0 * 2 ^ g.A.Address.padding) c.loop-part.part
-    c.requires.wide c.requires.block c.last_upto.ensures.next (iff_false c.is_whole.ensures c.if-is_whole.false) c.loop-part.auto.part-end c.loop-part.invariant.upto
+    (get_or (map g.A.Word.value c.args.starts.now) (c.last_upto.result + 1) 0 * 2 ^ g.A.Address.padding) (get_or (map g.A.Word.value c.args.starts.now) c.fill_whole-part.new.near 0 * 2 ^ g.A.Address.padding) c.fill_whole-part.result
+    c.requires.wide c.requires.block c.last_upto.ensures.next (iff_false c.is_whole.ensures c.if-is_whole.false) c.fill_whole-part.ensures.parts c.fill_whole-part.ensures.upto
 
 pub returns-in_err-entries-clause-stopped : goal.returns-in_err-entries-clause-stopped
 returns-in_err-entries-clause-stopped g t c =
     let w = g.A.Word.width in
     let padding = g.A.Address.padding in
     let networks = key_networks g.A.Word.value c.args.keys.now in
-    let part = c.loop-part.part in
+    let Has = IsAnswer w padding networks in
+    let filled = values_more Has (c.args.steps - 1) (c.args.block * 64) c.loop-part.part c.fill_whole-part.result (g.S.Sink.put c.args.sink.now) c.loop-part.entries c.fill_whole-part.new.entries
+    (g.S.Sink.put c.loop-part.sink) c.fill_whole-part.ensures.from c.fill_whole-part.ensures.others c.fill_whole-part.ensures.values c.loop-part.invariant.entries in
     let at = divided w padding networks (map g.A.Word.value c.args.starts.now) c.args.answers.now c.requires.ranges c.args.steps c.args.block c.last_upto.result (length c.args.starts.now)
     (length-map c.args.starts.now g.A.Word.value) c.requires.keys c.requires.wide c.requires.block c.last_upto.ensures.within c.last_upto.ensures.upto c.last_upto.ensures.next
     (iff_false c.is_whole.ensures c.if-is_whole.false) in
     on_err c.from_residual.result (λ entry after known.
-    stops_in_part (IsAnswer w padding networks) (one_answer w padding networks c.requires.keys) c.args.steps c.args.block (g.S.Sink.put c.args.sink.now) entry after c.loop-part.entries
-    (g.S.Sink.put c.loop-part.sink) part at.0 at.1 known c.loop-part.invariant.entries (g.S.Sink.put c.entry_of.new.sink) (g.S.Sink.refuses c.entry_of.new.sink) c.loop-part-test.true
+    stops_in_part Has (one_answer w padding networks c.requires.keys) c.args.steps c.args.block (g.S.Sink.put c.args.sink.now) entry after c.fill_whole-part.new.entries
+    (g.S.Sink.put c.loop-part.sink) c.fill_whole-part.result at.0 at.1 known filled (g.S.Sink.put c.entry_of.new.sink) (g.S.Sink.refuses c.entry_of.new.sink) c.if-part-ge-PARTS.false
     c.in_err-entries.ensures.stopped)
 
 pub returns-then-place-clause-stopped : goal.returns-then-place-clause-stopped
@@ -165,25 +178,31 @@ returns-then-place-clause-stopped g t c = λ entry after known.
     let w = g.A.Word.width in
     let padding = g.A.Address.padding in
     let networks = key_networks g.A.Word.value c.args.keys.now in
+    let Has = IsAnswer w padding networks in
+    let filled = values_more Has (c.args.steps - 1) (c.args.block * 64) c.loop-part.part c.fill_whole-part.result (g.S.Sink.put c.args.sink.now) c.loop-part.entries c.fill_whole-part.new.entries
+    (g.S.Sink.put c.loop-part.sink) c.fill_whole-part.ensures.from c.fill_whole-part.ensures.others c.fill_whole-part.ensures.values c.loop-part.invariant.entries in
     let at = divided w padding networks (map g.A.Word.value c.args.starts.now) c.args.answers.now c.requires.ranges c.args.steps c.args.block c.last_upto.result (length c.args.starts.now)
     (length-map c.args.starts.now g.A.Word.value) c.requires.keys c.requires.wide c.requires.block c.last_upto.ensures.within c.last_upto.ensures.upto c.last_upto.ensures.next
     (iff_false c.is_whole.ensures c.if-is_whole.false) in
-    stops_at_place (IsAnswer w padding networks) (one_answer w padding networks c.requires.keys) c.args.steps c.args.block (g.S.Sink.put c.args.sink.now) entry after c.loop-part.entries
-    (g.S.Sink.put c.loop-part.sink) c.loop-part.part at.0 at.1 known c.loop-part.invariant.entries (g.S.Sink.put c.loop-part.sink) (g.S.Sink.refuses c.loop-part.sink) (omega arith) refl
-    (omega (arith, c.len-place.ensures, c.if-place.true))
+    stops_at_place Has (one_answer w padding networks c.requires.keys) c.args.steps c.args.block (g.S.Sink.put c.args.sink.now) entry after c.fill_whole-part.new.entries
+    (g.S.Sink.put c.loop-part.sink) c.fill_whole-part.result at.0 at.1 known filled (g.S.Sink.put c.loop-part.sink) (g.S.Sink.refuses c.loop-part.sink)
+    (omega (arith, c.fill_whole-part.ensures.parts, c.if-part-ge-PARTS.true)) refl (omega (arith, c.len-place.ensures, c.if-place.true))
 
 pub returns-in_err-put_node-clause-stopped : goal.returns-in_err-put_node-clause-stopped
 returns-in_err-put_node-clause-stopped g t c =
     let w = g.A.Word.width in
     let padding = g.A.Address.padding in
     let networks = key_networks g.A.Word.value c.args.keys.now in
+    let Has = IsAnswer w padding networks in
+    let filled = values_more Has (c.args.steps - 1) (c.args.block * 64) c.loop-part.part c.fill_whole-part.result (g.S.Sink.put c.args.sink.now) c.loop-part.entries c.fill_whole-part.new.entries
+    (g.S.Sink.put c.loop-part.sink) c.fill_whole-part.ensures.from c.fill_whole-part.ensures.others c.fill_whole-part.ensures.values c.loop-part.invariant.entries in
     let at = divided w padding networks (map g.A.Word.value c.args.starts.now) c.args.answers.now c.requires.ranges c.args.steps c.args.block c.last_upto.result (length c.args.starts.now)
     (length-map c.args.starts.now g.A.Word.value) c.requires.keys c.requires.wide c.requires.block c.last_upto.ensures.within c.last_upto.ensures.upto c.last_upto.ensures.next
     (iff_false c.is_whole.ensures c.if-is_whole.false) in
     on_err c.from_residual-in_err-put_node.result (λ entry after known.
-    stops_in_node (IsAnswer w padding networks) (one_answer w padding networks c.requires.keys) c.args.steps c.args.block (g.S.Sink.put c.args.sink.now) entry after c.loop-part.entries
-    (g.S.Sink.put c.loop-part.sink) c.loop-part.part at.0 at.1 known c.loop-part.invariant.entries (g.S.Sink.put c.put_node.new.sink) (g.S.Sink.refuses c.put_node.new.sink) (omega arith)
-    c.in_err-put_node.ensures.stopped)
+    stops_in_node Has (one_answer w padding networks c.requires.keys) c.args.steps c.args.block (g.S.Sink.put c.args.sink.now) entry after c.fill_whole-part.new.entries
+    (g.S.Sink.put c.loop-part.sink) c.fill_whole-part.result at.0 at.1 known filled (g.S.Sink.put c.put_node.new.sink) (g.S.Sink.refuses c.put_node.new.sink)
+    (omega (arith, c.fill_whole-part.ensures.parts, c.if-part-ge-PARTS.true)) c.in_err-put_node.ensures.stopped)
 
 pub returns-clause-entry : goal.returns-clause-entry
 returns-clause-entry g t c =
@@ -191,11 +210,13 @@ returns-clause-entry g t c =
     let padding = g.A.Address.padding in
     let networks = key_networks g.A.Word.value c.args.keys.now in
     let Has = IsAnswer w padding networks in
+    let filled = values_more Has (c.args.steps - 1) (c.args.block * 64) c.loop-part.part c.fill_whole-part.result (g.S.Sink.put c.args.sink.now) c.loop-part.entries c.fill_whole-part.new.entries
+    (g.S.Sink.put c.loop-part.sink) c.fill_whole-part.ensures.from c.fill_whole-part.ensures.others c.fill_whole-part.ensures.values c.loop-part.invariant.entries in
     let at = divided w padding networks (map g.A.Word.value c.args.starts.now) c.args.answers.now c.requires.ranges c.args.steps c.args.block c.last_upto.result (length c.args.starts.now)
     (length-map c.args.starts.now g.A.Word.value) c.requires.keys c.requires.wide c.requires.block c.last_upto.ensures.within c.last_upto.ensures.upto c.last_upto.ensures.next
     (iff_false c.is_whole.ensures c.if-is_whole.false) in
-    let all : c.loop-part.part ≡ 64 = omega arith in
-    node_entry Has c.args.steps c.args.block (g.S.Sink.put c.args.sink.now) (2 ^ 31 + c.len-place.result) (g.S.Sink.put c.put_node.new.sink) c.loop-part.entries (g.S.Sink.put c.loop-part.sink)
+    let all : c.fill_whole-part.result ≡ 64 = omega (arith, c.fill_whole-part.ensures.parts, c.if-part-ge-PARTS.true) in
+    node_entry Has c.args.steps c.args.block (g.S.Sink.put c.args.sink.now) (2 ^ 31 + c.len-place.result) (g.S.Sink.put c.put_node.new.sink) c.fill_whole-part.new.entries (g.S.Sink.put c.loop-part.sink)
     at.0 at.1
-    (subst (λ n. AreEntries (IsEntry Has (c.args.steps - 1)) (c.args.block * 64) n (g.S.Sink.put c.args.sink.now) c.loop-part.entries (g.S.Sink.put c.loop-part.sink)) all
-    c.loop-part.invariant.entries) (ap (λ n. 2 ^ 31 + n) c.len-place.ensures) c.in_ok-put_node.ensures.put
+    (subst (λ n. AreEntries (IsEntry Has (c.args.steps - 1)) (c.args.block * 64) n (g.S.Sink.put c.args.sink.now) c.fill_whole-part.new.entries (g.S.Sink.put c.loop-part.sink)) all filled)
+    (ap (λ n. 2 ^ 31 + n) c.len-place.ensures) c.in_ok-put_node.ensures.put

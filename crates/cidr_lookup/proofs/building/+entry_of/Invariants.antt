@@ -10,8 +10,12 @@ decreases-entry_of g l = l.steps
 abbrev pub invariant-loop-part : goal.invariant-loop-part
 invariant-loop-part g l = record {
   kept : g.S.Sink.given l.sink ≡ g.S.Sink.given l.fn.sink;
+  parts : l.part ≤ 64;
   long : length l.entries ≡ 64;
   near : l.near < length l.starts;
   upto : get_or (map g.A.Word.value l.starts) l.near 0 * 2 ^ g.A.Address.padding ≤ (l.block * 64 + l.part) * 2 ^ (6 * (l.steps - 1));
   entries : AreEntries (IsEntry (IsAnswer g.A.Word.width g.A.Address.padding (key_networks g.A.Word.value l.keys)) (l.steps - 1)) (l.block * 64) l.part (g.S.Sink.put l.fn.sink) l.entries (g.S.Sink.put l.sink);
 }
+
+abbrev pub decreases-loop-part : goal.decreases-loop-part
+decreases-loop-part g l = 64 - l.part

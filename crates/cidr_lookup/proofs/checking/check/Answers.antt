@@ -1,4 +1,4 @@
-use Rattle.std.proofs.Common.{◌≡◌, ◌≢◌, sym, ap, subst, ◌∙◌, arith, ◌<◌, ◌^◌, Some, length, slice_get, take, take_all}
+use Rattle.std.proofs.Common.{◌≢◌, sym, ap, subst, ◌∙◌, arith, Some, length, slice_get, take, take_all}
 use Rattle.cidr_arrays.specs.Arrays.{key_networks}
 use Rattle.cidr_lookup.specs.Faults.{IsFirstOther}
 use Rattle.cidr_lookup.specs.Putting.{IsStopped, StopsBefore}

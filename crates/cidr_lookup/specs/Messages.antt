@@ -1,0 +1,19 @@
+-- The messages of the errors: this project's own.
+use Rattle.std.specs.Prelude.{ℕ, List, ◌++◌, codes, decimal}
+use Rattle.cidr_lookup.specs.declared.table.TableError.{TableError}
+use Rattle.cidr_lookup.specs.declared.table.TableError.TheVariants as error
+use Rattle.cidr_lookup.specs.declared.checking.Fault.{Fault}
+use Rattle.cidr_lookup.specs.declared.checking.Fault.TheVariants.{Steps, TooLong, Keys, First, Word}
+
+abbrev pub table_message : TableError → List ℕ
+table_message error.TooMany = codes "more than 2147483647 keys"
+table_message (error.Refused place) = codes "no network, or out of order: key " ++ decimal place
+table_message error.TooLarge = codes "more than 2147483647 words"
+table_message error.NoMemory = codes "out of memory"
+
+abbrev pub fault_message : Fault → List ℕ
+fault_message Steps = codes "no such number of steps"
+fault_message TooLong = codes "more than 2147483647 words"
+fault_message (Keys problem) = table_message problem
+fault_message (First place) = codes "not of the keys: entry " ++ decimal place
+fault_message (Word place) = codes "not of the keys: word " ++ decimal place

@@ -1,0 +1,54 @@
+//! Look-ups in tables of words, that were built or checked.
+ghost use Rattle.std.specs.Prelude.{◌+◌, ◌*◌, ◌^◌, IfOk};
+ghost use Rattle.cidr.specs.model.Bits.{bits};
+ghost use Rattle.cidr_table.specs.model.Prefixes.{IsLongestMatch};
+ghost use Rattle.cidr_arrays.specs.Arrays.{prefix_bits, key_networks};
+
+use cidr::{Ipv4Addr, Ipv6Addr};
+use cidr_arrays::{Halves, Key, Word};
+use cidr_lookup::{Fault, TableError, build, check, find};
+use std::alloc::Global;
+
+/// The index of the longest of the keys that have an address, by a table that it builds.
+pub fn longest_match(
+    alloc: Global,
+    keys: &[Key<u32>],
+    address: Ipv4Addr,
+) -> Result<Option<usize>, TableError>
+    ensures { IfOk result (IsLongestMatch (prefix_bits 32) address (key_networks (λ number. number) keys.now)) }
+{
+    let table = build(alloc, keys)?;
+    let first = table.first.as_slice();
+    let words = table.words.as_slice();
+    Ok(find(&first, &words, table.steps, address.to_bits()))
+}
+
+/// The same of IPv6.
+pub fn longest_wide_match(
+    alloc: Global,
+    keys: &[Key<Halves>],
+    address: Ipv6Addr,
+) -> Result<Option<usize>, TableError>
+    ensures { IfOk result (IsLongestMatch (prefix_bits 128) address (key_networks (λ halves. halves.high * 2 ^ 64 + halves.low) keys.now)) }
+{
+    let table = build(alloc, keys)?;
+    let first = table.first.as_slice();
+    let words = table.words.as_slice();
+    let number = Halves::of(address.to_bits());
+    Ok(find(&first, &words, table.steps, number))
+}
+
+/// The same of IPv4 by words that are checked.
+pub fn checked_match(
+    alloc: Global,
+    keys: &[Key<u32>],
+    first: &[u32],
+    words: &[u32],
+    steps: u32,
+    address: Ipv4Addr,
+) -> Result<Option<usize>, Fault>
+    ensures { IfOk result (IsLongestMatch (prefix_bits 32) address (key_networks (λ number. number) keys.now)) }
+{
+    check(alloc, keys, &first, &words, steps)?;
+    Ok(find(&first, &words, steps, address.to_bits()))
+}
