@@ -49,7 +49,7 @@ impl fmt::Display for Fault {
 impl Error for Fault {}
 
 /// Whether words are the look-up table of keys, so that look-ups in them are right: the table is built, and compared as it
-/// goes. What [`build`](crate::build) returned is accepted.
+/// goes.
 ///
 /// It takes the time of `build`, and the memory that it takes besides the table. The error is the first that [`Fault`] names,
 /// in its order, but that an entry and a word are told as they are built.
