@@ -1,13 +1,15 @@
 //! What is told of a network, of the addresses in it and of a prefix length.
-ghost use Rattle.std.specs.Prelude.{◌≡◌, ◌≤◌, length};
+ghost use Rattle.std.specs.Prelude.{◌≡◌, ◌≤◌, MatchOption, length, ℕ};
 ghost use Rattle.cidr.specs.declared.family.Family.TheVariants.{Ipv4, Ipv6};
 ghost use Rattle.cidr.specs.either.IpNetwork.{network_family, network_prefix};
+ghost use Rattle.cidr.specs.model.Network.{width_of};
 ghost use Rattle.cidr_ext.specs.model.Inside.{usable_of};
+ghost use Rattle.cidr_ext.specs.texts.MaskText.{IsLengthOfMask};
 ghost use Rattle.cidr_lists.specs.Descriptions.{family_masks, family_name, length_lines, mask_line, mask_pair, range_text};
 
 use arrayvec::ArrayString;
 use cidr::{BitString, Family, IpCidr, Ipv4Cidr, Ipv6Cidr};
-use cidr_ext::CidrExt;
+use cidr_ext::{AddressExt, CidrExt};
 
 /// The name of a family: `IPv4` or `IPv6`.
 pub fn family_name(family: Family) -> &'static str
@@ -66,6 +68,18 @@ pub fn mask_line(network: &IpCidr) -> ArrayString<120>
     text.push_str(" ");
     text.push_str(mask_pair(network).as_str());
     text
+}
+
+/// The prefix length that a mask stands for: that of a network mask, or of a host mask that is none.
+pub fn length_of_mask<A: AddressExt>(mask: A) -> Option<u8>
+    ensures { MatchOption result
+        ((n : ℕ) → ¬ (IsLengthOfMask (width_of (A.family_of mask)) n (A.bits mask)))
+        (λ n. IsLengthOfMask (width_of (A.family_of mask)) n (A.bits mask)) }
+{
+    match mask.mask_length() {
+        Some(len) => Some(len),
+        None => mask.host_mask_length(),
+    }
 }
 
 /// The masks of a prefix length in IPv4, as a line, or nothing where it has no such length.

@@ -5,8 +5,6 @@ ghost use Rattle.std.specs.List.{before_first};
 ghost use Rattle.std.specs.Str.{IsTrimAsciiStart};
 ghost use Rattle.cidr.specs.either.IpHost.{host_at, host_network};
 ghost use Rattle.cidr.specs.model.Host.{first_host};
-ghost use Rattle.cidr.specs.model.Network.{width_of};
-ghost use Rattle.cidr_ext.specs.texts.MaskText.{IsLengthOfMask};
 ghost use Rattle.cidr_lists.specs.Masks.{AreAddressAndMask, IsClearedHost, IsLengthBeside, IsMaskedHost};
 ghost use Rattle.cidr_lists.specs.Messages.{ShowsBy};
 ghost use Rattle.cidr_lists.specs.Wrong.{IsWrongWithMasks, but_a_mask, wrong_behind};
@@ -14,25 +12,14 @@ ghost use Rattle.cidr.specs.declared.cidr.combined.IpCidr.{IpCidr as Network};
 ghost use Rattle.cidr.specs.declared.inet.combined.IpInet.{IpInet as Host};
 
 use crate::columns::len_to_white_space;
+use crate::descriptions::length_of_mask;
 use crate::errors::BadText;
 use crate::lines::HostBits;
 use crate::wrong::{Wrong, has_spaced_address, wrong_with};
 use cidr::laws::hosts::equal_hosts_are_the_same;
 use cidr::{IpAddr, IpCidr, IpInet};
-use cidr_ext::{AddressExt, TextFault};
+use cidr_ext::TextFault;
 use cidr_io::shown::excerpt;
-
-/// The prefix length that a mask stands for: that of a network mask, or of a host mask that is none.
-fn length_of_mask<A: AddressExt>(mask: A) -> Option<u8>
-    ensures { MatchOption result
-        ((n : ℕ) → ¬ (IsLengthOfMask (width_of (A.family_of mask)) n (A.bits mask)))
-        (λ n. IsLengthOfMask (width_of (A.family_of mask)) n (A.bits mask)) }
-{
-    match mask.mask_length() {
-        Some(len) => Some(len),
-        None => mask.host_mask_length(),
-    }
-}
 
 /// The prefix length that a mask of the family of an address stands for.
 fn length_beside(address: &IpAddr, mask: &IpAddr) -> Option<u8>

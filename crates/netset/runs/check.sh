@@ -1456,6 +1456,7 @@ rows_where_a_stream_fails() {
     run 3 '' $'output failed\n' '' split ten 9
     run 3 '' $'output failed\n' '' reverse ten
     run 3 '' $'output failed\n' '' mask 24
+    run 3 '' $'output failed\n' '' mask 255.255.255.0
     run 3 '' $'output failed\n' '' class 10.0.0.1
     run 3 '' $'output failed\n' '' class 8.8.8.8
     run 3 '' $'output failed\n' '10.0.0.1' class -
@@ -1849,6 +1850,18 @@ rows_of_descriptions() {
     run 0 $'ffff:ffff:8000:: ::7fff:ffff:ffff:ffff:ffff:ffff\n' '' '' mask +33
     run 0 $'0.0.0.0 255.255.255.255\n:: ffff:ffff:ffff:ffff:ffff:ffff:ffff:ffff\n' '' '' mask 0
     run 0 $'10.0.0.0 255.0.0.0 0.255.255.255\n' '' '' mask ./24
+    # of a mask its length, of a host mask where it is no mask
+    run 0 $'24\n' '' '' mask 255.255.255.0
+    run 0 $'24\n' '' '' mask 0.0.0.255
+    run 0 $'0\n' '' '' mask 0.0.0.0
+    run 0 $'32\n' '' '' mask 255.255.255.255
+    run 0 $'1\n' '' '' mask 127.255.255.255
+    run 0 $'36\n' '' '' mask ffff:ffff:f000::
+    run 0 $'112\n' '' '' mask ::ffff
+    run 0 $'0\n' '' '' mask ::
+    run 0 $'0.0.0.1 255.255.255.255 0.0.0.0\n' '' '' mask 0.0.0.1/32
+    run 0 $'255.0.255.0 255.255.255.255 0.0.0.0\n' '' '' mask 255.0.255.0
+    run 0 $'255.255.255.0 255.255.255.255 0.0.0.0\n' '' '255.255.255.0' mask -
     run 2 '' "129$neither"$'\n' '' mask 129
 }
 

@@ -71,7 +71,7 @@ lists_row Count = (codes "count", (codes "--form" ∷ output_values, ([], COUNT.
 -- of what is told of networks its name, the operand that it needs and what the page says
 abbrev pub told_row : Description → List ℕ × (List (List ℕ) × List ℕ)
 told_row Zones = (codes "reverse", (codes "NET|FILE" ∷ [], REVERSE.now))
-told_row Masks = (codes "mask", (codes "NET|LEN|FILE" ∷ [], MASK.now))
+told_row Masks = (codes "mask", (codes "NET|LEN|MASK|FILE" ∷ [], MASK.now))
 
 abbrev pub row_of : Verb → Row
 row_of (Lists op) = row (lists_row op).0 list_options (lists_row op).1.0 (lists_row op).1.1.0 None (lists_row op).1.1.1

@@ -1,5 +1,5 @@
 //! What is told of each network: the names of its zones in reverse DNS, or its masks.
-ghost use Rattle.std.specs.Prelude.{IfErr};
+ghost use Rattle.std.specs.Prelude.{◌<◌, IfErr, MatchOption, decimal, ℕ};
 ghost use Rattle.std.specs.List.{flat_map};
 ghost use Rattle.cidr_io.specs.Collecting.{Collects};
 ghost use Rattle.cidr_io.specs.Writing.{Answered, Writes};
@@ -8,9 +8,12 @@ ghost use Rattle.netset_commands.specs.Answering.{DescribesNetworks};
 ghost use Rattle.netset_commands.specs.Causes.{Cause, FileMayFail};
 ghost use Rattle.netset_commands.specs.Commands.{Describe};
 ghost use Rattle.cidr_lists.specs.Descriptions.{mask_line};
-ghost use Rattle.netset_commands.specs.Describing.{told_of, zone_lines};
+ghost use Rattle.cidr_lists.specs.Printing.{line};
+ghost use Rattle.netset_commands.specs.Describing.{IsMaskOfLength, told_of, zone_lines};
+ghost use Rattle.netset_commands.specs.declared.commands.describe.Description.TheVariants.{Masks};
 ghost use Rattle.netset_commands.specs.Free.{all_told};
 ghost use Rattle.netset_commands.specs.Program.{AnswersRequest};
+ghost use Rattle.netset_commands.specs.Single.{IsNumber};
 
 use crate::commands::free::length_of;
 use crate::errors::CommandError;
@@ -18,13 +21,15 @@ use crate::input::files::Sources;
 use crate::input::operands::read_operand;
 use crate::output::answers::{Verdict, by_output};
 use crate::output::families::OneFamily;
-use cidr::IpCidr;
+use crate::output::report::write_line;
+use cidr::{IpAddr, IpCidr};
 use cidr_ext::CidrReverseName;
 use cidr_io::block::Block;
+use cidr_io::decimal::decimal_text;
 use cidr_io::memory::Memory;
 use cidr_io::sink::{OutputFailed, Sink};
 use cidr_io::writing::{flush, write_text};
-use cidr_lists::descriptions::{length_lines, mask_line};
+use cidr_lists::descriptions::{length_lines, length_of_mask, mask_line};
 use cidr_lists::sets::Sets;
 
 /// What is told of a network.
@@ -112,6 +117,41 @@ fn describe_networks<'a, M: Memory, F: Sources, O: Sink>(
     by_output(Verdict::Yes, write_told(out, what, &sets))
 }
 
+/// The prefix length that an argument stands for as a mask.
+fn mask_length_of(text: &str) -> Option<u8>
+    ensures { MatchOption result ((n : ℕ) → ¬ (IsMaskOfLength text.now n)) (IsMaskOfLength text.now) }
+{
+    let Ok(mask) = text.parse::<IpAddr>() else {
+        return None;
+    };
+    length_of_mask(mask)
+}
+
+/// Writes a prefix length as a line.
+fn write_length<S: Sink>(out: &mut S, len: u8) -> Result<(), OutputFailed>
+    ensures { Answered (S.state out.old) (S.state out.new) (line (decimal len)) result }
+{
+    write_line(out, &[decimal_text(u128::from(len)).as_str(), "\n"])
+}
+
+/// The command `mask` of an operand that is no prefix length.
+fn describe_mask<'a, M: Memory, F: Sources, O: Sink>(
+    memory: &mut M,
+    sources: &F,
+    operand: &'a str,
+    out: &mut O,
+) -> Result<Verdict, CommandError<'a>>
+    requires { (n : ℕ) → IsNumber operand.now n → 128 < n }
+    ensures answers { AnswersRequest (F.contents sources.now) (Describe Masks operand.now)
+        (O.state out.old) (O.state out.new) result }
+    ensures cause { IfErr result (Cause (FileMayFail (F.contents sources.now)) (M.refused memory.new)) }
+{
+    match mask_length_of(operand) {
+        Some(len) => by_output(Verdict::Yes, write_length(out, len)),
+        None => describe_networks(memory, sources, Description::Masks, operand, out),
+    }
+}
+
 /// The commands `reverse` and `mask`.
 pub fn describe<'a, M: Memory, F: Sources, O: Sink>(
     memory: &mut M,
@@ -128,7 +168,7 @@ pub fn describe<'a, M: Memory, F: Sources, O: Sink>(
         Description::Zones => describe_networks(memory, sources, what, operand, out),
         Description::Masks => match length_of(operand) {
             Some(len) => by_output(Verdict::Yes, write_text(out, length_lines(len).as_str())),
-            None => describe_networks(memory, sources, what, operand, out),
+            None => describe_mask(memory, sources, operand, out),
         },
     }
 }

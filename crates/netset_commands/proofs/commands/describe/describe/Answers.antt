@@ -1,5 +1,5 @@
 use Rattle.netset_commands.specs.Causes.{FileMayFail}
-use Rattle.netset_commands.specs.declared.commands.describe.Description.TheVariants.{Zones, Masks}
+use Rattle.netset_commands.specs.declared.commands.describe.Description.TheVariants.{Zones}
 use Rattle.netset_commands.proofs.Causes.{output_cause}
 use Rattle.netset_commands.proofs.Described.{length_described, networks_described}
 use Rattle.netset_commands.proofs.commands.describe.describe.Goals as goal
@@ -18,6 +18,4 @@ pub returns-in-Some-clause-cause : goal.returns-in-Some-clause-cause
 returns-in-Some-clause-cause g c = output_cause (FileMayFail (g.F.Sources.contents c.args.sources.now)) _ _ _ c.by_output.result c.by_output.ensures
 
 pub returns-in-None-clause-answers : goal.returns-in-None-clause-answers
-returns-in-None-clause-answers g c =
-    rw c.in-Masks.is (networks_described (g.F.Sources.contents c.args.sources.now) Masks c.args.operand.now (g.O.Sink.state c.args.out.now)
-    (g.O.Sink.state c.describe_networks-in-None.new.out) c.describe_networks-in-None.result c.in-None.ensures (rw c.in-Masks.is at c.describe_networks-in-None.ensures.describes))
+returns-in-None-clause-answers g c = rw c.in-Masks.is c.describe_mask.ensures.answers

@@ -1,6 +1,6 @@
 use Rattle.cidr.specs.model.Network.{width_of}
 use Rattle.cidr_ext.proofs.MaskTexts.{length_none}
-use Rattle.cidr_lists.proofs.masks.length_of_mask.Goals as goal
+use Rattle.cidr_lists.proofs.descriptions.length_of_mask.Goals as goal
 
 pub returns-in-None : goal.returns-in-None
 returns-in-None g c =
