@@ -1615,7 +1615,10 @@ rows_of_smallest_tables() {
     run 0 $'10.0.0.0/8 x\n' '' '10.0.0.0/9 x\n10.128.0.0/9 x\n10.1.0.0/16 x' smallest -
     run 0 $'0.0.0.0/0 a\n10.0.0.0/8 b\n' '' '11.0.0.0/8 a\n0.0.0.0/0 a\n10.0.0.0/9 b\r\n10.0.0.0/8 \tb \n' smallest -
     run 0 $'10.0.0.0/8\n' '' '10.0.0.0/9\n10.128.0.0/9 \n' smallest -
-    run 0 $'192.0.2.1 z\n2001:db8::/32 x y\n' '' '2001:db8:8000::/33 x y\n192.0.2.1 z\n2001:db8::/33 x y' smallest -
+    run 0 $'192.0.2.1/32 z\n2001:db8::/32 x y\n' '' '2001:db8:8000::/33 x y\n192.0.2.1 z\n2001:db8::/33 x y' smallest -
+    # a row of one address is none of a range
+    run 0 $'192.0.2.1/32 192.0.2.9 z\n2001:db8::1/128 ::\n' '' '2001:db8::1 ::\n192.0.2.1/32 192.0.2.9 z' smallest -
+    run 0 $'192.0.2.1 192.0.2.1 192.0.2.9 z\n' '' '192.0.2.1/32 192.0.2.9 z' look - one_address
     run 0 $'0.0.0.0/0 x\n::/0 x\n' '' '::/1 x\n0.0.0.0/1 x\n128.0.0.0/1 x\n8000::/1 x' smallest -
     run 0 $'10.0.0.0/8 b\n' '' '10.0.0.0/8 a\n10.0.0.0/8 b' smallest --holes -
     run 0 $'10.0.0.0/8 \xff #\n' '' '10.0.0.0/9 \xff #\n10.128.0.0/9 \xff #' smallest -
@@ -2002,6 +2005,7 @@ printf '0.0.0.0/1 b\n128.0.0.0/1 c\n' >"$room/split_in_two"
 printf '10.0.0.7/8\n' >"$room/hosts"
 printf '11.0.0.0/8\n' >"$room/-list"
 printf '10.0.0.1\n' >"$room/address"
+printf '192.0.2.1\n' >"$room/one_address"
 printf '10.0.0.0\n' >"$room/zero"
 printf '10.0.0.1 a\n11.0.0.1 b\n10.2.0.0/16 c\n' >"$room/seen"
 printf ' a b 10.0.0.1\nc\td  11.0.0.1 e\nf g 10.2.0.0/16 h\n' >"$room/spaced"

@@ -5,7 +5,7 @@ use Rattle.std.specs.Map.{values_of}
 use Rattle.cidr.specs.declared.family.Family.{Family}
 use Rattle.cidr.specs.declared.family.Family.TheVariants.{Ipv4, Ipv6}
 use Rattle.cidr.specs.model.Network.{HasWidth}
-use Rattle.cidr.specs.texts.Printed.{plain_text}
+use Rattle.cidr.specs.texts.Printed.{forced_text}
 use Rattle.cidr_forwarding.specs.Forwarding.{IsSmallest, IsSmallestHoled}
 use Rattle.cidr_io.specs.Writing.{State, Answered}
 use Rattle.cidr_io.specs.declared.sink.OutputFailed.{OutputFailed}
@@ -39,7 +39,7 @@ told_row text values row = text row.0 ++ (gap 32 (told_value values row.1) ++ (t
 
 -- the lines of all rows
 abbrev pub all_rows : Fewest → List ℕ
-all_rows fewest = flat_map (told_row (plain_text Ipv4) fewest.numbers) fewest.v4.items ++ flat_map (told_row (plain_text Ipv6) fewest.numbers) fewest.v6.items
+all_rows fewest = flat_map (told_row (forced_text Ipv4) fewest.numbers) fewest.v4.items ++ flat_map (told_row (forced_text Ipv6) fewest.numbers) fewest.v6.items
 
 -- the lines of the fewest rows of a table
 abbrev pub AreFewestLines : Bool → (Family → List (List Bool × List ℕ)) → List ℕ → Type 0

@@ -5,7 +5,7 @@ use Rattle.std.specs.Map.{values_of}
 use Rattle.cidr.specs.declared.family.Family.{Family}
 use Rattle.cidr.specs.declared.family.Family.TheVariants.{Ipv4, Ipv6}
 use Rattle.cidr.specs.model.Network.{HasWidth, width_of}
-use Rattle.cidr.specs.texts.Printed.{plain_text}
+use Rattle.cidr.specs.texts.Printed.{forced_text}
 use Rattle.cidr_forwarding.specs.Forwarding.{IsSmallest, IsSmallestHoled}
 use Rattle.cidr_lists.specs.LookUps.{gap}
 use Rattle.cidr_lists.specs.Lists.{Text}
@@ -15,9 +15,9 @@ use Rattle.netset_commands.specs.declared.errors.CommandError.{CommandError}
 use Rattle.netset_commands.specs.declared.errors.CommandError.TheVariants as error
 use Rattle.netset_commands.specs.declared.errors.FileError.TheVariants.{Hole}
 
--- a row as a line: its network, and behind a blank its value, if that is not empty
+-- a row as a line: its network with its prefix length, and behind a blank its value, if that is not empty
 abbrev pub row_line : Family → List Bool × List ℕ → List ℕ
-row_line family (p, value) = plain_text family p ++ (gap 32 value ++ (value ++ codes "\n"))
+row_line family (p, value) = forced_text family p ++ (gap 32 value ++ (value ++ codes "\n"))
 
 -- the rows of a family in as few rows, without holes, which say that their addresses have no value, or with them; a hole has
 -- the value -, which then is no value of the rows

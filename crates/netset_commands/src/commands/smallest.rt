@@ -1,5 +1,5 @@
 //! The fewest rows in which a table gives each address its value.
-ghost use Rattle.std.specs.Prelude.{◌≡◌, ◌≤◌, ◌++◌, ℕ, true, false, codes, length, map, IfErr, IfOk};
+ghost use Rattle.std.specs.Prelude.{◌≡◌, ◌≤◌, ◌++◌, ℕ, List, true, false, codes, length, map, IfErr, IfOk};
 ghost use Rattle.std.specs.Bool.{Decides};
 ghost use Rattle.std.specs.List.{All, Contains, flat_map};
 ghost use Rattle.std.specs.Map.{values_of};
@@ -28,7 +28,6 @@ use cidr_io::block::Block;
 use cidr_io::memory::Memory;
 use cidr_io::sink::{OutputFailed, Sink};
 use cidr_lists::forms::RowForm;
-use cidr_lists::printing::Printed;
 use cidr_lists::rows::{Span, value_of};
 use cidr_lists::table::Table;
 use cidr_table::LpmTable;
@@ -45,29 +44,52 @@ trait OfWidth: NetworkBits + Copy {
 
     /// These are few.
     ghost narrow: { width ≤ 129 };
+
+    /// The string, with its prefix length.
+    ghost text: { Self → List ℕ };
+
+    /// The string with the prefix length also where that is full, so that a row is not taken for one of a range.
+    fn text_with_length(&self) -> ArrayString<43>
+        ensures { result.bytes ≡ text self.now };
 }
 
 impl OfWidth for Ipv4Cidr {
     ghost use Rattle.std.proofs.Common.{lit≤};
+    ghost use Rattle.cidr.specs.texts.Printed.{forced_text};
+    ghost use Rattle.cidr.specs.declared.family.Family.TheVariants.{Ipv4};
 
     ghost width = { 32 };
 
     ghost narrow = { lit≤ tt };
 
+    ghost text = { forced_text Ipv4 };
+
     fn know_width(&self) {
         let _len = self.network_length();
+    }
+
+    fn text_with_length(&self) -> ArrayString<43> {
+        self.with_length().to_text()
     }
 }
 
 impl OfWidth for Ipv6Cidr {
     ghost use Rattle.std.proofs.Common.{lit≤};
+    ghost use Rattle.cidr.specs.texts.Printed.{forced_text};
+    ghost use Rattle.cidr.specs.declared.family.Family.TheVariants.{Ipv6};
 
     ghost width = { 128 };
 
     ghost narrow = { lit≤ tt };
 
+    ghost text = { forced_text Ipv6 };
+
     fn know_width(&self) {
         let _len = self.network_length();
+    }
+
+    fn text_with_length(&self) -> ArrayString<43> {
+        self.with_length().to_text()
     }
 }
 
@@ -195,7 +217,7 @@ fn push_row<S: Sink>(
 }
 
 /// Appends the lines of the rows of one family to a block.
-fn push_rows<C: Printed, S: Sink>(
+fn push_rows<C: OfWidth, S: Sink>(
     block: &mut Block,
     out: &mut S,
     numbers: &Numbers<'_>,
@@ -205,7 +227,12 @@ fn push_rows<C: Printed, S: Sink>(
         (flat_map (told_row C.text numbers.now) rows.now) result }
 {
     for row in rows {
-        push_row(block, out, row.0.printed(), told_value(numbers, row.1))?;
+        push_row(
+            block,
+            out,
+            row.0.text_with_length(),
+            told_value(numbers, row.1),
+        )?;
     }
     Ok(())
 }

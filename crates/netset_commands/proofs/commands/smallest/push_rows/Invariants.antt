@@ -7,4 +7,4 @@ use Rattle.netset_commands.proofs.commands.smallest.push_rows.Given as goal
 abbrev pub invariant-loop-row : goal.invariant-loop-row
 invariant-loop-row g l =
     Collects (g.S.Sink.state l.fn.out) (g.S.Sink.state l.out) l.fn.block l.block
-    (flat_map (told_row g.C.Printed.text l.numbers) (take l.row-index l.rows)) (Ok tt)
+    (flat_map (told_row g.C.OfWidth.text l.numbers) (take l.row-index l.rows)) (Ok tt)
