@@ -1,6 +1,6 @@
 -- How a row of a table has a network and its value: as fields; as the files of routes and origins that CAIDA publishes
 -- ("Routeviews Prefix-to-AS mappings", pfx2as); or as `ip route` of iproute2 prints routes (ip-route(8)).
-use Rattle.std.specs.Prelude.{◌≡◌, ◌≢◌, ◌⊎◌, ◌==◌, ℕ, ◌^◌, ◌<◌, Bool, true, false, if◌then◌else◌, List, [], ◌∷◌, ◌++◌, codes, length, slice_index_or, ◌+◌, IsUtf8, Option, Some, None}
+use Rattle.std.specs.Prelude.{◌≡◌, ◌≢◌, ◌⊎◌, ◌==◌, ℕ, ◌^◌, ◌<◌, Bool, true, false, if◌then◌else◌, List, [], ◌∷◌, ◌++◌, codes, length, slice_index_or, take, ◌+◌, IsUtf8, Option, Some, None}
 use Rattle.std.specs.List.{All}
 use Rattle.std.specs.Str.{bytes_eq, IsTrimAscii}
 use Rattle.std.specs.declared.cmp.Ordering.TheVariants.{Greater}
@@ -137,10 +137,10 @@ abbrev pub IsUnfit : LineFormat → List ℕ → LineError → Type 0
 IsUnfit Json value (NotUtf8 text) = ¬ (IsUtf8 value) × (text.bytes ≡ byte_excerpt value)
 IsUnfit format value e = ⊥
 
--- that of the row of this number, from 1 on
+-- that of the first row whose value can't, by its number, from 1 on
 abbrev pub IsUnfitAt : LineFormat → List (List Bool × List ℕ) → ℕ → LineError → Type 0
 IsUnfitAt format rows number e =
-    (i : ℕ) × (number ≡ i + 1) × (i < length rows) × IsUnfit format (slice_index_or rows i ([], [])).1 e
+    (i : ℕ) × (number ≡ i + 1) × (i < length rows) × AreFit format (take i rows) × IsUnfit format (slice_index_or rows i ([], [])).1 e
 
 abbrev pub HasUnfitValue : RowForm → HostBits → List ℕ → List ℕ → LineError → Type 0
 HasUnfitValue form bits first rest e = (network : IpCidr) × (value : List ℕ) × PartsSay form.layout bits first rest network value × IsUnfit form.values value e

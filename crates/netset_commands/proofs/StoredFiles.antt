@@ -51,12 +51,24 @@ module _ (w : ℕ) (value : ℕ → List ℕ) where
     | inr high ↦ (let is : row ≡ i = omega (arith, high, l) in subst (λ (k : ℕ). Fits format (value k)) is last)
   ]
 
+  take_rows : (networks : List (ℕ × ℕ)) (place i : ℕ) → take i (rows_from w value networks place) ≡ rows_from w value (take i networks) place
+  take_rows networks place zero = refl
+  take_rows [] place (suc i) = refl
+  take_rows (network ∷ networks) place (suc i) = ap (λ (rows : List (List Bool × List ℕ)). (prefix_bits w network, value place) ∷ rows) (take_rows networks (suc place) i)
+
+  first_fit : (format : LineFormat) (networks : List (ℕ × ℕ)) (i : ℕ) → ((k : ℕ) → k < i → Fits format (value k)) → AreFit format (take i (rows_from w value networks 0))
+  first_fit format networks i fits =
+      subst (AreFit format) (sym (take_rows networks 0 i))
+      (values_fit format (take i networks) 0
+      (λ k l. subst (λ (n : ℕ). Fits format (value n)) (omega arith) (fits k (omega (arith, l, length-take i networks)))))
+
   pub unfit_at : (format : LineFormat) (networks : List (ℕ × ℕ)) (i number : ℕ) (text : List ℕ) (e : LineError) → i < length networks → number ≡ i + 1
-      → text ≡ value i → IsUnfit format text e → IsUnfitAt format (rows_from w value networks 0) number e
-  unfit_at format networks i number text e l is same unfit = (
+      → ((k : ℕ) → k < i → Fits format (value k)) → text ≡ value i → IsUnfit format text e → IsUnfitAt format (rows_from w value networks 0) number e
+  unfit_at format networks i number text e l is fits same unfit = (
     i,
     is,
     omega (arith, l, length-rows_from networks 0),
+    first_fit format networks i fits,
     subst (λ (k : List ℕ). IsUnfit format k e)
         (same ∙ (ap value (omega arith) ∙ sym (ap (λ (row : List Bool × List ℕ). row.1) (row_at networks 0 i l)))) unfit,
   )

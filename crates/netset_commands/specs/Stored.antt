@@ -1,5 +1,5 @@
 -- Why a table or a list is not read, where it may be a file of look-ups, which `compile` writes.
-use Rattle.std.specs.Prelude.{◌≡◌, ℕ, suc, Bool, true, false, List, [], ◌∷◌, Option, Some, None, Result, Ok, Err}
+use Rattle.std.specs.Prelude.{◌≡◌, ◌⊎◌, ℕ, suc, Bool, true, false, List, [], ◌∷◌, Option, Some, None, Result, Ok, Err}
 use Rattle.cidr.specs.declared.family.Family.{Family}
 use Rattle.cidr.specs.declared.family.Family.TheVariants.{Ipv4, Ipv6}
 use Rattle.cidr_arrays.specs.Arrays.{prefix_bits}
@@ -14,7 +14,7 @@ use Rattle.cidr_files.specs.declared.layout.Table.{Table}
 use Rattle.cidr_lists.specs.declared.errors.LineError.{LineError}
 use Rattle.cidr_lists.specs.declared.formats.LineFormat.{LineFormat}
 use Rattle.cidr_lists.specs.declared.forms.RowForm.{RowForm}
-use Rattle.cidr_lists.specs.Forms.{IsUnfitAt}
+use Rattle.cidr_lists.specs.Forms.{AreFit, IsUnfitAt}
 use Rattle.cidr_lists.specs.Lists.{Text}
 use Rattle.netset_commands.specs.Compiled.{HasTable, begins_file}
 use Rattle.netset_commands.specs.Look.{IsUnreadTable}
@@ -50,9 +50,11 @@ IsNotGiven IsOther contents name e = IsOther e
 abbrev pub IsNoTable : RowForm → Option Text → List ℕ → CommandError → Type 0
 IsNoTable form contents name e = IsNotGiven (IsUnreadTable form contents name) contents name e
 
--- a row of this number among those of its family, from 1 on, has a value that can't be told in the format
+-- the row of this number among those of its family, from 1 on, is the first whose value can't be told in the format, where
+-- those of IPv4 come first
 abbrev pub IsUnfitIn : LineFormat → (Family → List (List Bool × List ℕ)) → ℕ → LineError → Type 0
-IsUnfitIn format table number e = (family : Family) × IsUnfitAt format (table family) number e
+IsUnfitIn format table number e =
+    IsUnfitAt format (table Ipv4) number e ⊎ (AreFit format (table Ipv4) × IsUnfitAt format (table Ipv6) number e)
 
 -- that of a file of look-ups
 abbrev pub HasUnfitRow : RowForm → Option Text → List ℕ → CommandError → Type 0

@@ -11,7 +11,7 @@ returns-in-Err g c =
     let many : length networks ≡ c.min-row-end.result =
     rows_counted g.W.Word.value g.W.Family.numbers parts c.addresses-addresses.result.now c.min-row-end.result c.addresses-addresses.ensures c.min-row-end.ensures in
     let l : c.loop-row.row < length networks = omega (arith, c.loop-row-test.true, many) in
-    unfit_at g.W.Word.width (value_in parts) c.args.format networks c.loop-row.row _ c.value_of.result.now c.in-Err.e l refl
+    unfit_at g.W.Word.width (value_in parts) c.args.format networks c.loop-row.row _ c.value_of.result.now c.in-Err.e l refl c.loop-row.invariant
     (c.value_of.ensures (length networks) l c.requires.offsets) c.in-Err.ensures
 
 pub loop-row-preserved : goal.loop-row-preserved
