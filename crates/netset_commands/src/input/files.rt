@@ -2,6 +2,7 @@
 ghost use Rattle.std.specs.Prelude.{◌≡◌, ℕ, List, Option, Some, None, IfErr, IfOk, IfSome};
 ghost use Rattle.netset_commands.specs.Keeping.{IsGivenBy};
 ghost use Rattle.cidr_lists.specs.Lists.{Text};
+ghost use Rattle.netset_commands.specs.Opened.{reason_of};
 ghost use Rattle.netset_commands.specs.Program.{contents_in};
 
 use crate::errors::Reason;
@@ -99,7 +100,9 @@ impl<F: Read + Drop, I: Read + Drop> Read for Opened<F, I> {
 }
 
 /// Why the system did not open a file.
-fn reason_of(kind: ErrorKind) -> Reason {
+fn reason_of(kind: ErrorKind) -> Reason
+    ensures { result ≡ reason_of kind }
+{
     match kind {
         ErrorKind::NotFound => Reason::NotFound,
         ErrorKind::PermissionDenied => Reason::Denied,
