@@ -20,15 +20,15 @@ marks entries (suc n) = marks entries n * 2 + (if begins_run entries n then 1 el
 abbrev pub node : List ℕ → List ℕ
 node entries = marks entries 64 % 2 ^ 32 ∷ marks entries 64 / 2 ^ 32 ∷ runs entries 64
 
--- ---- entries: what the words before one and those after it are, where the words that it needs are put behind those before
--- the entries of n blocks from one on, each with its words behind those of the one before it
+-- ---- entries, each with the words that stand before what it needs, and those words with what it needs behind them
+-- the entries of n blocks from the first on, where what each needs stands behind what those before it need
 module _ (IsOne : (block : ℕ) (before : List ℕ) (entry : ℕ) (after : List ℕ) → Type 0) where
   unfoldable pub AreEntries : (first n : ℕ) (before entries after : List ℕ) → Type 0
   AreEntries first zero before entries after = after ≡ before
   AreEntries first (suc n) before entries after =
       (middle : List ℕ) × AreEntries first n before entries middle × IsOne (first + n) middle (slice_index_or entries n 0) after
 
-  -- the entry of a block that is a node of its 64 parts, whose words stand before the node's own
+  -- the entry of a block that is a node: behind what its 64 parts need
   abbrev pub IsNode : (block : ℕ) (before : List ℕ) (entry : ℕ) (after : List ℕ) → Type 0
   IsNode block before entry after = (entries : List ℕ) × (middle : List ℕ) × AreEntries (block * 64) 64 before entries middle
       × (entry ≡ 2 ^ 31 + length middle) × (after ≡ middle ++ node entries)
@@ -38,7 +38,7 @@ module _ (Has : (number value : ℕ) → Type 0) where
   abbrev pub AllHave : (steps block value : ℕ) → Type 0
   AllHave steps block value = (value < 2 ^ 31) × ((number : ℕ) → number / 2 ^ (6 * steps) ≡ block → Has number value)
 
-  -- the value of the block, for which no word is needed
+  -- the entry is the value of the block, and needs no word
   abbrev pub IsValue : (steps block : ℕ) (before : List ℕ) (entry : ℕ) (after : List ℕ) → Type 0
   IsValue steps block before entry after = AllHave steps block entry × (after ≡ before)
 

@@ -19,7 +19,7 @@ pub record IsLookupTable (w padding steps : ℕ) (networks : List (ℕ × ℕ)) 
   pub size : length first * 2 ^ (6 * steps) ≡ 2 ^ (w + padding)
   pub entries : AreEntries (IsEntry (IsAnswer w padding networks) steps) 0 (length first) [] first words
 
--- why there is none: too many networks; or else one is refused; the others are told of no networks
+-- why there is none: too many networks; or else one is refused; or too many words; an allocation may fail before the last two
 abbrev pub IsTableRefused : ℕ → List (ℕ × ℕ) → TableError → Type 0
 IsTableRefused w networks TooMany = 2 ^ 31 ≤ length networks
 IsTableRefused w networks (Refused place) = (length networks < 2 ^ 31) × IsFirstRefused w networks (Some place)
