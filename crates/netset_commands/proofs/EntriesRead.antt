@@ -3,12 +3,10 @@ use Rattle.std.proofs.Common.{◌≡◌, refl, sym, ◌∙◌, ap, subst, arith,
 use Rattle.std.specs.Option.{IfSome}
 use Rattle.std.specs.Prelude.{option_to_list, IsTrue, ◌↔◌}
 use Rattle.std.proofs.lemmas.List.{append-nil, take_all, take_more, take-append-drop, at_drop_more, get_or-map}
-use Rattle.std.proofs.lemmas.List.Elements.{Contains-append_right}
-use Rattle.std.specs.List.{AllZip, Contains}
+use Rattle.std.specs.List.{AllZip}
 use Rattle.cidr.specs.either.IpText.{IsIpHostText, ip_host_text}
 use Rattle.cidr.specs.texts.Printed.{plain_host_text}
 use Rattle.cidr.specs.declared.inet.combined.IpInet.{IpInet}
-use Rattle.cidr_table.proofs.MapLaws.{contains_first}
 use Rattle.netset_commands.specs.Entries.{AddsEntries, AddsEntry, HasAdded, IsLineFault, IsTextFault, CopiesEntries, IsCopyIn}
 use Rattle.cidr_lists.specs.Entries.{AreAllEntries, AreEntries, IsFirstFaultyLine, LineHas}
 use Rattle.cidr_lists.specs.Lists.{Text, lines_of}
@@ -140,13 +138,9 @@ file_fault contents names before after name old error.NoMemory whole fine h = tt
 file_fault contents names before after name old error.Output whole fine h = absurd h
 file_fault contents names before after name old (error.File file why) whole fine h = absurd h
 file_fault contents names before after name old (error.Input file why) whole fine h =
-    subst (Contains names) (sym h) (subst (λ (k : List (List ℕ)). Contains k name) (sym whole)
-    (Contains-append_right before (name ∷ after) name (contains_first name after)))
+    (before, after, whole ∙ ap (λ (k : List ℕ). before ++ k ∷ after) (sym h), λ texts are. (old, fine texts are))
 file_fault contents names before after name old (error.Line file number e) whole fine h = (
-  before,
-  after,
-  whole ∙ ap (λ (k : List ℕ). before ++ k ∷ after) (sym h.0),
-  λ texts are. (old, fine texts are),
+  (before, after, whole ∙ ap (λ (k : List ℕ). before ++ k ∷ after) (sym h.0), λ texts are. (old, fine texts are)),
   λ text is. subst (λ (k : List ℕ). IsFirstFaultyLine k text.bytes number e) (sym h.0) (h.1 text (ap contents (sym h.0) ∙ is)),
 )
 

@@ -542,10 +542,11 @@ module _ (telling : Telling) (place : Asked) (table : Family → List (List Bool
 module _ (contents : List ℕ → Option Text) (choice : Choice) (form : RowForm) (options : List (List ℕ)) (rows file : List ℕ) (place : Asked) (telling : Telling)
     (table : Family → List (List Bool × List ℕ)) (s t : State) (asks : IsAsked choice (has (codes "--any") options) place)
     (is : telling ≡ telling_by form.values (has (codes "--keep") options)) (reads : (text : Text) → contents rows ≡ Some text → SaysTable form text table) where
-  not_read : (e : CommandError) → IsNotReadFurther file e → IsNoTable form (contents rows) rows e ⊎ (HasUnfitRow form (contents rows) rows e ⊎ IsInputError file e)
+  not_read : (e : CommandError) → IsNotReadFurther file e → IsNoTable form (contents rows) rows e ⊎ (HasUnfitRow form (contents rows) rows e
+      ⊎ (IsInputError file e × ((text : Text) → contents rows ≡ Some text → (kept : Family → List (List Bool × List ℕ)) × SaysTable form text kept)))
   not_read (error.Argument text e) h = absurd h
   not_read (error.Line name number e) h = absurd h
-  not_read (error.Input name why) h = inr (inr h)
+  not_read (error.Input name why) h = inr (inr (h, λ text one. (table, reads text one)))
   not_read error.NoMemory h = inl tt
   not_read error.Output h = absurd h
   not_read (error.File name e) h = absurd h

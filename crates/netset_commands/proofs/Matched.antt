@@ -768,20 +768,20 @@ matched contents choice column options list file sets known s t r chosen reads t
     )
 
 -- a file that can't be opened
-unopened : (contents : List ℕ → Option Text) (choice : Choice) (column : Column) (options : List (List ℕ)) (list file : List ℕ) (s : State) (e : CommandError)
-    → IsChosen choice column → IsNotReadFurther file e
+unopened : (contents : List ℕ → Option Text) (choice : Choice) (column : Column) (options : List (List ℕ)) (list file : List ℕ) (sets : Sets) (s : State) (e : CommandError)
+    → IsChosen choice column → ((text : Text) → contents list ≡ Some text → HaveListAddresses text sets) → IsNotReadFurther file e
     → AnswersRequest contents (Match choice options list file) s s (Err e)
-unopened contents choice column options list file s (error.Argument text e) chosen h = absurd h
-unopened contents choice column options list file s (error.Line name number e) chosen h = absurd h
-unopened contents choice column options list file s (error.Input name why) chosen h = inl (inl (refl, inr (column, chosen, inr h)))
-unopened contents choice column options list file s error.NoMemory chosen h = inl (inl (refl, inr (column, chosen, inl tt)))
-unopened contents choice column options list file s error.Output chosen h = absurd h
-unopened contents choice column options list file s (error.File name why) chosen h = absurd h
+unopened contents choice column options list file sets s (error.Argument text e) chosen reads h = absurd h
+unopened contents choice column options list file sets s (error.Line name number e) chosen reads h = absurd h
+unopened contents choice column options list file sets s (error.Input name why) chosen reads h = inl (inl (refl, inr (column, chosen, inr (h, λ text one. of_list text (λ IsIn. (family : Family) → IsSetOf 129 (IsIn family) (networks_of sets family)) (λ IsIn. Unit {0}) (λ IsIn same. tt) (reads text one)))))
+unopened contents choice column options list file sets s error.NoMemory chosen reads h = inl (inl (refl, inr (column, chosen, inl tt)))
+unopened contents choice column options list file sets s error.Output chosen reads h = absurd h
+unopened contents choice column options list file sets s (error.File name why) chosen reads h = absurd h
 
 pub matched_file : (contents : List ℕ → Option Text) (choice : Choice) (column : Column) (options : List (List ℕ)) (list file : List ℕ) (sets : Sets) (s t : State) (r : Result Verdict CommandError)
     → IsChosen choice column → ((text : Text) → contents list ≡ Some text → HaveListAddresses text sets)
     → StreamsFile (has (codes "--header") options) (Picks (has (codes "--any") options) column (IsInSets sets) (has (codes "-v") options)) [] (written_of options) file (contents file) s t r
     → AnswersRequest contents (Match choice options list file) s t r
-matched_file contents choice column options list file sets s t r chosen reads (inl (same, e, is, of)) = rw (same, is) (unopened contents choice column options list file s e chosen of)
+matched_file contents choice column options list file sets s t r chosen reads (inl (same, e, is, of)) = rw (same, is) (unopened contents choice column options list file sets s e chosen reads of)
 matched_file contents choice column options list file sets s t r chosen reads (inr (known, opens, streams)) =
     matched contents choice column options list file sets known s t r chosen reads opens streams

@@ -16,7 +16,7 @@ use Rattle.cidr_lists.specs.Rules.{compared_with}
 use Rattle.netset_commands.specs.Acl.{IsUnreadAcl}
 use Rattle.netset_commands.specs.Causes.{Cause, FileMayFail, Refusals}
 use Rattle.netset_commands.specs.Class.{IsClassUntil, IsUnclassed}
-use Rattle.netset_commands.specs.Compiled.{IsTooLarge}
+use Rattle.netset_commands.specs.Compiled.{IsTooLarge, SaysTable}
 use Rattle.netset_commands.specs.Describing.{IsNoLength}
 use Rattle.netset_commands.specs.Free.{IsBadFree, IsBadLength, IsMost}
 use Rattle.netset_commands.specs.Operands.{IsNoNetworkText, IsUnlisted, IsUnreadOperand, OfOperand}
@@ -131,11 +131,13 @@ IsRequestRefused contents (Check files) (Err e) = IsUnchecked contents (read_fil
 IsRequestRefused contents (Which text files) (Err e) = IsBadArgument (IsNoAddressArgument text) e
     ⊎ ((address : IpAddr) × IsIpText text address × IsUnchecked contents (read_files files) e)
 IsRequestRefused contents (Match choice options list file) (Err e) = IsBadArgument (IsBadChoice choice) e
-    ⊎ ((column : Column) × IsChosen choice column × (IsNotGiven (IsUnread contents (list ∷ [])) (contents list) list e ⊎ IsInputError file e))
+    ⊎ ((column : Column) × IsChosen choice column × (IsNotGiven (IsUnread contents (list ∷ [])) (contents list) list e
+    ⊎ (IsInputError file e × ((text : Text) → contents list ≡ Some text → HoldsOf text (λ IsIn. Unit {0})))))
 IsRequestRefused contents (MatchEach choice options list files) (Err e) = IsBadArgument (IsBadChoice choice) e
     ⊎ ((column : Column) × IsChosen choice column × IsNotGiven (IsUnread contents (list ∷ [])) (contents list) list e)
 IsRequestRefused contents (Look choice form options table file) (Err e) = IsBadArgument (IsBadChoice choice) e
-    ⊎ ((asked : Asked) × IsAsked choice (has (codes "--any") options) asked × (IsNoTable form (contents table) table e ⊎ (HasUnfitRow form (contents table) table e ⊎ IsInputError file e)))
+    ⊎ ((asked : Asked) × IsAsked choice (has (codes "--any") options) asked × (IsNoTable form (contents table) table e ⊎ (HasUnfitRow form (contents table) table e
+    ⊎ (IsInputError file e × ((text : Text) → contents table ≡ Some text → (rows : Family → List (List Bool × List ℕ)) × SaysTable form text rows)))))
 IsRequestRefused contents (Smallest holes form table) (Err e) = IsUnreadTable form (contents table) table e ⊎ IsNoHole holes form (contents table) table e
 IsRequestRefused contents (Describe what operand) (Err e) = IsNoLength what operand × IsUnreadOperand contents operand e
 IsRequestRefused contents (Class operand) (Err e) = IsUnclassed contents operand e

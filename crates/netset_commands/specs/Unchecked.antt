@@ -1,5 +1,5 @@
 -- Why lists are not checked, and what functions that read their entries promise.
-use Rattle.std.specs.Prelude.{◌≡◌, ℕ, List, ◌∷◌, ◌++◌, Option, Some, Result, Ok, Err, Contains}
+use Rattle.std.specs.Prelude.{◌≡◌, ℕ, List, ◌∷◌, ◌++◌, Option, Some, Result, Ok, Err}
 use Rattle.netset_commands.specs.Commands.{AreTold}
 use Rattle.cidr_lists.specs.Entries.{AreAllEntries, IsFirstFaultyLine}
 use Rattle.netset_commands.specs.Entries.{HasAdded}
@@ -8,13 +8,16 @@ use Rattle.cidr_lists.specs.declared.entries.Entry.{Entry}
 use Rattle.netset_commands.specs.declared.errors.CommandError.{CommandError}
 use Rattle.netset_commands.specs.declared.errors.CommandError.TheVariants as error
 
--- the first line in error of the first list that has one, a file that can't be read, or memory
-abbrev pub IsUnchecked : (List ℕ → Option Text) → List (List ℕ) → CommandError → Type 0
-IsUnchecked contents names (error.Line name number e) =
-    (before : List (List ℕ)) × (after : List (List ℕ)) × (names ≡ before ++ name.now ∷ after)
+-- one of these files is the first whose entries are not read: those before it have theirs
+abbrev pub StopsAtEntries : (List ℕ → Option Text) → List (List ℕ) → List ℕ → Type 0
+StopsAtEntries contents names name = (before : List (List ℕ)) × (after : List (List ℕ)) × (names ≡ before ++ name ∷ after)
     × ((texts : List Text) → AreTold contents before texts → (entries : List Entry) × AreAllEntries before texts entries)
+
+-- the first line in error of the first list that is not read, that its file can't be read, or memory
+abbrev pub IsUnchecked : (List ℕ → Option Text) → List (List ℕ) → CommandError → Type 0
+IsUnchecked contents names (error.Line name number e) = StopsAtEntries contents names name.now
     × ((text : Text) → contents name.now ≡ Some text → IsFirstFaultyLine name.now text.bytes number e)
-IsUnchecked contents names (error.Input name why) = Contains names name.now
+IsUnchecked contents names (error.Input name why) = StopsAtEntries contents names name.now
 IsUnchecked contents names error.NoMemory = Unit {0}
 IsUnchecked contents names e = ⊥
 
