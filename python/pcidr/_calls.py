@@ -92,6 +92,7 @@ class Purpose(IntEnum):
     ORCHID_V2 = 29
     DRONE_REMOTE_ID = 30
     SEGMENT_ROUTING = 31
+    THIS_HOST = 32
 
 
 class Value(Structure):

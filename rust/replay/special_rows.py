@@ -10,7 +10,7 @@ from shown import boolean, option, printed
 # The name of an entry in the registries, and its purpose.
 NAMES = {
     '"This network"': "ThisNetwork",
-    '"This host on this network"': "Unspecified",
+    '"This host on this network"': "ThisHost",
     "Unspecified Address": "Unspecified",
     "Private-Use": "PrivateUse",
     "Unique-Local": "UniqueLocal",
@@ -69,7 +69,7 @@ PURPOSES = {
     "is_loopback": {"Loopback"},
     "is_link_local": {"LinkLocal"},
     "is_documentation": {"Documentation"},
-    "is_unspecified": {"Unspecified"},
+    "is_unspecified": {"ThisHost", "Unspecified"},
 }
 
 

@@ -478,7 +478,8 @@ enum {
     PCIDR_PURPOSE_DEPRECATED_ORCHID = 28,
     PCIDR_PURPOSE_ORCHID_V2 = 29,
     PCIDR_PURPOSE_DRONE_REMOTE_ID = 30,
-    PCIDR_PURPOSE_SEGMENT_ROUTING = 31
+    PCIDR_PURPOSE_SEGMENT_ROUTING = 31,
+    PCIDR_PURPOSE_THIS_HOST = 32
 };
 
 /* The entry of an address: that of the longest block that contains it. Errors: NO_VALUE for what is no address; NONE

@@ -10,7 +10,7 @@ ghost use Rattle.cidr_c.specs.model.Special.{column_code, purpose_code, special_
 ghost use Rattle.cidr_c.specs.model.Values.{IsAddressValue, IsIpNetworkValue, family_in, prefix_in};
 
 use crate::codes::{NO_VALUE, NONE, OK};
-use crate::entries::{entry_of, has_purpose, is_global, is_multicast, is_private};
+use crate::entries::{entry_of, has_purpose, is_global, is_multicast, is_private, is_unspecified};
 use crate::finding::yes_or_no;
 use crate::values::{CValue, address_of, one_family_of};
 use cidr::IpCidr;
@@ -125,6 +125,7 @@ fn purpose_code(purpose: Purpose) -> u8
         Purpose::OrchidV2 => 29,
         Purpose::DroneRemoteId => 30,
         Purpose::SegmentRouting => 31,
+        Purpose::ThisHost => 32,
     }
 }
 
@@ -195,10 +196,11 @@ pub extern "C" fn pcidr_is_documentation(network: &CValue) -> u32
 #[unsafe(no_mangle)]
 pub extern "C" fn pcidr_is_unspecified(network: &CValue) -> u32
     ensures { IsYesOrNo result (IsIpNetworkValue network.now
-        × HasPurpose purpose.Unspecified (family_in network.now) (prefix_in network.now)) }
+        × (HasPurpose purpose.ThisHost (family_in network.now) (prefix_in network.now)
+        ⊎ HasPurpose purpose.Unspecified (family_in network.now) (prefix_in network.now))) }
 {
     match one_family_of(network) {
-        Some(network) => yes_or_no(has_purpose(&network, Purpose::Unspecified)),
+        Some(network) => yes_or_no(is_unspecified(&network)),
         None => 0,
     }
 }

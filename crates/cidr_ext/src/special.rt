@@ -125,9 +125,10 @@ pub trait SpecialAddress: AddressExt {
     /// "0.0.0.1".parse::<IpAddr>()?.is_unspecified() // false
     /// ```
     fn is_unspecified(self) -> bool
-        ensures { IsTrue result ↔ HasPurpose Purpose.Unspecified (Self.family_of self) (Self.bits self) }
+        ensures { IsTrue result ↔ (HasPurpose Purpose.ThisHost (Self.family_of self) (Self.bits self) ⊎
+            HasPurpose Purpose.Unspecified (Self.family_of self) (Self.bits self)) }
     {
-        self.has_purpose(Purpose::Unspecified)
+        self.has_purpose(Purpose::ThisHost) || self.has_purpose(Purpose::Unspecified)
     }
 
     /// Whether the address is a multicast address: in 224.0.0.0/4 (RFC 5771), or in ff00::/8 (RFC 4291, 2.7). These are

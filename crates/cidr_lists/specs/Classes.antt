@@ -16,6 +16,7 @@ use Rattle.cidr_table.specs.model.Prefixes.{IsLookedUp}
 -- what a block is for, in the words of the registries, joined by hyphens
 abbrev pub purpose_name : Purpose → List ℕ
 purpose_name purpose.ThisNetwork = codes "This-Network"
+purpose_name purpose.ThisHost = codes "This-Host-On-This-Network"
 purpose_name purpose.Unspecified = codes "Unspecified"
 purpose_name purpose.PrivateUse = codes "Private-Use"
 purpose_name purpose.UniqueLocal = codes "Unique-Local"

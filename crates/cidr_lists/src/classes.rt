@@ -18,6 +18,7 @@ fn purpose_name(purpose: Purpose) -> &'static str
 {
     match purpose {
         Purpose::ThisNetwork => "This-Network",
+        Purpose::ThisHost => "This-Host-On-This-Network",
         Purpose::Unspecified => "Unspecified",
         Purpose::PrivateUse => "Private-Use",
         Purpose::UniqueLocal => "Unique-Local",

@@ -1883,7 +1883,9 @@ rows_of_classes() {
     run 0 $'192.88.99.1 192.88.99.0/24 Deprecated-6to4-Relay-Anycast RFC7526 n/a 2025-05\n' '' '' class 192.88.99.1
     run 0 $'255.255.255.255 255.255.255.255 Limited-Broadcast RFC919 not-global 2025-05\n' '' '' class 255.255.255.255
     run 0 $'255.255.255.254 240.0.0.0/4 Reserved RFC1112 not-global 2025-05\n' '' '' class 255.255.255.254
-    run 0 $'0.0.0.0 0.0.0.0 Unspecified RFC1122 not-global 2025-05\n' '' '' class 0.0.0.0
+    run 0 $'0.0.0.0 0.0.0.0 This-Host-On-This-Network RFC1122 not-global 2025-05\n' '' '' class 0.0.0.0
+    run 0 $':: :: Unspecified RFC4291 not-global 2025-05\n' '' '' class ::
+    run 0 $'0.0.0.1 0.0.0.0/8 This-Network RFC791 not-global 2025-05\n' '' '' class 0.0.0.1
     run 0 $'2001:db8::1 2001:db8::/32 Documentation RFC3849 not-global 2025-05\n' '' '' class 2001:DB8:0::1
     run 0 $'64:ff9b::808:808 64:ff9b::/96 IPv4-IPv6-Translation RFC6052 global 2025-05\n' '' '' class 64:ff9b::8.8.8.8
     run 0 $'2002:: 2002::/16 6to4 RFC3056 n/a 2025-05\n' '' '' class 2002::

@@ -46,6 +46,7 @@ purpose_code purpose.DeprecatedOrchid = 28
 purpose_code purpose.OrchidV2 = 29
 purpose_code purpose.DroneRemoteId = 30
 purpose_code purpose.SegmentRouting = 31
+purpose_code purpose.ThisHost = 32
 
 -- an entry of a registry
 abbrev pub special_of : SpecialEntry → CSpecial

@@ -7,7 +7,9 @@
 pub enum Purpose {
     /// "This network" (RFC 791, 3.2).
     ThisNetwork,
-    /// "This host on this network" (RFC 1122, 3.2.1.3) and the unspecified address (RFC 4291, 2.5.2).
+    /// "This host on this network", of IPv4 (RFC 1122, 3.2.1.3).
+    ThisHost,
+    /// Unspecified Address, of IPv6 (RFC 4291, 2.5.2).
     Unspecified,
     /// Private-Use (RFC 1918).
     PrivateUse,
@@ -146,7 +148,7 @@ macro_rules! ipv6 {
 /// stands the month of its allocation, and if it has ended, of its end.
 pub static IPV4_ENTRIES: [SpecialEntry; 26] = [
     ipv4!([0, 0, 0, 0] / 8, ThisNetwork, 791, [T, F, F, F, T]), // 1981-09
-    ipv4!([0, 0, 0, 0] / 32, Unspecified, 1122, [T, F, F, F, T]), // 1981-09
+    ipv4!([0, 0, 0, 0] / 32, ThisHost, 1122, [T, F, F, F, T]), // 1981-09
     ipv4!([10, 0, 0, 0] / 8, PrivateUse, 1918, [T, T, T, F, F]), // 1996-02
     ipv4!([100, 64, 0, 0] / 10, SharedAddressSpace, 6598, [T, T, T, F, F]), // 2012-04
     ipv4!([127, 0, 0, 0] / 8, Loopback, 1122, [F, F, F, F, T]), // 1981-09

@@ -137,7 +137,7 @@ pub trait SpecialAddress: Sized + AddressExt {
     /// ```
     #[inline]
     fn is_unspecified(self) -> bool {
-        self.has_purpose(Purpose::Unspecified)
+        self.has_purpose(Purpose::ThisHost) || self.has_purpose(Purpose::Unspecified)
     }
 
     /// Whether the address is a multicast address: in 224.0.0.0/4 (RFC 5771), or in ff00::/8 (RFC 4291, 2.7). These are

@@ -1,3 +1,4 @@
+use Rattle.std.proofs.Common.{◌⊎◌}
 use Rattle.cidr.specs.either.IpNetwork.{network_family, network_prefix}
 use Rattle.cidr.specs.declared.cidr.combined.IpCidr.{IpCidr}
 use Rattle.cidr_c.proofs.Sought.{answered}
@@ -8,5 +9,5 @@ use Rattle.cidr_c.proofs.special.pcidr_is_unspecified.Goals as goal
 
 pub returns-in-Some : goal.returns-in-Some
 returns-in-Some c =
-    answered (IsIpNetworkValue c.args.network.now) (λ (n : IpCidr). HasPurpose purpose.Unspecified (network_family n) (network_prefix n))
-    c.in-Some.network (ip_network_in c.args.network.now) c.has_purpose.result c.yes_or_no.result c.in-Some.ensures c.has_purpose.ensures c.yes_or_no.ensures
+    answered (IsIpNetworkValue c.args.network.now) (λ (n : IpCidr). HasPurpose purpose.ThisHost (network_family n) (network_prefix n) ⊎ HasPurpose purpose.Unspecified (network_family n) (network_prefix n))
+    c.in-Some.network (ip_network_in c.args.network.now) c.is_unspecified.result c.yes_or_no.result c.in-Some.ensures c.is_unspecified.ensures c.yes_or_no.ensures
