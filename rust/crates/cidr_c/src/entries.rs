@@ -131,6 +131,15 @@ pub fn is_private(network: &IpCidr) -> bool {
     }
 }
 
+/// Whether a network is an unspecified address alone: 0.0.0.0 (RFC 1122, 3.2.1.3) or :: (RFC 4291, 2.5.2).
+#[inline]
+pub fn is_unspecified(network: &IpCidr) -> bool {
+    match entry_of(network) {
+        Some(entry) => entry.purpose == Purpose::ThisHost || entry.purpose == Purpose::Unspecified,
+        None => false,
+    }
+}
+
 /// Whether a network is globally reachable by its entry: it has none, or one that says so.
 #[inline]
 pub fn is_global(network: &IpCidr) -> bool {

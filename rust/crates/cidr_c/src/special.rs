@@ -1,7 +1,7 @@
 //! What addresses and networks are for, by the registries of IANA.
 
 use crate::codes::{NO_VALUE, NONE, OK};
-use crate::entries::{entry_of, has_purpose, is_global, is_multicast, is_private};
+use crate::entries::{entry_of, has_purpose, is_global, is_multicast, is_private, is_unspecified};
 use crate::finding::yes_or_no;
 use crate::values::{CValue, address_of, one_family_of};
 use cidr::IpCidr;
@@ -105,6 +105,7 @@ fn purpose_code(purpose: Purpose) -> u8 {
         Purpose::OrchidV2 => 29,
         Purpose::DroneRemoteId => 30,
         Purpose::SegmentRouting => 31,
+        Purpose::ThisHost => 32,
     }
 }
 
@@ -159,7 +160,7 @@ pub fn pcidr_is_documentation(network: &CValue) -> u32 {
 #[inline]
 pub fn pcidr_is_unspecified(network: &CValue) -> u32 {
     match one_family_of(network) {
-        Some(network) => yes_or_no(has_purpose(&network, Purpose::Unspecified)),
+        Some(network) => yes_or_no(is_unspecified(&network)),
         None => 0,
     }
 }

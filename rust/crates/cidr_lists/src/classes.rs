@@ -13,6 +13,7 @@ const REGISTRY_DATE: &str = "2025-05";
 fn purpose_name(purpose: Purpose) -> &'static str {
     match purpose {
         Purpose::ThisNetwork => "This-Network",
+        Purpose::ThisHost => "This-Host-On-This-Network",
         Purpose::Unspecified => "Unspecified",
         Purpose::PrivateUse => "Private-Use",
         Purpose::UniqueLocal => "Unique-Local",

@@ -2,7 +2,7 @@
 
 use cidr_support::arrayvec::ArrayString;
 use cidr::{BitString, Family, IpCidr, Ipv4Cidr, Ipv6Cidr};
-use cidr_ext::CidrExt;
+use cidr_ext::{AddressExt, CidrExt};
 
 /// The name of a family: `IPv4` or `IPv6`.
 #[inline]
@@ -54,6 +54,15 @@ pub fn mask_line(network: &IpCidr) -> ArrayString<120> {
     text.push_str(" ");
     text.push_str(mask_pair(network).as_str());
     text
+}
+
+/// The prefix length that a mask stands for: that of a network mask, or of a host mask that is none.
+#[inline]
+pub fn length_of_mask<A: AddressExt>(mask: A) -> Option<u8> {
+    match mask.mask_length() {
+        Some(len) => Some(len),
+        None => mask.host_mask_length(),
+    }
 }
 
 /// The masks of a prefix length in IPv4, as a line, or nothing where it has no such length.

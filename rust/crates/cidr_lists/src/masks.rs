@@ -1,21 +1,13 @@
 //! Networks and hosts with a mask in place of the prefix length.
 
 use crate::columns::len_to_white_space;
+use crate::descriptions::length_of_mask;
 use crate::errors::BadText;
 use crate::lines::HostBits;
 use crate::wrong::{Wrong, has_spaced_address, wrong_with};
 use cidr::{IpAddr, IpCidr, IpInet};
-use cidr_ext::{AddressExt, TextFault};
+use cidr_ext::TextFault;
 use cidr_io::shown::excerpt;
-
-/// The prefix length that a mask stands for: that of a network mask, or of a host mask that is none.
-#[inline]
-fn length_of_mask<A: AddressExt>(mask: A) -> Option<u8> {
-    match mask.mask_length() {
-        Some(len) => Some(len),
-        None => mask.host_mask_length(),
-    }
-}
 
 /// The prefix length that a mask of the family of an address stands for.
 fn length_beside(address: &IpAddr, mask: &IpAddr) -> Option<u8> {

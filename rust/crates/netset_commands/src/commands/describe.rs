@@ -6,13 +6,15 @@ use crate::input::files::Sources;
 use crate::input::operands::read_operand;
 use crate::output::answers::{Verdict, by_output};
 use crate::output::families::OneFamily;
-use cidr::IpCidr;
+use crate::output::report::write_line;
+use cidr::{IpAddr, IpCidr};
 use cidr_ext::CidrReverseName;
 use cidr_io::block::Block;
+use cidr_io::decimal::decimal_text;
 use cidr_io::memory::Memory;
 use cidr_io::sink::{OutputFailed, Sink};
 use cidr_io::writing::{flush, write_text};
-use cidr_lists::descriptions::{length_lines, mask_line};
+use cidr_lists::descriptions::{length_lines, length_of_mask, mask_line};
 use cidr_lists::sets::Sets;
 
 /// What is told of a network.
@@ -92,6 +94,35 @@ fn describe_networks<'a, M: Memory, F: Sources, O: Sink>(
     by_output(Verdict::Yes, write_told(out, what, &sets))
 }
 
+/// The prefix length that an argument stands for as a mask.
+#[inline]
+fn mask_length_of(text: &str) -> Option<u8> {
+    let Ok(mask) = text.parse::<IpAddr>() else {
+        return None;
+    };
+    length_of_mask(mask)
+}
+
+/// Writes a prefix length as a line.
+#[inline]
+fn write_length<S: Sink>(out: &mut S, len: u8) -> Result<(), OutputFailed> {
+    write_line(out, &[decimal_text(u128::from(len)).as_str(), "\n"])
+}
+
+/// The command `mask` of an operand that is no prefix length.
+#[inline]
+fn describe_mask<'a, M: Memory, F: Sources, O: Sink>(
+    memory: &mut M,
+    sources: &F,
+    operand: &'a str,
+    out: &mut O,
+) -> Result<Verdict, CommandError<'a>> {
+    match mask_length_of(operand) {
+        Some(len) => by_output(Verdict::Yes, write_length(out, len)),
+        None => describe_networks(memory, sources, Description::Masks, operand, out),
+    }
+}
+
 /// The commands `reverse` and `mask`.
 #[inline]
 pub fn describe<'a, M: Memory, F: Sources, O: Sink>(
@@ -105,7 +136,7 @@ pub fn describe<'a, M: Memory, F: Sources, O: Sink>(
         Description::Zones => describe_networks(memory, sources, what, operand, out),
         Description::Masks => match length_of(operand) {
             Some(len) => by_output(Verdict::Yes, write_text(out, length_lines(len).as_str())),
-            None => describe_networks(memory, sources, what, operand, out),
+            None => describe_mask(memory, sources, operand, out),
         },
     }
 }

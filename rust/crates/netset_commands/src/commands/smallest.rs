@@ -13,7 +13,6 @@ use cidr_io::block::Block;
 use cidr_io::memory::Memory;
 use cidr_io::sink::{OutputFailed, Sink};
 use cidr_lists::forms::RowForm;
-use cidr_lists::printing::Printed;
 use cidr_lists::rows::{Span, value_of};
 use cidr_lists::table::Table;
 use cidr_table::LpmTable;
@@ -23,6 +22,9 @@ use cidr_support::alloc::{AllocError, Global};
 trait OfWidth: Sized + NetworkBits + Copy {
     /// Tells a proof that it has no more.
     fn know_width(&self);
+
+    /// The string with the prefix length also where that is full, so that a row is not taken for one of a range.
+    fn text_with_length(&self) -> ArrayString<43>;
 }
 
 impl OfWidth for Ipv4Cidr {
@@ -30,12 +32,22 @@ impl OfWidth for Ipv4Cidr {
     fn know_width(&self) {
         let _len = self.network_length();
     }
+
+    #[inline]
+    fn text_with_length(&self) -> ArrayString<43> {
+        self.with_length().to_text()
+    }
 }
 
 impl OfWidth for Ipv6Cidr {
     #[inline]
     fn know_width(&self) {
         let _len = self.network_length();
+    }
+
+    #[inline]
+    fn text_with_length(&self) -> ArrayString<43> {
+        self.with_length().to_text()
     }
 }
 
@@ -149,15 +161,19 @@ fn push_row<S: Sink>(
 }
 
 /// Appends the lines of the rows of one family to a block.
-#[inline]
-fn push_rows<C: Printed, S: Sink>(
+fn push_rows<C: OfWidth, S: Sink>(
     block: &mut Block,
     out: &mut S,
     numbers: &Numbers<'_>,
     rows: &[(C, Option<usize>)],
 ) -> Result<(), OutputFailed> {
     for row in rows {
-        push_row(block, out, row.0.printed(), told_value(numbers, row.1))?;
+        push_row(
+            block,
+            out,
+            row.0.text_with_length(),
+            told_value(numbers, row.1),
+        )?;
     }
     Ok(())
 }

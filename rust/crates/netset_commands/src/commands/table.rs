@@ -108,7 +108,7 @@ const REVERSE: &str =
     "netset reverse NET|FILE the names in reverse DNS of an address, or of the zones that networks\n                        are delegated in\n";
 
 const MASK: &str =
-    "netset mask NET|LEN|FILE\n                        the first address, the mask and the host mask of networks, or\n                        the masks of a prefix length\n";
+    "netset mask NET|LEN|MASK|FILE\n                        the first address, the mask and the host mask of networks, or\n                        the masks of a prefix length, or the length of a mask\n";
 
 const CLASS: &str =
     "netset class ADDR|FILE  what an address, or each address of a file, is for by the registries of\n                        IANA: the block that has it, its name and RFC, whether it is globally\n                        reachable, and the date of the registries\n";
@@ -315,7 +315,7 @@ pub fn needed_of(command: Verb) -> &'static [&'static str] {
         Verb::Look | Verb::Smallest => &["TABLE"],
         Verb::Compile => &["TABLE", "OUT"],
         Verb::Describe(Description::Zones) => &["NET|FILE"],
-        Verb::Describe(Description::Masks) => &["NET|LEN|FILE"],
+        Verb::Describe(Description::Masks) => &["NET|LEN|MASK|FILE"],
         Verb::Class => &["ADDR|FILE"],
         Verb::Show => &["HOST"],
         Verb::Split => &["NET|FILE", "LEN"],
