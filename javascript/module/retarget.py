@@ -24,7 +24,7 @@ ALLOCATED = re.compile(rf"= alloca (?:{VALUE}|\[\d+ x i8\]), align \d+$")
 LOADED = re.compile(rf"= load (?:{VALUE}|{VALUES}|ptr|\{{ ptr, i64 \}}), ptr ")
 STORED = re.compile(rf"  store (?:{VALUE}|{VALUES}|ptr|\{{ ptr, i64 \}}) ")
 STEPPED = re.compile(r"getelementptr (?:inbounds |nuw )*i8, ")
-PAIR = re.compile(r"  (%r\d+) = load \{ i8, ptr \}, ptr (%[ar]\d+), align 8$")
+PAIR = re.compile(r"  (%[\w.]+) = load \{ i8, ptr \}, ptr (%[\w.]+), align 8$")
 CONSTANT = re.compile(r"<\{ ptr, (\[\d+ x i8\]) \}> <\{ (ptr getelementptr \(i8, ptr @static\.\d+, i64 \d+\)), ")
 PLAIN = re.compile(rf"@[\w.]+ = private (?:unnamed_addr )?constant \[\d+ x i8\] ")
 
