@@ -42,15 +42,15 @@ trait OfWidth: NetworkBits + Copy {
     fn know_width(&self)
         ensures { length (Self.bits self.now) ≤ width };
 
-    /// These are few.
-    ghost narrow: { width ≤ 129 };
-
     /// The string, with its prefix length.
     ghost text: { Self → List ℕ };
 
     /// The string with the prefix length also where that is full, so that a row is not taken for one of a range.
     fn text_with_length(&self) -> ArrayString<43>
         ensures { result.bytes ≡ text self.now };
+
+    /// These are few.
+    ghost narrow: { width ≤ 129 };
 }
 
 impl OfWidth for Ipv4Cidr {
