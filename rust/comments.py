@@ -1,7 +1,8 @@
 """Comments of Rattle as comments of Rust: what they say of the caller, and examples, which are tests of rustdoc.
 
-In the sources a line `EXPR // VALUE` tells what `{}` or `{:?}` prints of an expression. Here it becomes an assertion. An example that goes on with values of one before it is given them, if they are
-those of GIVEN, and else is shown and not run.
+In the sources a line `EXPR // VALUE` tells what `{}` or `{:?}` prints of an expression. Here it becomes an assertion. An example that
+goes on with values of one before it is given them, if they are those of GIVEN, one that is the body of a function stands in
+that of BODIES, and others are shown and not run.
 
 A call without an example in the sources has that of the file `examples`, and a call of a trait that of a type, by the trait.
 """
@@ -19,13 +20,25 @@ HEADS = {
     "cidr_table": ["use cidr::{errors::*, *};", "use cidr_table::{alloc::*, *};"],
     "cidr_sets": ["use cidr::*;", "use cidr_table::Probe;", "use cidr_sets::{access::*, alloc::*, *};"],
     "cidr_forwarding": ["use cidr::*;", "use cidr_table::*;", "use cidr_support::alloc::Global;", "use cidr_forwarding::*;"],
+    "cidr_arrays": ["use cidr_arrays::*;", "use core::net::Ipv4Addr;"],
+    "cidr_lookup": ["use cidr_arrays::Key;", "use cidr_lookup::*;", "use cidr_support::alloc::Global;", "use core::net::Ipv4Addr;"],
+    "cidr_files": ["use cidr_arrays::{Key, Word};", "use cidr_files::*;", "use cidr_support::{alloc::Global, vec::Vec};",
+                   "use core::net::{Ipv4Addr, Ipv6Addr};",
+                   "fn name<'a>(table: &Table<'a>, address: Ipv4Addr) -> Option<&'a str> {",
+                   "    core::str::from_utf8(lookup(&table.ipv4, address.to_bits().to_le_bytes())?.1).ok()", "}"],
 }
+# A file of two networks and their names.
+FILE = """let keys = [Key { address: [0, 0, 0, 10], len: 8 }, Key { address: [0, 0, 1, 10], len: 16 }];
+let ipv4 = Rows { keys: &keys, offsets: &[0, 5, 10], values: b"outerinner" };
+let file = written(Global, &ipv4, &Rows { keys: &[], offsets: &[0], values: b"" })?;"""
+TABLE_OF_A_FILE = f"{FILE}\nlet table = open(file.as_slice())?;"
 # What an example goes on with, where it does not make it: the values of the programs of the repository.
 GIVEN = {
     "cidr_table": {
         "routes": 'let rows = [("0.0.0.0/0".parse()?, 1), ("10.0.0.0/8".parse()?, 2), ("10.1.0.0/16".parse()?, 3)];\n'
                   "let mut routes: Routes = rows.into_iter().collect();",
     },
+    "cidr_files": {"file": FILE, "table": TABLE_OF_A_FILE},
     "cidr_forwarding": {
         "routes": 'let rows = [("0.0.0.0/0".parse()?, 1), ("10.0.0.0/8".parse()?, 2), ("10.1.0.0/16".parse()?, 2),\n'
                   '            ("192.0.2.0/25".parse()?, 3), ("192.0.2.128/25".parse()?, 3)];\n'
@@ -66,12 +79,82 @@ OTHERS = {
     "let smallest = routes.smallest_with_holes(":
         'let rows = [("10.0.0.0/9".parse()?, 1), ("10.128.0.0/10".parse()?, 1), ("10.192.0.0/11".parse()?, 1)];\n'
         "let routes: LpmTable<Ipv4Cidr, u32> = rows.into_iter().collect();",
+    "let ipv4 = Rows {":
+        "let ipv4 = [Key { address: [0, 0, 0, 10], len: 8 }, Key { address: [0, 0, 1, 10], len: 16 }, Key { address: [0, 2, 0, 192], len: 24 }];",
     "let network = ": "",
     "let mut text = ArrayString::": "use cidr_support::arrayvec::ArrayString;",
     'routes.insert("10.0.0.0/8".parse()?, Ipv4Addr::':
         'let rows = [("0.0.0.0/0", Ipv4Addr::new(192, 0, 2, 1)), ("10.0.0.0/8", Ipv4Addr::new(192, 0, 2, 2))];\n'
         "let mut routes: Routes = rows.map(|(network, hop)| (network.parse().unwrap(), hop)).into_iter().collect();",
 }
+# Examples that are the body of a function, by how their first line begins: what stands before and behind them, hidden, which makes
+# the function and shows that it returns what it is to.
+KEYS = """let keys = [Key { address: 0x0a000000u32, len: 8 }, Key { address: 0x0a010000, len: 16 }];
+let address = "10.1.2.3".parse()?;"""
+IN_ARRAYS = f"""fn find(keys: &[Key<u32>], starts: &[u32], answers: &[u32], address: Ipv4Addr) -> Result<Option<usize>, Fault> {{
+...
+}}
+{KEYS}
+let (starts, answers) = ([0, 0x0a000000, 0x0a010000, 0x0a020000, 0x0b000000], [0, 1, 2, 1, 0]);
+assert_eq!(find(&keys, &starts, &answers, address)?, Some(1));"""
+WORDS_OF_KEYS = f"""{KEYS}
+let table = build(Global, &keys)?;
+let (first, words) = (table.first.as_slice(), table.words.as_slice());"""
+BODIES = {
+    "let count = build(keys,": f"""fn find(keys: &[Key<u32>], starts: &mut [u32], answers: &mut [u32], address: Ipv4Addr) -> Result<Option<usize>, BuildError> {{
+...
+}}
+{KEYS}
+assert_eq!(find(&keys, &mut [0; 5], &mut [0; 5], address)?, Some(1));""",
+    "check(keys, starts,": IN_ARRAYS,
+    "Ok(lookup(starts,": IN_ARRAYS,
+    "let table = build(alloc, keys)": f"""fn find_in(alloc: Global, keys: &[Key<u32>], address: Ipv4Addr) -> Result<Option<usize>, TableError> {{
+...
+}}
+{KEYS}
+assert_eq!(find_in(Global, &keys, address)?, Some(1));""",
+    "check(alloc, keys,": f"""fn find_in(
+    alloc: Global, keys: &[Key<u32>], first: &[u32], words: &[u32], steps: u32, address: Ipv4Addr,
+) -> Result<Option<usize>, Fault> {{
+...
+}}
+{WORDS_OF_KEYS}
+assert_eq!(find_in(Global, &keys, first, words, table.steps, address)?, Some(1));""",
+    "Ok(find(&first,": f"""fn find_in(first: &[u32], words: &[u32], steps: u32, address: Ipv4Addr) -> Result<Option<usize>, Fault> {{
+...
+}}
+{WORDS_OF_KEYS}
+assert_eq!(find_in(first, words, table.steps, address)?, Some(1));""",
+    "written(alloc, &ipv4,": """fn file_of_rows(alloc: Global, ipv4: Rows<'_, Ipv4Bytes>, ipv6: Rows<'_, Ipv6Bytes>) -> Result<Vec<u8>, WriteError> {
+...
+}
+let keys = [Key { address: [0, 0, 0, 10], len: 8 }];
+let rows = Rows { keys: &keys, offsets: &[0, 5], values: b"outer" };
+let file = file_of_rows(Global, rows, Rows { keys: &[], offsets: &[0], values: b"" })?;
+assert_eq!(name(&checked(Global, file.as_slice())?, Ipv4Addr::new(10, 1, 2, 3)), Some("outer"));""",
+    "let (_row, name) = lookup(": f"""fn name_of<'a>(table: &Table<'a>, address: Ipv4Addr) -> Option<&'a [u8]> {{
+...
+Some(name)
+}}
+{TABLE_OF_A_FILE}
+assert_eq!(name_of(&table, Ipv4Addr::new(10, 1, 2, 3)), Some(b"inner".as_slice()));""",
+    "has(&table.ipv6,": f"""fn has_ipv6(table: &Table<'_>, address: Ipv6Addr) -> bool {{
+...
+}}
+{TABLE_OF_A_FILE}
+assert!(!has_ipv6(&table, Ipv6Addr::LOCALHOST));""",
+}
+
+
+def in_body(code):
+    """The lines of an example within the function whose body they are, or None where they are no body."""
+    for begun, around in BODIES.items():
+        if code[0].startswith(begun):
+            before, behind = (part.strip("\n").split("\n") for part in around.split("\n...\n"))
+            return [*(f"# {line}" for line in before), *as_rust(code), *(f"# {line}" for line in behind)]
+    return None
+
+
 # For each trait whose calls are those of types, where each has an example: the file of a type, and its name.
 CALLS_OF = {
     "cidr": {
@@ -166,7 +249,7 @@ def assertion(expression, value):
 
 def free_names(lines):
     """The names of values that the lines use and do not make."""
-    code = re.sub(r'"(?:\\.|[^"\\])*"|//.*', '""', "\n".join(lines))
+    code = re.sub(r'b?"(?:\\.|[^"\\])*"|//.*', '""', "\n".join(lines))
     bound = set()
     for made in re.findall(r"\blet\s+(.*?)\s*(?::[^=]*)?=|\|([^|\n]*)\||\bfor\s+(.*?)\s+in\b|^\s*(.*?)\s*=>|\bfn \w+\((.*?)\)", code, re.M):
         bound |= set(re.findall(r"\b[a-z_]\w*", " ".join(made)))
@@ -234,7 +317,8 @@ def with_tests(text, crate):
                 parts[5 * number + 2] = f"```{word}\n"
                 continue
             lines = in_rust(code, crate)
-            runs = stands_alone(lines)
+            body = in_body(code)
+            runs, lines = body is not None or stands_alone(lines), body or lines
             if runs:
                 uses = ["use std::str::FromStr;"] if "from_str" in "".join(code) else []
                 hidden = head + uses + ([] if code[0].startswith("fn ") else functions)

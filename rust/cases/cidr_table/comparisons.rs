@@ -1,6 +1,6 @@
 //! How many comparisons a longest match makes, counted as they are made.
 
-use cidr::{BitString, Ipv4Addr, Ipv4Cidr, Ipv4Inet, NetworkBits};
+use cidr::{Ipv4Addr, Ipv4Cidr, Ipv4Inet, NetworkBits};
 use cidr_table::alloc::Global;
 use cidr_table::{longest_match, LpmTable, Probe, Rows};
 use std::cmp::Ordering;

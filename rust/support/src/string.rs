@@ -144,14 +144,3 @@ macro_rules! format {
         text.write_fmt(core::format_args!($($t)*)).map(|()| text)
     }};
 }
-
-/// `vec!` of an allocator.
-#[macro_export]
-macro_rules! vec {
-    (in $alloc:expr; $item:expr; $len:expr) => {
-        $crate::vec::Vec::from_elem($alloc, $item, $len)
-    };
-    (in $alloc:expr; $($item:expr),* $(,)?) => {
-        $crate::vec::Vec::from_array($alloc, [$($item),*])
-    };
-}

@@ -509,3 +509,14 @@ impl std::io::Write for Vec<u8> {
         Ok(())
     }
 }
+
+/// `vec!` of an allocator.
+#[macro_export]
+macro_rules! vec {
+    (in $alloc:expr; $item:expr; $len:expr) => {
+        $crate::vec::Vec::from_elem($alloc, $item, $len)
+    };
+    (in $alloc:expr; $($item:expr),* $(,)?) => {
+        $crate::vec::Vec::from_array($alloc, [$($item),*])
+    };
+}

@@ -43,7 +43,10 @@ impl Error for BuildError {}
 /// [`BuildError`] names, in its order, and is told before anything is written. It takes O(n), two passes over n keys,
 /// and allocates nothing.
 ///
-/// ```text
+/// ```
+/// # use cidr_arrays::*;
+/// # use core::net::Ipv4Addr;
+/// # fn find(keys: &[Key<u32>], starts: &mut [u32], answers: &mut [u32], address: Ipv4Addr) -> Result<Option<usize>, BuildError> {
 /// let count = build(keys, starts, answers)?;
 /// Ok(lookup(
 ///     &starts[..count],
@@ -53,6 +56,11 @@ impl Error for BuildError {}
 ///     keys.len(),
 ///     address.to_bits(),
 /// ))
+/// # }
+/// # let keys = [Key { address: 0x0a000000u32, len: 8 }, Key { address: 0x0a010000, len: 16 }];
+/// # let address = "10.1.2.3".parse()?;
+/// # assert_eq!(find(&keys, &mut [0; 5], &mut [0; 5], address)?, Some(1));
+/// # Ok::<(), Box<dyn std::error::Error>>(())
 /// ```
 pub fn build<W: Word>(
     keys: &[Key<W>],
@@ -76,6 +84,13 @@ pub fn build<W: Word>(
 
 /// The index of the first key, counted from 0, that is no network or doesn't come after the one before it, or `None`
 /// where all are networks in their order. One pass over the keys: O(n).
+///
+/// ```
+/// # use cidr_arrays::*;
+/// # use core::net::Ipv4Addr;
+/// assert_eq!(format!("{:?}", first_refused(&[Key { address: 0x0a000000u32, len: 8 }, Key { address: 0x0a000001, len: 8 }])), "Some(1)");
+/// # Ok::<(), Box<dyn std::error::Error>>(())
+/// ```
 #[inline]
 pub fn first_refused<W: Word>(keys: &[Key<W>]) -> Option<usize> {
     (0..keys.len()).find(|&place| !is_next(keys, place))

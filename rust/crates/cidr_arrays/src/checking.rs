@@ -49,9 +49,18 @@ impl Error for Fault {}
 ///
 /// It takes O(n), two passes over n keys and one over the ranges, and one over the first level. It allocates nothing.
 ///
-/// ```text
+/// ```
+/// # use cidr_arrays::*;
+/// # use core::net::Ipv4Addr;
+/// # fn find(keys: &[Key<u32>], starts: &[u32], answers: &[u32], address: Ipv4Addr) -> Result<Option<usize>, Fault> {
 /// check(keys, starts, answers, &[], 0)?;
 /// Ok(lookup(starts, answers, &[], 0, keys.len(), address.to_bits()))
+/// # }
+/// # let keys = [Key { address: 0x0a000000u32, len: 8 }, Key { address: 0x0a010000, len: 16 }];
+/// # let address = "10.1.2.3".parse()?;
+/// # let (starts, answers) = ([0, 0x0a000000, 0x0a010000, 0x0a020000, 0x0b000000], [0, 1, 2, 1, 0]);
+/// # assert_eq!(find(&keys, &starts, &answers, address)?, Some(1));
+/// # Ok::<(), Box<dyn std::error::Error>>(())
 /// ```
 pub fn check<W: Word>(
     keys: &[Key<W>],

@@ -16,6 +16,13 @@ pub struct Key<W> {
 impl<W: Word> Key<W> {
     /// Whether it is a network: its length is at most the width, 32 or 128, and no bit after the prefix is set.
     /// 10.0.0.1/8 is none.
+    ///
+    /// ```
+    /// # use cidr_arrays::*;
+    /// # use core::net::Ipv4Addr;
+    /// assert!(!(Key { address: 0x0a000001u32, len: 8 }.is_network()));
+    /// # Ok::<(), Box<dyn std::error::Error>>(())
+    /// ```
     #[inline]
     pub fn is_network(&self) -> bool {
         let width = W::width();
@@ -27,6 +34,13 @@ impl<W: Word> Key<W> {
 
     /// Whether it comes before the other: its first address is less, or that is the same and its length is. So
     /// 10.0.0.0/8 comes before 10.0.0.0/9, and this before 10.1.0.0/16.
+    ///
+    /// ```
+    /// # use cidr_arrays::*;
+    /// # use core::net::Ipv4Addr;
+    /// assert!(Key { address: 0x0a000000u32, len: 8 }.precedes(&Key { address: 0x0a000000, len: 9 }));
+    /// # Ok::<(), Box<dyn std::error::Error>>(())
+    /// ```
     #[inline]
     pub fn precedes(&self, other: &Key<W>) -> bool {
         let first = self.address.number();

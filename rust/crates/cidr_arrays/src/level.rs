@@ -14,6 +14,15 @@ use crate::word::Word;
 /// The caller has to ensure that the starts ascend, that the first of them is 0, and that there are at most 2^32 of
 /// them, as `build` writes them, and that `shift` is below the width, 32 or 128. It takes O(log r) for each entry, of r
 /// ranges.
+///
+/// ```
+/// # use cidr_arrays::*;
+/// # use core::net::Ipv4Addr;
+/// let mut level = [0; 3];
+/// fill_level(&[0u32, 0x80000000], 31, &mut level);
+/// assert_eq!(format!("{:?}", level), "[0, 1, 1]");
+/// # Ok::<(), Box<dyn std::error::Error>>(())
+/// ```
 #[inline]
 pub fn fill_level<W: Word>(starts: &[W], shift: u32, level: &mut [u32]) {
     assert!(shift < W::width());

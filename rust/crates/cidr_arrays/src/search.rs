@@ -12,8 +12,17 @@ use crate::word::{Index, Word};
 /// It takes one search among the ranges that the first level leaves, O(log r) for r of them, and one answer. Without a
 /// level, as `&[]` and any shift, these are all ranges.
 ///
-/// ```text
+/// ```
+/// # use cidr_arrays::*;
+/// # use core::net::Ipv4Addr;
+/// # fn find(keys: &[Key<u32>], starts: &[u32], answers: &[u32], address: Ipv4Addr) -> Result<Option<usize>, Fault> {
 /// Ok(lookup(starts, answers, &[], 0, keys.len(), address.to_bits()))
+/// # }
+/// # let keys = [Key { address: 0x0a000000u32, len: 8 }, Key { address: 0x0a010000, len: 16 }];
+/// # let address = "10.1.2.3".parse()?;
+/// # let (starts, answers) = ([0, 0x0a000000, 0x0a010000, 0x0a020000, 0x0b000000], [0, 1, 2, 1, 0]);
+/// # assert_eq!(find(&keys, &starts, &answers, address)?, Some(1));
+/// # Ok::<(), Box<dyn std::error::Error>>(())
 /// ```
 #[inline]
 pub fn lookup<W: Word>(
@@ -29,6 +38,13 @@ pub fn lookup<W: Word>(
 
 /// What [`lookup`] returns, of arrays whose answers and entries are numbers of another type, such as the bytes that a
 /// file has, and of `rows` keys or fewer.
+///
+/// ```
+/// # use cidr_arrays::*;
+/// # use core::net::Ipv4Addr;
+/// assert_eq!(format!("{:?}", longest_match(&[0u32, 0x0a000000, 0x0b000000], &[0u32, 1, 0], &[], 0, 1, 0x0a010203)), "Some(0)");
+/// # Ok::<(), Box<dyn std::error::Error>>(())
+/// ```
 #[inline(always)]
 pub fn longest_match<W: Word, I: Index>(
     starts: &[W],

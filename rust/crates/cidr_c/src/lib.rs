@@ -1,7 +1,7 @@
 //! `cidr` for C and Python: values by value, strings by pointer and length.
 #![no_std]
 #![deny(unsafe_code)]
-#![allow(unused_imports, unused_variables, unstable_name_collisions, dead_code)]
+#![allow(unused_imports, unused_variables, dead_code, unstable_name_collisions)]
 extern crate std;
 
 mod exports;

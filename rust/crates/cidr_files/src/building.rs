@@ -18,18 +18,41 @@ use cidr_support::alloc::Global;
 /// values don't lie one behind the other, in fewer than 2^32 bytes; the first key that is no network or doesn't come
 /// after the one before it, with its index among the rows of its family. `NoMemory` may come before any.
 ///
-/// ```text
+/// ```
+/// # use cidr_arrays::{Key, Word};
+/// # use cidr_files::*;
+/// # use cidr_support::{alloc::Global, vec::Vec};
+/// # use core::net::{Ipv4Addr, Ipv6Addr};
+/// # fn name<'a>(table: &Table<'a>, address: Ipv4Addr) -> Option<&'a str> {
+/// #     core::str::from_utf8(lookup(&table.ipv4, address.to_bits().to_le_bytes())?.1).ok()
+/// # }
+/// let ipv4 = [Key { address: [0, 0, 0, 10], len: 8 }, Key { address: [0, 0, 1, 10], len: 16 }, Key { address: [0, 2, 0, 192], len: 24 }];
 /// let ipv4 = Rows {
 ///     keys: &ipv4,
 ///     offsets: &[0, 5, 10, 14],
 ///     values: b"outerinnertest",
 /// };
+/// # Ok::<(), Box<dyn std::error::Error>>(())
 /// ```
 ///
 /// With such rows of IPv6 as well:
 ///
-/// ```text
+/// ```
+/// # use cidr_arrays::{Key, Word};
+/// # use cidr_files::*;
+/// # use cidr_support::{alloc::Global, vec::Vec};
+/// # use core::net::{Ipv4Addr, Ipv6Addr};
+/// # fn name<'a>(table: &Table<'a>, address: Ipv4Addr) -> Option<&'a str> {
+/// #     core::str::from_utf8(lookup(&table.ipv4, address.to_bits().to_le_bytes())?.1).ok()
+/// # }
+/// # fn file_of_rows(alloc: Global, ipv4: Rows<'_, Ipv4Bytes>, ipv6: Rows<'_, Ipv6Bytes>) -> Result<Vec<u8>, WriteError> {
 /// written(alloc, &ipv4, &ipv6)
+/// # }
+/// # let keys = [Key { address: [0, 0, 0, 10], len: 8 }];
+/// # let rows = Rows { keys: &keys, offsets: &[0, 5], values: b"outer" };
+/// # let file = file_of_rows(Global, rows, Rows { keys: &[], offsets: &[0], values: b"" })?;
+/// # assert_eq!(name(&checked(Global, file.as_slice())?, Ipv4Addr::new(10, 1, 2, 3)), Some("outer"));
+/// # Ok::<(), Box<dyn std::error::Error>>(())
 /// ```
 #[inline]
 pub fn written(

@@ -12,10 +12,21 @@ use cidr_support::alloc::{AllocError, Global};
 /// is the first of those that [`Fault`] names, in its order, but that `NoMemory` of a table may come before what else is
 /// wrong with it.
 ///
-/// ```text
+/// ```
+/// # use cidr_arrays::{Key, Word};
+/// # use cidr_files::*;
+/// # use cidr_support::{alloc::Global, vec::Vec};
+/// # use core::net::{Ipv4Addr, Ipv6Addr};
+/// # fn name<'a>(table: &Table<'a>, address: Ipv4Addr) -> Option<&'a str> {
+/// #     core::str::from_utf8(lookup(&table.ipv4, address.to_bits().to_le_bytes())?.1).ok()
+/// # }
+/// let keys = [Key { address: [0, 0, 0, 10], len: 8 }, Key { address: [0, 0, 1, 10], len: 16 }];
+/// let ipv4 = Rows { keys: &keys, offsets: &[0, 5, 10], values: b"outerinner" };
+/// let file = written(Global, &ipv4, &Rows { keys: &[], offsets: &[0], values: b"" })?;
 /// let table = checked(Global, file.as_slice())?;
 /// assert_eq!(format!("{:?}", name(&table, Ipv4Addr::new(10, 1, 2, 3))), "Some(\"inner\")");
 /// assert_eq!(format!("{:?}", name(&table, Ipv4Addr::new(192, 0, 3, 0))), "None");
+/// # Ok::<(), Box<dyn std::error::Error>>(())
 /// ```
 pub fn checked(alloc: Global, bytes: &[u8]) -> Result<Table<'_>, Fault> {
     let table = open(bytes)?;
@@ -33,6 +44,22 @@ pub fn checked(alloc: Global, bytes: &[u8]) -> Result<Table<'_>, Fault> {
 ///
 /// It takes O(n) for n rows, and O(1) for each entry of the first level. It allocates the keys, the answers and the first
 /// level, and frees them.
+///
+/// ```
+/// # use cidr_arrays::{Key, Word};
+/// # use cidr_files::*;
+/// # use cidr_support::{alloc::Global, vec::Vec};
+/// # use core::net::{Ipv4Addr, Ipv6Addr};
+/// # fn name<'a>(table: &Table<'a>, address: Ipv4Addr) -> Option<&'a str> {
+/// #     core::str::from_utf8(lookup(&table.ipv4, address.to_bits().to_le_bytes())?.1).ok()
+/// # }
+/// let keys = [Key { address: [0, 0, 0, 10], len: 8 }, Key { address: [0, 0, 1, 10], len: 16 }];
+/// let ipv4 = Rows { keys: &keys, offsets: &[0, 5, 10], values: b"outerinner" };
+/// let file = written(Global, &ipv4, &Rows { keys: &[], offsets: &[0], values: b"" })?;
+/// let table = open(file.as_slice())?;
+/// assert_eq!(format!("{:?}", check::<Ipv4Bytes>(Global, &table.ipv4)), "Ok(())");
+/// # Ok::<(), Box<dyn std::error::Error>>(())
+/// ```
 pub fn check<W: Family>(alloc: Global, part: &Part<'_>) -> Result<(), TableFault> {
     let starts = W::addresses(part.starts);
     let addresses = W::addresses(part.addresses);
@@ -94,6 +121,18 @@ fn numbers_of(alloc: Global, bytes: &[u8]) -> Result<Vec<u32>, AllocError> {
 /// to the first that is not so: O(n).
 ///
 /// The caller has to ensure that there are fewer than 2^63 rows.
+///
+/// ```
+/// # use cidr_arrays::{Key, Word};
+/// # use cidr_files::*;
+/// # use cidr_support::{alloc::Global, vec::Vec};
+/// # use core::net::{Ipv4Addr, Ipv6Addr};
+/// # fn name<'a>(table: &Table<'a>, address: Ipv4Addr) -> Option<&'a str> {
+/// #     core::str::from_utf8(lookup(&table.ipv4, address.to_bits().to_le_bytes())?.1).ok()
+/// # }
+/// assert!(are_offsets(&[0u32, 5, 10], 2, 10));
+/// # Ok::<(), Box<dyn std::error::Error>>(())
+/// ```
 pub fn are_offsets<I: Index>(offsets: &[I], rows: usize, size: usize) -> bool {
     assert!(rows < usize::MAX / 2);
     if offsets.len() != rows + 1 {

@@ -16,11 +16,37 @@ pub type Ipv6Bytes = [[u8; 8]; 2];
 pub trait Family: Sized + Word {
     /// The addresses that bytes are, 4 or 16 bytes each, where they lie: nothing is copied. Bytes at the end that are too
     /// few for one are left out.
+    ///
+    /// ```
+    /// # use cidr_arrays::{Key, Word};
+    /// # use cidr_files::*;
+    /// # use cidr_support::{alloc::Global, vec::Vec};
+    /// # use core::net::{Ipv4Addr, Ipv6Addr};
+    /// # fn name<'a>(table: &Table<'a>, address: Ipv4Addr) -> Option<&'a str> {
+    /// #     core::str::from_utf8(lookup(&table.ipv4, address.to_bits().to_le_bytes())?.1).ok()
+    /// # }
+    /// assert_eq!(format!("{:?}", Ipv4Bytes::addresses(&[1, 2, 0, 192])), "[[1, 2, 0, 192]]");
+    /// # Ok::<(), Box<dyn std::error::Error>>(())
+    /// ```
     fn addresses(bytes: &[u8]) -> &[Self];
 
     /// Appends the bytes of the address with this number. The caller has to ensure that it is below 2^32 in IPv4, or
     /// below 2^128 in IPv6, as each `u128` is. The error is that an allocation fails; what is behind the old bytes then
     /// is not told.
+    ///
+    /// ```
+    /// # use cidr_arrays::{Key, Word};
+    /// # use cidr_files::*;
+    /// # use cidr_support::{alloc::Global, vec::Vec};
+    /// # use core::net::{Ipv4Addr, Ipv6Addr};
+    /// # fn name<'a>(table: &Table<'a>, address: Ipv4Addr) -> Option<&'a str> {
+    /// #     core::str::from_utf8(lookup(&table.ipv4, address.to_bits().to_le_bytes())?.1).ok()
+    /// # }
+    /// let mut bytes = Vec::new(Global);
+    /// Ipv4Bytes::put(0xc0000201, &mut bytes)?;
+    /// assert_eq!(format!("{:?}", bytes.as_slice()), "[1, 2, 0, 192]");
+    /// # Ok::<(), Box<dyn std::error::Error>>(())
+    /// ```
     fn put(number: u128, out: &mut Vec<u8>) -> Result<(), AllocError>;
 
 }

@@ -23,8 +23,24 @@ pub struct Found {
 ///
 /// It takes one search among the ranges that the first level leaves, O(log r) for r of them, and allocates nothing.
 ///
-/// ```text
+/// ```
+/// # use cidr_arrays::{Key, Word};
+/// # use cidr_files::*;
+/// # use cidr_support::{alloc::Global, vec::Vec};
+/// # use core::net::{Ipv4Addr, Ipv6Addr};
+/// # fn name<'a>(table: &Table<'a>, address: Ipv4Addr) -> Option<&'a str> {
+/// #     core::str::from_utf8(lookup(&table.ipv4, address.to_bits().to_le_bytes())?.1).ok()
+/// # }
+/// # fn name_of<'a>(table: &Table<'a>, address: Ipv4Addr) -> Option<&'a [u8]> {
 /// let (_row, name) = lookup(&table.ipv4, address.to_bits().to_le_bytes())?;
+/// # Some(name)
+/// # }
+/// # let keys = [Key { address: [0, 0, 0, 10], len: 8 }, Key { address: [0, 0, 1, 10], len: 16 }];
+/// # let ipv4 = Rows { keys: &keys, offsets: &[0, 5, 10], values: b"outerinner" };
+/// # let file = written(Global, &ipv4, &Rows { keys: &[], offsets: &[0], values: b"" })?;
+/// # let table = open(file.as_slice())?;
+/// # assert_eq!(name_of(&table, Ipv4Addr::new(10, 1, 2, 3)), Some(b"inner".as_slice()));
+/// # Ok::<(), Box<dyn std::error::Error>>(())
 /// ```
 #[inline]
 pub fn lookup<'a, W: Family>(part: &Part<'a>, address: W) -> Option<(usize, &'a [u8])> {
@@ -37,6 +53,23 @@ pub fn lookup<'a, W: Family>(part: &Part<'a>, address: W) -> Option<(usize, &'a 
 
 /// What [`lookup`] finds, in its time, with the place of the value among the values in place of its bytes. In parts that
 /// are no table the place is inside of the values, too.
+///
+/// ```
+/// # use cidr_arrays::{Key, Word};
+/// # use cidr_files::*;
+/// # use cidr_support::{alloc::Global, vec::Vec};
+/// # use core::net::{Ipv4Addr, Ipv6Addr};
+/// # fn name<'a>(table: &Table<'a>, address: Ipv4Addr) -> Option<&'a str> {
+/// #     core::str::from_utf8(lookup(&table.ipv4, address.to_bits().to_le_bytes())?.1).ok()
+/// # }
+/// let keys = [Key { address: [0, 0, 0, 10], len: 8 }, Key { address: [0, 0, 1, 10], len: 16 }];
+/// let ipv4 = Rows { keys: &keys, offsets: &[0, 5, 10], values: b"outerinner" };
+/// let file = written(Global, &ipv4, &Rows { keys: &[], offsets: &[0], values: b"" })?;
+/// let table = open(file.as_slice())?;
+/// let found = find(&table.ipv4, [3, 2, 1, 10]).ok_or("none")?;
+/// assert_eq!(format!("{:?}", (found.row, found.from, found.to)), "(1, 5, 10)");
+/// # Ok::<(), Box<dyn std::error::Error>>(())
+/// ```
 #[inline(always)]
 pub fn find<W: Family>(part: &Part<'_>, address: W) -> Option<Found> {
     let row = row_of(part, address)?;
@@ -47,8 +80,23 @@ pub fn find<W: Family>(part: &Part<'_>, address: W) -> Option<Found> {
 /// Whether an address is in one of the networks, in parts that [`check`](crate::check) accepted; in others the answer
 /// may be wrong, and nothing outside of them is read. In the time of [`lookup`], without the offsets and the values.
 ///
-/// ```text
+/// ```
+/// # use cidr_arrays::{Key, Word};
+/// # use cidr_files::*;
+/// # use cidr_support::{alloc::Global, vec::Vec};
+/// # use core::net::{Ipv4Addr, Ipv6Addr};
+/// # fn name<'a>(table: &Table<'a>, address: Ipv4Addr) -> Option<&'a str> {
+/// #     core::str::from_utf8(lookup(&table.ipv4, address.to_bits().to_le_bytes())?.1).ok()
+/// # }
+/// # fn has_ipv6(table: &Table<'_>, address: Ipv6Addr) -> bool {
 /// has(&table.ipv6, Ipv6Bytes::of(address.to_bits()))
+/// # }
+/// # let keys = [Key { address: [0, 0, 0, 10], len: 8 }, Key { address: [0, 0, 1, 10], len: 16 }];
+/// # let ipv4 = Rows { keys: &keys, offsets: &[0, 5, 10], values: b"outerinner" };
+/// # let file = written(Global, &ipv4, &Rows { keys: &[], offsets: &[0], values: b"" })?;
+/// # let table = open(file.as_slice())?;
+/// # assert!(!has_ipv6(&table, Ipv6Addr::LOCALHOST));
+/// # Ok::<(), Box<dyn std::error::Error>>(())
 /// ```
 #[inline]
 pub fn has<W: Family>(part: &Part<'_>, address: W) -> bool {

@@ -14,6 +14,18 @@ const HEADER: usize = 64;
 
 /// The tables of a file, in parts that are not yet checked: a few reads, however long it is, and no allocation. The
 /// error is the first of `Magic`, `Version`, and `Short` or `Long`.
+///
+/// ```
+/// # use cidr_arrays::{Key, Word};
+/// # use cidr_files::*;
+/// # use cidr_support::{alloc::Global, vec::Vec};
+/// # use core::net::{Ipv4Addr, Ipv6Addr};
+/// # fn name<'a>(table: &Table<'a>, address: Ipv4Addr) -> Option<&'a str> {
+/// #     core::str::from_utf8(lookup(&table.ipv4, address.to_bits().to_le_bytes())?.1).ok()
+/// # }
+/// assert_eq!(format!("{:?}", open(b"text").err()), "Some(Magic)");
+/// # Ok::<(), Box<dyn std::error::Error>>(())
+/// ```
 pub fn open(bytes: &[u8]) -> Result<Table<'_>, Fault> {
     if word_at(bytes, 0) != MAGIC {
         return Err(Fault::Magic);
@@ -39,6 +51,21 @@ pub fn open(bytes: &[u8]) -> Result<Table<'_>, Fault> {
 
 /// The counts of the IPv4 table and of the IPv6 table, as the header of a file has them: what is behind the end counts
 /// as 0. Whether the bytes are a file is for [`open`]. A few reads, and no allocation.
+///
+/// ```
+/// # use cidr_arrays::{Key, Word};
+/// # use cidr_files::*;
+/// # use cidr_support::{alloc::Global, vec::Vec};
+/// # use core::net::{Ipv4Addr, Ipv6Addr};
+/// # fn name<'a>(table: &Table<'a>, address: Ipv4Addr) -> Option<&'a str> {
+/// #     core::str::from_utf8(lookup(&table.ipv4, address.to_bits().to_le_bytes())?.1).ok()
+/// # }
+/// let keys = [Key { address: [0, 0, 0, 10], len: 8 }, Key { address: [0, 0, 1, 10], len: 16 }];
+/// let ipv4 = Rows { keys: &keys, offsets: &[0, 5, 10], values: b"outerinner" };
+/// let file = written(Global, &ipv4, &Rows { keys: &[], offsets: &[0], values: b"" })?;
+/// assert_eq!(counts(file.as_slice()).0.rows, 2);
+/// # Ok::<(), Box<dyn std::error::Error>>(())
+/// ```
 #[inline]
 pub fn counts(bytes: &[u8]) -> (Counts, Counts) {
     (counts_at(bytes, 4), counts_at(bytes, 10))

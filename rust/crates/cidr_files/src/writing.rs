@@ -14,6 +14,24 @@ use cidr_support::alloc::{AllocError, Global};
 /// The caller has to ensure that each table is one: that its arrays are those of its keys, as `build` and `fill_level`
 /// of `cidr_arrays` write them, that its values lie one behind the other, and that there are fewer than 2^31 keys,
 /// fewer than 2^32 ranges, entries and bytes of values, and a shift below 32, or 128 in IPv6.
+///
+/// ```
+/// # use cidr_arrays::{Key, Word};
+/// # use cidr_files::*;
+/// # use cidr_support::{alloc::Global, vec::Vec};
+/// # use core::net::{Ipv4Addr, Ipv6Addr};
+/// # fn name<'a>(table: &Table<'a>, address: Ipv4Addr) -> Option<&'a str> {
+/// #     core::str::from_utf8(lookup(&table.ipv4, address.to_bits().to_le_bytes())?.1).ok()
+/// # }
+/// let rows = Rows { keys: &[Key { address: [0, 0, 0, 10], len: 8 }], offsets: &[0, 5], values: b"outer" };
+/// let none = Rows { keys: &[], offsets: &[0], values: b"" };
+/// let (starts, answers) = ([[0; 4], [0, 0, 0, 10], [0, 0, 0, 11]], [0, 1, 0]);
+/// let ipv4 = Contents { rows: &rows, starts: &starts, answers: &answers, level: &[], shift: 0 };
+/// let ipv6 = Contents { rows: &none, starts: &[[[0; 8]; 2]], answers: &[0], level: &[], shift: 0 };
+/// let file = file_of(Global, &ipv4, &ipv6)?;
+/// assert_eq!(format!("{:?}", name(&checked(Global, file.as_slice())?, Ipv4Addr::new(10, 1, 2, 3))), "Some(\"outer\")");
+/// # Ok::<(), Box<dyn std::error::Error>>(())
+/// ```
 #[inline]
 pub fn file_of(
     alloc: Global,

@@ -6,7 +6,7 @@
 //! and a sink over memory do.
 #![no_std]
 #![forbid(unsafe_code)]
-#![allow(unused_imports, unused_variables, unstable_name_collisions, dead_code)]
+#![allow(unused_imports, unused_variables, dead_code, unstable_name_collisions)]
 
 pub mod arguments;
 pub mod block;

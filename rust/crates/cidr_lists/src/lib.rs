@@ -22,7 +22,7 @@
 //! collects, sorts, combines or prints whole lists allocates, and its one other error is that there is no memory.
 #![no_std]
 #![forbid(unsafe_code)]
-#![allow(unused_imports, unused_variables, unstable_name_collisions, dead_code)]
+#![allow(unused_imports, unused_variables, dead_code, unstable_name_collisions)]
 
 pub mod changes;
 pub mod classes;

@@ -11,7 +11,7 @@
 //!
 //! # What is proved
 //!
-//! The four libraries are written in Rattle, which is Rust with contracts. There each function is proved to return what its
+//! The libraries are written in Rattle, which is Rust with contracts. There each function is proved to return what its
 //! contract says, without a panic, for all arguments that meet its condition. The proofs are of that text. The text in Rust is
 //! the same without its contracts: a script compares both token by token and lists each one that differs. That rustc, `core` and
 //! `proved-cidr-support` do what the compiler and the library of Rattle do is tested, and not proved.
@@ -20,11 +20,11 @@
 //! conditions are not tested, since that would take longer than the call: that the keys behind a `Probe` ascend, and that a
 //! trait which a program implements itself keeps its promises. Then the answer is some answer.
 //!
-//! The licence is MIT. The names and the behaviour come from the crate `cidr` by Stefan Bühler, whose licence is
-//! `LICENSE-cidr`.
+//! The licence is MIT.
+//! The names and the behaviour come from the crate `cidr` by Stefan Bühler, whose licence is `LICENSE-cidr`.
 #![no_std]
 #![forbid(unsafe_code)]
-#![allow(unused_imports, unused_variables, unstable_name_collisions)]
+#![allow(unused_imports, unused_variables, dead_code, unstable_name_collisions)]
 
 pub mod alloc;
 mod checks;

@@ -1,7 +1,7 @@
 //! A program over the crate `cidr`: it answers questions about IP networks.
 #![no_main]
 #![deny(unsafe_code)]
-#![allow(unused_imports, unused_variables, unstable_name_collisions, dead_code)]
+#![allow(unused_imports, unused_variables, dead_code, unstable_name_collisions)]
 
 mod commands;
 mod errors;

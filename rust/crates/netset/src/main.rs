@@ -1,7 +1,7 @@
 //! A program for lists of networks.
 #![no_main]
 #![deny(unsafe_code)]
-#![allow(unused_imports, unused_variables, unstable_name_collisions, dead_code)]
+#![allow(unused_imports, unused_variables, dead_code, unstable_name_collisions)]
 
 use cidr_system::rt::HostRuntime;
 use cidr_io::arguments::Given;

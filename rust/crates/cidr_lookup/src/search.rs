@@ -1,0 +1,88 @@
+//! The longest match of an address.
+
+use crate::address::Address;
+use crate::words::Words;
+
+/// The least word that is the place of a node.
+pub(crate) const PLACE: u32 = 1 << 31;
+
+/// How many steps an address of 128 bits may take.
+const MOST_STEPS: u32 = 21;
+
+/// The index of the longest of the keys that have an address, or `None` where none has it: the longest match of a
+/// forwarding table (RFC 1812, 5.2.4.3). The keys are not read.
+///
+/// Whatever the words are, it reads none outside of them, and ends. It is the longest match in the table of keys, as
+/// [`build`](crate::build) returned it or [`check`](crate::check) accepted it. In other words it may be any index.
+///
+/// It takes one step for each six bits that are needed to tell the match: each reads two lines of memory at most.
+///
+/// ```
+/// # use cidr_arrays::Key;
+/// # use cidr_lookup::*;
+/// # use cidr_support::alloc::Global;
+/// # use core::net::Ipv4Addr;
+/// # fn find_in(first: &[u32], words: &[u32], steps: u32, address: Ipv4Addr) -> Result<Option<usize>, Fault> {
+/// Ok(find(&first, &words, steps, address.to_bits()))
+/// # }
+/// # let keys = [Key { address: 0x0a000000u32, len: 8 }, Key { address: 0x0a010000, len: 16 }];
+/// # let address = "10.1.2.3".parse()?;
+/// # let table = build(Global, &keys)?;
+/// # let (first, words) = (table.first.as_slice(), table.words.as_slice());
+/// # assert_eq!(find_in(first, words, table.steps, address)?, Some(1));
+/// # Ok::<(), Box<dyn std::error::Error>>(())
+/// ```
+#[inline(always)]
+pub fn find<A: Address, T: Words>(first: &T, words: &T, steps: u32, address: A) -> Option<usize> {
+    row(value_of(first, words, steps, address))
+}
+
+/// The index that a value says.
+#[inline(always)]
+fn row(value: u32) -> Option<usize> {
+    if value == 0 {
+        return None;
+    }
+    Some((value - 1) as usize)
+}
+
+/// The value that an address is led to.
+#[inline(always)]
+fn value_of<A: Address, T: Words>(first: &T, words: &T, steps: u32, address: A) -> u32 {
+    address.padded();
+    let width = A::padded_width();
+    if steps > MOST_STEPS {
+        return 0;
+    }
+    let shift = 6 * steps;
+    if shift >= width {
+        return 0;
+    }
+    if width - shift > 64 {
+        return 0;
+    }
+    let at = address.block(shift);
+    if at >= first.len() {
+        return 0;
+    }
+    let mut entry = first.word(at);
+    let mut left = shift;
+    while entry >= PLACE {
+        if left < 6 {
+            return 0;
+        }
+        left -= 6;
+        let place = (entry - PLACE) as usize;
+        if place + 1 >= words.len() {
+            return 0;
+        }
+        let marks = u64::from(words.word(place + 1)) * (1 << 32) + u64::from(words.word(place));
+        let upto = marks >> (63 - address.digit(left));
+        let next = place + 1 + upto.count_ones() as usize;
+        if next >= words.len() {
+            return 0;
+        }
+        entry = words.word(next);
+    }
+    entry
+}
