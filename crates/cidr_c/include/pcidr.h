@@ -679,7 +679,7 @@ uint32_t pcidr_permitted(const pcidr_rule *rules, size_t rules_len, pcidr_value 
 
 /* The indexes of the rules that no address reaches, since earlier rules decide each address of their networks: the
  * first `count` of `out`, ascending. Errors as above; with NO_ROOM `count` is how many they are. Allocates;
- * O(n log^2 n). */
+ * O(n log n). */
 uint32_t pcidr_shadowed(const pcidr_rule *rules, size_t rules_len, size_t *out, size_t out_len, size_t *count);
 
 /* The indexes of the rules that decide the addresses of a network, each the first rule for some of them, in `out` as

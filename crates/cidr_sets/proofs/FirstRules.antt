@@ -8,7 +8,7 @@ use Rattle.std.specs.Bool.{Decides}
 use Rattle.std.specs.List.{AllWithin, Contains, HoldsAt, slice_get}
 use Rattle.std.specs.List.Sorted.{IsStrictlyIncreasing}
 use Rattle.cidr.specs.model.Network.{BeginsWith}
-use Rattle.cidr_table.specs.model.Cover.{Covers, IsFull}
+use Rattle.cidr_table.specs.model.Cover.{Covers}
 use Rattle.cidr_table.specs.internal.Places.{begins_with}
 use Rattle.cidr_table.proofs.Beginnings.{begins_decides}
 use Rattle.cidr_table.proofs.MapLaws.{contains_first, contains_later, contains_cases, contains_nothing}
@@ -36,17 +36,6 @@ covers_later : (p : List Bool) (ps : List (List Bool)) (a : List Bool) → ¬ (B
 covers_later p ps a n c = elim (contains_cases p c.0 ps c.1) [
   | inl e ↦ absurd (n (subst (BeginsWith a) (sym e) c.2))
   | inr d ↦ (c.0, d, c.2)
-]
-
--- one of the networks contains the address, or none does
-covers_or : (s : List (List Bool)) (a : List Bool) → Covers s a ⊎ ¬ (Covers s a)
-covers_or [] a = inr (λ c. contains_nothing c.0 c.1)
-covers_or (p ∷ ps) a = elim (begins_or a p) [
-  | inl b ↦ inl (p, contains_first p ps, b)
-  | inr n ↦ elim (covers_or ps a) [
-    | inl c ↦ inl (c.0, contains_later p c.0 ps c.1, c.2)
-    | inr m ↦ inr (λ c. m (covers_later p ps a n c))
-  ]
 ]
 
 -- an address of the network p that none of the first i networks contains
@@ -323,21 +312,7 @@ same_permitted w ps qs acts bcts s t h k = (
   )),
 )
 
--- ---- rules that no address reaches
-module _ (ps : List (List Bool)) (i : ℕ) (p : List Bool) (here : slice_get ps i ≡ Some p) (s : List (List Bool))
-    (h : IsSetOf 129 (Covers (take i ps)) s) where
-  pub shadowed_where_full : IsFull 129 s p ↔ IsShadowed 129 ps i
-  shadowed_where_full = (
-    λ full. (
-      slice_get_within ps i p here,
-      λ a la k. k.1 ((h.exact a la).0 (full a la (subst (BeginsWith a) (same_Some k.0.0 p (sym k.0.1 ∙ here)) k.0.2))),
-    ),
-    λ sh a la b. elim (covers_or (take i ps) a) [
-      | inl c ↦ (h.exact a la).1 c
-      | inr n ↦ absurd (sh.1 a la ((p, here, b), n))
-    ],
-  )
-
+-- ---- indices
 -- a number behind smaller ones
 pub increasing_push : (ns : List ℕ) (n : ℕ) → IsStrictlyIncreasing ns → ((m : ℕ) → Contains ns m → m < n) → IsStrictlyIncreasing (ns ++ n ∷ [])
 increasing_push ns n h below k l = elim (cases_lt (k + 1) (length ns)) [
@@ -388,14 +363,6 @@ module _ (ps : List (List Bool)) (i : ℕ) (q : List Bool) (there : slice_get ps
       let split : take (i + 1) ps ≡ take i ps ++ q ∷ [] =
       take_more ps i q (slice_get_within ps i q there) ∙ ap (λ x. take i ps ++ x ∷ []) (get_or_from_slice_get ps i q q there) in
       subst (λ qs. Covers qs a ↔ (Covers (take i ps) a ⊎ BeginsWith a q)) (sym split) (covers_more (take i ps) q a)
-
-  pub earlier_more : (old new : List (List Bool)) → IsSetOf 129 (Covers (take i ps)) old → IsUnion 129 old (q ∷ []) new
-      → IsSetOf 129 (Covers (take (i + 1) ps)) new
-  earlier_more old new h u = set_alike 129 (λ a. Covers old a ⊎ Covers (q ∷ []) a) (Covers (take (i + 1) ps)) new
-      (λ a la. (
-        λ c. (covers_next a).1 (elim c [ inl d ↦ inl ((h.exact a la).0 d) | inr d ↦ inr ((one_covers q a).0 d) ]),
-        λ c. elim ((covers_next a).0 c) [ inl d ↦ inl ((h.exact a la).1 d) | inr d ↦ inr ((one_covers q a).1 d) ],
-      )) u
 
   -- ---- rules that decide the addresses of the network p: what the earlier networks leave of it
   module _ (p : List Bool) (rest : List (List Bool)) (h : IsSetOf 129 (IsLeft ps p i) rest) where

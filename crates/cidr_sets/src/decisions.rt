@@ -1,14 +1,14 @@
 //! Which addresses each rule of an access list decides.
-ghost use Rattle.std.specs.Prelude.{◌≡◌, ◌↔◌, ◌+◌, ◌<◌, ◌≤◌, ◌++◌, ℕ, Bool, List, length, map, Contains, IfOk, OnOk};
+ghost use Rattle.std.specs.Prelude.{◌≡◌, ◌↔◌, ◌<◌, ℕ, Bool, List, [], length, map, Contains, IfOk};
 ghost use Rattle.std.specs.List.Sorted.{IsStrictlyIncreasing};
 ghost use Rattle.cidr_sets.specs.model.FirstRules.{IsDeciding};
-ghost use Rattle.cidr_sets.specs.internal.Deciding.{AreBefore, AreUnreached, TellFirst};
+ghost use Rattle.cidr_sets.specs.internal.Deciding.{AreRows, AreUnreached, AscendFrom, IsPartStep, TellFirst};
 
-use crate::access::{Rule, matched_by};
+use crate::access::Rule;
+use crate::rests::half;
 use crate::search::known;
-use crate::set::NetworkSet;
 use cidr::NetworkBits;
-use cidr_table::LpmTable;
+use cidr_table::{LpmTable, is_inside};
 use std::alloc::{AllocError, Global};
 
 /// What the rules of an access list decide.
@@ -21,6 +21,10 @@ pub struct Decisions<C: NetworkBits + Copy> {
 }
 
 /// What the rules decide.
+///
+/// It sorts their networks once and goes through them: O(n log n) for n rules, and a step for each part. Of these there
+/// are at most n where no network is cut out of another, and else one more for each bit of each network. Beside them it
+/// takes room for n rows, and then for n marks.
 pub fn decide_all<C: NetworkBits + Copy>(
     alloc: Global,
     rules: &[Rule<C>],
@@ -28,83 +32,101 @@ pub fn decide_all<C: NetworkBits + Copy>(
     ensures parts { IfOk result (λ d. TellFirst C.bits (map (λ r. C.bits r.network) rules.now) (length rules.now) d.parts.items) }
     ensures unreached { IfOk result (λ d. AreUnreached (map (λ r. C.bits r.network) rules.now) (length rules.now) d.unreached.items) }
 {
-    let mut out = Decisions {
-        parts: Vec::new(alloc),
-        unreached: Vec::new(alloc),
-    };
-    if rules.is_empty() {
-        return Ok(out);
-    }
-    let none = NetworkSet::new(alloc);
-    add_rules(alloc, rules, 0, rules.len(), &none, &mut out)?;
-    Ok(out)
+    let parts = parts_of(alloc, rules)?;
+    let unreached = unreached_in(alloc, parts.as_slice(), rules.len())?;
+    Ok(Decisions { parts, unreached })
 }
 
-/// Adds what the rules from `start` to before `end` decide. Of the networks of the rules before them it is given the
-/// addresses that are also in a network of theirs.
-fn add_rules<C: NetworkBits + Copy>(
+/// The networks of all addresses that a rule decides, each with the index of that rule.
+fn parts_of<C: NetworkBits + Copy>(
     alloc: Global,
     rules: &[Rule<C>],
-    start: usize,
-    end: usize,
-    earlier: &NetworkSet<C>,
-    out: &mut Decisions<C>,
-) -> Result<(), AllocError>
-    requires order { start < end }
-    requires within { end ≤ length rules.now }
-    requires earlier { AreBefore (map (λ r. C.bits r.network) rules.now) start end (map C.bits earlier.now) }
-    requires parts { TellFirst C.bits (map (λ r. C.bits r.network) rules.now) start out.old.parts.items }
-    requires unreached { AreUnreached (map (λ r. C.bits r.network) rules.now) start out.old.unreached.items }
-    ensures parts { OnOk result (TellFirst C.bits (map (λ r. C.bits r.network) rules.now) end out.new.parts.items) }
-    ensures unreached { OnOk result (AreUnreached (map (λ r. C.bits r.network) rules.now) end out.new.unreached.items) }
+) -> Result<Vec<(C, usize)>, AllocError>
+    ensures { IfOk result (λ parts. TellFirst C.bits (map (λ r. C.bits r.network) rules.now) (length rules.now) parts.items) }
 {
-    if end - start == 1 {
-        return add_rule(rules, start, earlier, out);
+    let rows = rows_of(alloc, rules)?;
+    let mut parts = Vec::new(alloc);
+    let mut left = rows.as_slice();
+    while let Some((row, behind)) = left.split_first() {
+        left = push_parts(&mut parts, &row.0, row.1, behind)?;
     }
-    let middle = start + (end - start) / 2;
-    let front = matched_by(alloc, &rules[start..middle])?;
-    let before = earlier.intersection(&front)?;
-    add_rules(alloc, rules, start, middle, &before, out)?;
-    let back = matched_by(alloc, &rules[middle..end])?;
-    let both = earlier.union(&front)?;
-    let before = both.intersection(&back)?;
-    add_rules(alloc, rules, middle, end, &before, out)
+    Ok(parts)
 }
 
-/// Adds what one rule decides: the addresses of its network that are in none of the earlier ones.
-fn add_rule<C: NetworkBits + Copy>(
+/// The networks of the rules, each with its index: in their order, and equal ones in that of the rules.
+fn rows_of<C: NetworkBits + Copy>(
+    alloc: Global,
     rules: &[Rule<C>],
-    index: usize,
-    earlier: &NetworkSet<C>,
-    out: &mut Decisions<C>,
-) -> Result<(), AllocError>
-    requires index { index < length rules.now }
-    requires earlier { AreBefore (map (λ r. C.bits r.network) rules.now) index (index + 1) (map C.bits earlier.now) }
-    requires parts { TellFirst C.bits (map (λ r. C.bits r.network) rules.now) index out.old.parts.items }
-    requires unreached { AreUnreached (map (λ r. C.bits r.network) rules.now) index out.old.unreached.items }
-    ensures parts { OnOk result (TellFirst C.bits (map (λ r. C.bits r.network) rules.now) (index + 1) out.new.parts.items) }
-    ensures unreached { OnOk result (AreUnreached (map (λ r. C.bits r.network) rules.now) (index + 1) out.new.unreached.items) }
+) -> Result<Vec<(C, usize)>, AllocError>
+    ensures ascend { IfOk result (λ rows. AscendFrom C.bits [] rows.items) }
+    ensures rows { IfOk result (λ rows. AreRows C.bits (map (λ r. C.bits r.network) rules.now) (length rules.now) rows.items) }
 {
-    let rest = earlier.complement_in(&rules[index].network)?;
-    if rest.is_empty() {
-        out.unreached.push(index)?;
-        return Ok(());
+    let mut rows = Vec::with_capacity(alloc, rules.len())?;
+    for (index, rule) in rules.iter().enumerate() {
+        rows.push((rule.network, index))?;
     }
-    push_parts(&mut out.parts, rest.as_slice(), index)
+    rows.sort_unstable();
+    Ok(rows)
 }
 
-/// Appends networks, each with the index of the rule.
-fn push_parts<C: Copy>(
+/// Pushes networks of all addresses of a network, each with the least index of those that contain it: of this network and
+/// of the rows. Returns the rows behind the network.
+///
+/// Where the next row lies in the network and comes earlier in the list, the network is halved. Other rows in it play no
+/// part.
+fn push_parts<'a, C: NetworkBits + Copy>(
     parts: &mut Vec<(C, usize)>,
-    networks: &[C],
-    rule: usize,
-) -> Result<(), AllocError>
-    ensures { OnOk result (parts.new.items ≡ parts.old.items ++ map (λ network. (network, rule)) networks.now) }
+    network: &C,
+    index: usize,
+    rows: &'a [(C, usize)],
+) -> Result<&'a [(C, usize)], AllocError>
+    requires { AscendFrom C.bits (C.bits network.now) rows.now }
+    ensures { IfOk result (λ rest. IsPartStep C.bits (C.bits network.now) index rows.now rest.now parts.old.items parts.new.items) }
 {
-    for network in networks {
-        parts.push((*network, rule))?;
+    known(network);
+    let mut least = index;
+    let mut left = rows;
+    while let Some((row, behind)) = left.split_first() {
+        if !is_inside(&row.0, network) {
+            break;
+        }
+        if row.1 < least {
+            if network.len() < row.0.len() {
+                let lower = half(network, &row.0, false);
+                let rest = push_parts(parts, &lower, least, left)?;
+                let upper = half(network, &row.0, true);
+                return push_parts(parts, &upper, least, rest);
+            }
+            least = row.1;
+        }
+        left = behind;
     }
-    Ok(())
+    parts.push((*network, least))?;
+    Ok(left)
+}
+
+/// The indices below `count` that no part has, ascending.
+fn unreached_in<C>(
+    alloc: Global,
+    parts: &[(C, usize)],
+    count: usize,
+) -> Result<Vec<usize>, AllocError>
+    requires { (part : C × ℕ) → Contains parts.now part → part.1 < count }
+    ensures indices { IfOk result (λ out. (j : ℕ) → Contains out.items j
+        ↔ ((j < count) × ¬ (Contains (map (λ part. part.1) parts.now) j))) }
+    ensures ascending { IfOk result (λ out. IsStrictlyIncreasing out.items) }
+{
+    let mut reached = vec![in alloc; false; count]?;
+    for part in parts {
+        reached[part.1] = true;
+    }
+    let mut out = Vec::new(alloc);
+    for (index, is_reached) in reached.iter().enumerate() {
+        if !*is_reached {
+            out.push(index)?;
+        }
+    }
+    Ok(out)
 }
 
 /// The indices of the rules that decide the addresses of a network, ascending, where the rows tell the rule of each

@@ -116,7 +116,7 @@ fn decided<C: NetworkBits + Copy>(
 
 /// The addresses of the networks of some rules.
 #[inline]
-pub(crate) fn matched_by<C: NetworkBits + Copy>(
+fn matched_by<C: NetworkBits + Copy>(
     alloc: Global,
     rules: &[Rule<C>],
 ) -> Result<NetworkSet<C>, AllocError> {
@@ -146,8 +146,9 @@ fn permitted_by_few<C: NetworkBits + Copy>(
 /// The indices of the rules that no address reaches, counted from 0 and ascending: each address of such a rule's
 /// network is in the network of an earlier rule, which decides. What the rules do plays no part.
 ///
-/// It halves the list, and of the earlier networks takes to each half what has an address there: O(n log² n) for n rules,
-/// and up to 128 times that where networks are cut out of others. Where an allocation fails, it returns the error.
+/// It sorts the networks once, and halves each where an earlier one lies in it: O(n log n) for n rules, and a step for each
+/// network that is left of a rule. Of these there are at most n where none is cut out of another, and else one more for
+/// each bit of each network; it allocates room for them and for n rows. Where an allocation fails, it returns the error.
 ///
 /// ```
 /// # use cidr::*;

@@ -1,11 +1,12 @@
 //! Which addresses each rule of an access list decides.
 
+use cidr_support::vec;
 use cidr_support::vec::Vec;
-use crate::access::{Rule, matched_by};
+use crate::access::Rule;
+use crate::rests::half;
 use crate::search::known;
-use crate::set::NetworkSet;
 use cidr::NetworkBits;
-use cidr_table::LpmTable;
+use cidr_table::{LpmTable, is_inside};
 use cidr_support::alloc::{AllocError, Global};
 
 /// What the rules of an access list decide.
@@ -17,72 +18,99 @@ pub struct Decisions<C: NetworkBits + Copy> {
 }
 
 /// What the rules decide.
+///
+/// It sorts their networks once and goes through them: O(n log n) for n rules, and a step for each part. Of these there
+/// are at most n where no network is cut out of another, and else one more for each bit of each network. Beside them it
+/// takes room for n rows, and then for n marks.
+#[inline]
 pub fn decide_all<C: NetworkBits + Copy>(
     alloc: Global,
     rules: &[Rule<C>],
 ) -> Result<Decisions<C>, AllocError> {
-    let mut out = Decisions {
-        parts: Vec::new(alloc),
-        unreached: Vec::new(alloc),
-    };
-    if rules.is_empty() {
-        return Ok(out);
-    }
-    let none = NetworkSet::new(alloc);
-    add_rules(alloc, rules, 0, rules.len(), &none, &mut out)?;
-    Ok(out)
+    let parts = parts_of(alloc, rules)?;
+    let unreached = unreached_in(alloc, parts.as_slice(), rules.len())?;
+    Ok(Decisions { parts, unreached })
 }
 
-/// Adds what the rules from `start` to before `end` decide. Of the networks of the rules before them it is given the
-/// addresses that are also in a network of theirs.
-fn add_rules<C: NetworkBits + Copy>(
+/// The networks of all addresses that a rule decides, each with the index of that rule.
+#[inline]
+fn parts_of<C: NetworkBits + Copy>(
     alloc: Global,
     rules: &[Rule<C>],
-    start: usize,
-    end: usize,
-    earlier: &NetworkSet<C>,
-    out: &mut Decisions<C>,
-) -> Result<(), AllocError> {
-    if end - start == 1 {
-        return add_rule(rules, start, earlier, out);
+) -> Result<Vec<(C, usize)>, AllocError> {
+    let rows = rows_of(alloc, rules)?;
+    let mut parts = Vec::new(alloc);
+    let mut left = rows.as_slice();
+    while let Some((row, behind)) = left.split_first() {
+        left = push_parts(&mut parts, &row.0, row.1, behind)?;
     }
-    let middle = start + (end - start) / 2;
-    let front = matched_by(alloc, &rules[start..middle])?;
-    let before = earlier.intersection(&front)?;
-    add_rules(alloc, rules, start, middle, &before, out)?;
-    let back = matched_by(alloc, &rules[middle..end])?;
-    let both = earlier.union(&front)?;
-    let before = both.intersection(&back)?;
-    add_rules(alloc, rules, middle, end, &before, out)
+    Ok(parts)
 }
 
-/// Adds what one rule decides: the addresses of its network that are in none of the earlier ones.
+/// The networks of the rules, each with its index: in their order, and equal ones in that of the rules.
 #[inline]
-fn add_rule<C: NetworkBits + Copy>(
+fn rows_of<C: NetworkBits + Copy>(
+    alloc: Global,
     rules: &[Rule<C>],
-    index: usize,
-    earlier: &NetworkSet<C>,
-    out: &mut Decisions<C>,
-) -> Result<(), AllocError> {
-    let rest = earlier.complement_in(&rules[index].network)?;
-    if rest.is_empty() {
-        out.unreached.push(index)?;
-        return Ok(());
+) -> Result<Vec<(C, usize)>, AllocError> {
+    let mut rows = Vec::with_capacity(alloc, rules.len())?;
+    for (index, rule) in rules.iter().enumerate() {
+        rows.push((rule.network, index))?;
     }
-    push_parts(&mut out.parts, rest.as_slice(), index)
+    rows.sort_unstable();
+    Ok(rows)
 }
 
-/// Appends networks, each with the index of the rule.
-#[inline]
-fn push_parts<C: Copy>(
+/// Pushes networks of all addresses of a network, each with the least index of those that contain it: of this network and
+/// of the rows. Returns the rows behind the network.
+///
+/// Where the next row lies in the network and comes earlier in the list, the network is halved. Other rows in it play no
+/// part.
+fn push_parts<'a, C: NetworkBits + Copy>(
     parts: &mut Vec<(C, usize)>,
-    networks: &[C],
-    rule: usize,
-) -> Result<(), AllocError> {
-    for network in networks {
-        parts.push((*network, rule))?;
+    network: &C,
+    index: usize,
+    rows: &'a [(C, usize)],
+) -> Result<&'a [(C, usize)], AllocError> {
+    known(network);
+    let mut least = index;
+    let mut left = rows;
+    while let Some((row, behind)) = left.split_first() {
+        if !is_inside(&row.0, network) {
+            break;
+        }
+        if row.1 < least {
+            if network.len() < row.0.len() {
+                let lower = half(network, &row.0, false);
+                let rest = push_parts(parts, &lower, least, left)?;
+                let upper = half(network, &row.0, true);
+                return push_parts(parts, &upper, least, rest);
+            }
+            least = row.1;
+        }
+        left = behind;
     }
-    Ok(())
+    parts.push((*network, least))?;
+    Ok(left)
+}
+
+/// The indices below `count` that no part has, ascending.
+fn unreached_in<C>(
+    alloc: Global,
+    parts: &[(C, usize)],
+    count: usize,
+) -> Result<Vec<usize>, AllocError> {
+    let mut reached = vec![in alloc; false; count]?;
+    for part in parts {
+        reached[part.1] = true;
+    }
+    let mut out = Vec::new(alloc);
+    for (index, is_reached) in reached.iter().enumerate() {
+        if !*is_reached {
+            out.push(index)?;
+        }
+    }
+    Ok(out)
 }
 
 /// The indices of the rules that decide the addresses of a network, ascending, where the rows tell the rule of each
