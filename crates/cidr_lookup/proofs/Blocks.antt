@@ -79,6 +79,16 @@ pub one_count : (steps all count count' : ℕ) → count * 2 ^ (6 * steps) ≡ a
 one_count steps all count count' is is' =
     sym (shl-shr count (6 * steps)) ∙ (ap (λ n. n / 2 ^ (6 * steps)) (is ∙ sym is') ∙ shl-shr count' (6 * steps))
 
+-- and they are few
+pub few_blocks : (steps size count : ℕ) → count * 2 ^ (6 * steps) ≡ 2 ^ size → 6 * steps < size → size ≤ 6 * steps + 20 → count ≤ 2 ^ 20
+few_blocks steps size count all some few =
+    let n = size - 6 * steps in
+    let e : n + 6 * steps ≡ size = omega arith in
+    let is : count ≡ 2 ^ n = one_count steps (2 ^ size) count (2 ^ n) all (sym (pow-add 2 n (6 * steps)) ∙ ap (λ j. 2 ^ j) e) in
+    let le : n ≤ 20 = omega arith in
+    let most : 2 ^ n ≤ 2 ^ 20 = pow_mono {j = 20} le in
+    omega (arith, is, most)
+
 -- one of 64 parts is within them
 pub block_within : (steps first part limit : ℕ) → part < 64 → (first + 64) * 2 ^ (6 * steps) ≤ limit → (first + part + 1) * 2 ^ (6 * steps) ≤ limit
 block_within steps first part limit l fits =

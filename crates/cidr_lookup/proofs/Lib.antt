@@ -4,3 +4,4 @@ pub mod Entries
 pub mod Ranges
 pub mod Blocks
 pub mod Tables
+pub mod Fits

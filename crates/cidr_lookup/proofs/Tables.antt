@@ -1,12 +1,12 @@
 -- A look-up table is unique, so that other words have a first one that differs.
-use Rattle.std.proofs.Common.{◌≡◌, ◌≢◌, refl, sym, ap, subst, ◌∙◌, arith, inl, inr, ℕ, ◌+◌, ◌^◌, ◌<◌, List, [], ◌∷◌, Some, length, get_or, take, drop, slice_get, ext_get_or, length-append, length-take-le, take_all, take-append-drop}
+use Rattle.std.proofs.Common.{◌≡◌, ◌≢◌, refl, sym, ap, subst, ◌∙◌, arith, inl, inr, ℕ, ◌+◌, ◌^◌, ◌<◌, ◌≤◌, List, [], ◌∷◌, Some, length, get_or, take, drop, slice_get, ext_get_or, length-append, length-take-le, take_all, take-append-drop}
 use Rattle.std.proofs.Math.Seq.{take-append_seam}
 use Rattle.std.proofs.lemmas.List.{get_or_at}
 use Rattle.std.proofs.lemmas.Option.{none-some, slice_get-get_or, slice_get_past}
 use Rattle.cidr_lookup.specs.Faults.{IsFirstOther}
 use Rattle.cidr_lookup.specs.Nodes.{AreEntries, IsEntry}
 use Rattle.cidr_lookup.specs.Putting.{StopsBefore}
-use Rattle.cidr_lookup.specs.Tables.{IsAnswer, IsLookupTable}
+use Rattle.cidr_lookup.specs.Tables.{HasTooManyWords, IsAnswer, IsLookupTable}
 use Rattle.cidr_lookup.proofs.Blocks.{one_count}
 use Rattle.cidr_lookup.proofs.Entries.{all_unique, unique}
 use Rattle.cidr_lookup.proofs.Ranges.{one_answer}
@@ -19,6 +19,17 @@ one_table w padding steps networks first words first' words' table table' =
     let entries = subst (λ n. AreEntries (IsEntry Has steps) 0 n [] first' words') (sym count) table'.entries in
     let both = all_unique (IsEntry Has steps) (unique Has (one_answer w padding networks table.keys) steps) 0 (length first) [] first first' words words' table.entries entries in
     (ext_get_or 0 first first' count both.0, both.1)
+
+-- and so has too many words, if it has
+pub too_large : (w padding steps : ℕ) (networks : List (ℕ × ℕ)) (first words : List ℕ) → IsLookupTable w padding steps networks first words → 2 ^ 31 ≤ length words
+    → HasTooManyWords w padding steps networks
+too_large w padding steps networks first words table many = λ first' words' table'.
+    omega (arith, many, ap length (one_table w padding steps networks first words first' words' table table').1)
+
+-- or if so many were put before one that is not taken
+pub many_words : (put all : List ℕ) (Refuses : ℕ → Type 0) → 2 ^ 31 ≤ length put → StopsBefore put Refuses all → 2 ^ 31 ≤ length all
+many_words put all Refuses many (inl (word, rest, whole, refused)) = omega (arith, many, ap length whole, length-append put (word ∷ rest))
+many_words put all Refuses many (inr (full, (rest, whole))) = omega (arith, full, ap length whole, length-append put rest)
 
 -- as many of the words as were put
 pub put_front : (words : List ℕ) (place : ℕ) → take (length (take place words)) words ≡ take place words

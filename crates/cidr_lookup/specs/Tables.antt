@@ -1,5 +1,5 @@
 -- Which words are the look-up table of networks.
-use Rattle.std.specs.Prelude.{◌≡◌, ℕ, ◌+◌, ◌*◌, ◌/◌, ◌^◌, ◌<◌, ◌≤◌, List, [], Some, length}
+use Rattle.std.specs.Prelude.{◌≡◌, ℕ, ◌+◌, ◌*◌, ◌/◌, ◌^◌, ◌<◌, ◌≤◌, nat_lt, if◌then◌else◌, List, [], Some, length}
 use Rattle.cidr.specs.model.Bits.{bits}
 use Rattle.cidr_table.specs.model.Prefixes.{IsLongestMatch}
 use Rattle.cidr_arrays.specs.Arrays.{AreAscendingNetworks, IsFirstRefused, prefix_bits, row_of}
@@ -19,9 +19,26 @@ pub record IsLookupTable (w padding steps : ℕ) (networks : List (ℕ × ℕ)) 
   pub size : length first * 2 ^ (6 * steps) ≡ 2 ^ (w + padding)
   pub entries : AreEntries (IsEntry (IsAnswer w padding networks) steps) 0 (length first) [] first words
 
--- why there is none: too many networks; or else one is refused; or too many words; an allocation may fail before the last two
-abbrev pub IsTableRefused : ℕ → List (ℕ × ℕ) → TableError → Type 0
-IsTableRefused w networks TooMany = 2 ^ 31 ≤ length networks
-IsTableRefused w networks (Refused place) = (length networks < 2 ^ 31) × IsFirstRefused w networks (Some place)
-IsTableRefused w networks TooLarge = (length networks < 2 ^ 31) × AreAscendingNetworks w networks
-IsTableRefused w networks NoMemory = length networks < 2 ^ 31
+-- how many steps the table of so many networks has, of IPv4 and of IPv6
+abbrev pub ipv4_steps : ℕ → ℕ
+ipv4_steps networks = if nat_lt networks 64 then 5 else (if nat_lt networks 1000 then 4 else 3)
+
+abbrev pub ipv6_steps : ℕ → ℕ
+ipv6_steps networks = if nat_lt networks 64 then 20 else (if nat_lt networks 100000 then 19 else 18)
+
+-- why keys have no table: too many networks; or else one is refused; or an allocation failed
+abbrev pub AreKeysRefused : ℕ → List (ℕ × ℕ) → TableError → Type 0
+AreKeysRefused w networks TooMany = 2 ^ 31 ≤ length networks
+AreKeysRefused w networks (Refused place) = (length networks < 2 ^ 31) × IsFirstRefused w networks (Some place)
+AreKeysRefused w networks TooLarge = ⊥
+AreKeysRefused w networks NoMemory = length networks < 2 ^ 31
+
+-- the table of so many steps has more words than any may have
+abbrev pub HasTooManyWords : (w padding steps : ℕ) → List (ℕ × ℕ) → Type 0
+HasTooManyWords w padding steps networks = (first words : List ℕ) → IsLookupTable w padding steps networks first words → 2 ^ 31 ≤ length words
+
+-- why there is none: that; or else it has too many words
+abbrev pub IsTableRefused : (w padding steps : ℕ) → List (ℕ × ℕ) → TableError → Type 0
+IsTableRefused w padding steps networks TooLarge =
+    (length networks < 2 ^ 31) × AreAscendingNetworks w networks × HasTooManyWords w padding steps networks
+IsTableRefused w padding steps networks error = AreKeysRefused w networks error

@@ -1,5 +1,6 @@
 //! Addresses by their numbers.
 ghost use Rattle.std.specs.Prelude.{◌≡◌, ℕ, ◌+◌, ◌*◌, ◌/◌, ◌%◌, ◌^◌, ◌<◌, ◌≤◌};
+ghost use Rattle.cidr_lookup.specs.Tables.{ipv4_steps, ipv6_steps};
 
 use cidr_arrays::{Halves, Word};
 
@@ -19,10 +20,14 @@ pub trait Address: Word {
         ensures value { result ≡ Self.width + padding }
         ensures fits { result ≤ 128 };
 
-    /// How many steps of six bits are best for so many networks.
+    /// How many steps of six bits the table of so many networks has.
+    ghost steps: { ℕ → ℕ };
+
+    /// How many steps of six bits the table of so many networks has: those that are best, of at most 2^20 entries.
     fn steps_for(networks: usize) -> u32
+        ensures own { result ≡ steps networks }
         ensures some { 6 * result < Self.width + padding }
-        ensures few { Self.width + padding ≤ 6 * result + 32 };
+        ensures few { Self.width + padding ≤ 6 * result + 20 };
 
     /// The number of the bits before the last `shift`, of which there are at most 64.
     fn block(self, shift: u32) -> usize
@@ -39,6 +44,8 @@ pub trait Address: Word {
 impl Address for u32 {
     ghost padding = { 4 };
 
+    ghost steps = { ipv4_steps };
+
     #[inline(always)]
     fn padded(self) -> u128 {
         u128::from(padded(self))
@@ -50,6 +57,9 @@ impl Address for u32 {
     }
 
     fn steps_for(networks: usize) -> u32 {
+        if networks < 64 {
+            return 5;
+        }
         if networks < 1000 { 4 } else { 3 }
     }
 
@@ -76,6 +86,8 @@ fn padded(address: u32) -> u64
 impl Address for Halves {
     ghost padding = { 0 };
 
+    ghost steps = { ipv6_steps };
+
     #[inline(always)]
     fn padded(self) -> u128 {
         self.number()
@@ -87,6 +99,9 @@ impl Address for Halves {
     }
 
     fn steps_for(networks: usize) -> u32 {
+        if networks < 64 {
+            return 20;
+        }
         if networks < 100_000 { 19 } else { 18 }
     }
 

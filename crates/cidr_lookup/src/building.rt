@@ -33,6 +33,7 @@ pub(crate) fn put_table<A: Address, F: Sink, S: Sink>(
     ensures stopped { IfErr result (λ stopped. (all_first all_words : List ℕ)
         → IsLookupTable A.width A.padding steps (key_networks A.value keys.now) all_first all_words
         → IsStopped stopped (F.put first.new) (F.refuses first.new) all_first (S.put words.new) (S.refuses words.new) all_words) }
+    ensures many { IfErr result (λ stopped. stopped ≡ Stopped.Words Stop.TooMany → 2 ^ 31 ≤ length (S.put words.new)) }
 {
     let blocks = 1u64 << (A::padded_width() - 6 * steps);
     let mut near = 0;
@@ -83,6 +84,7 @@ pub(crate) fn entry_of<A: Address, S: Sink>(
     ensures stopped { OnErr result ((entry : ℕ) (after : List ℕ)
         → IsEntry (IsAnswer A.width A.padding (key_networks A.value keys.now)) steps block (S.put sink.old) entry after
         → StopsBefore (S.put sink.new) (S.refuses sink.new) after) }
+    ensures many { IfErr result (λ stop. stop ≡ Stop.TooMany → 2 ^ 31 ≤ length (S.put sink.new)) }
     ensures entry { IfOk result (λ entry. IsEntry (IsAnswer A.width A.padding (key_networks A.value keys.now)) steps block (S.put sink.old) entry (S.put sink.new)) }
 {
     let shift = 6 * steps;

@@ -13,6 +13,7 @@
 
 mod address;
 mod building;
+mod bytes;
 mod checking;
 mod node;
 mod search;

@@ -1,5 +1,5 @@
 //! The words of a node.
-ghost use Rattle.std.specs.Prelude.{◌≡◌, ◌++◌, ◌∷◌, [], ◌<◌, if◌then◌else◌, length, slice_index_or, true, OnErr, OnOk};
+ghost use Rattle.std.specs.Prelude.{◌≡◌, ◌++◌, ◌∷◌, [], ◌<◌, if◌then◌else◌, length, slice_index_or, true, IfErr, OnErr, OnOk};
 ghost use Rattle.cidr_lookup.specs.Nodes.{begins_run, marks, node};
 ghost use Rattle.cidr_lookup.specs.Putting.{StopsBefore};
 
@@ -14,6 +14,7 @@ pub(crate) fn put_node<S: Sink>(entries: &[u32], sink: &mut S) -> Result<(), Sto
     ensures kept { S.given sink.new ≡ S.given sink.old }
     ensures put { OnOk result (S.put sink.new ≡ S.put sink.old ++ node entries.now) }
     ensures stopped { OnErr result (StopsBefore (S.put sink.new) (S.refuses sink.new) (S.put sink.old ++ node entries.now)) }
+    ensures only { IfErr result (λ stop. stop ≡ Stop.Refused) }
 {
     let marks = marks_of(entries);
     sink.push((marks % (1 << 32)) as u32)?;
@@ -30,6 +31,7 @@ fn put_run<S: Sink>(entries: &[u32], part: usize, sink: &mut S) -> Result<(), St
     ensures kept { S.given sink.new ≡ S.given sink.old }
     ensures put { OnOk result (S.put sink.new ≡ (if begins_run entries.now part then S.put sink.old ++ slice_index_or entries.now part 0 ∷ [] else S.put sink.old)) }
     ensures refused { OnErr result ((S.put sink.new ≡ S.put sink.old) × (begins_run entries.now part ≡ true) × S.refuses sink.new (slice_index_or entries.now part 0)) }
+    ensures only { IfErr result (λ stop. stop ≡ Stop.Refused) }
 {
     if begins(entries, part) {
         return sink.push(entries[part]);

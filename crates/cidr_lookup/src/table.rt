@@ -1,7 +1,7 @@
 //! Look-up tables of keys.
-ghost use Rattle.std.specs.Prelude.{◌^◌, ◌<◌, length, map, IfOk, IfErr};
+ghost use Rattle.std.specs.Prelude.{◌≡◌, ◌^◌, ◌<◌, ◌≤◌, length, map, IfOk, IfErr};
 ghost use Rattle.cidr_arrays.specs.Arrays.{AreAscendingNetworks, AreMatchRanges, key_networks};
-ghost use Rattle.cidr_lookup.specs.Tables.{IsLookupTable, IsTableRefused};
+ghost use Rattle.cidr_lookup.specs.Tables.{AreKeysRefused, IsLookupTable, IsTableRefused};
 
 use crate::address::Address;
 use crate::building::put_table;
@@ -18,7 +18,7 @@ pub struct LookupTable {
     pub first: Vec<u32>,
     /// The nodes, each behind those that it leads to.
     pub words: Vec<u32>,
-    /// How many steps of six bits there are behind the first bits: 3 or 4 of IPv4, 18 or 19 of IPv6, whose last step in
+    /// How many steps of six bits there are behind the first bits: 3 to 5 of IPv4, 18 to 20 of IPv6. The last step in
     /// IPv4 has two bits.
     pub steps: u32,
 }
@@ -31,7 +31,7 @@ pub enum TableError {
     /// The key at this index, counted from 0, is no network, or doesn't come after the one before it: the first such
     /// key. `no network, or out of order: key 2`.
     Refused(usize),
-    /// A node would stand behind 2,147,483,647 words: `more than 2147483647 words`.
+    /// The table has more than 2,147,483,647 words: `more than 2147483647 words`.
     TooLarge,
     /// An allocation failed: `out of memory`.
     NoMemory,
@@ -75,8 +75,11 @@ pub(crate) struct Ranges<A> {
 /// ```
 pub fn build<A: Address>(alloc: Global, keys: &[Key<A>]) -> Result<LookupTable, TableError>
     ensures table { IfOk result (λ table. IsLookupTable A.width A.padding table.steps (key_networks A.value keys.now) table.first.items table.words.items) }
+    ensures steps { IfOk result (λ table. table.steps ≡ A.steps (length keys.now)) }
     ensures few { IfOk result (λ _. length keys.now < 2 ^ 31) }
-    ensures refused { IfErr result (IsTableRefused A.width (key_networks A.value keys.now)) }
+    ensures entries { IfOk result (λ table. length table.first.items ≤ 2 ^ 20) }
+    ensures words { IfOk result (λ table. length table.words.items < 2 ^ 31) }
+    ensures refused { IfErr result (IsTableRefused A.width A.padding (A.steps (length keys.now)) (key_networks A.value keys.now)) }
 {
     let ranges = ranges_of(alloc, keys)?;
     let steps = A::steps_for(keys.len());
@@ -86,6 +89,9 @@ pub fn build<A: Address>(alloc: Global, keys: &[Key<A>]) -> Result<LookupTable, 
     let answers = ranges.answers.as_slice();
     match put_table(keys, starts, answers, &mut first, &mut words, steps) {
         Ok(()) => {
+            if words.len() >= 1 << 31 {
+                return Err(TableError::TooLarge);
+            }
             first.shrink_to_fit();
             words.shrink_to_fit();
             Ok(LookupTable {
@@ -104,7 +110,7 @@ pub(crate) fn ranges_of<A: Address>(alloc: Global, keys: &[Key<A>]) -> Result<Ra
     ensures few { IfOk result (λ _. length keys.now < 2 ^ 31) }
     ensures keys { IfOk result (λ _. AreAscendingNetworks A.width (key_networks A.value keys.now)) }
     ensures ranges { IfOk result (λ ranges. AreMatchRanges A.width (key_networks A.value keys.now) (map A.value ranges.starts.items) ranges.answers.items) }
-    ensures refused { IfErr result (IsTableRefused A.width (key_networks A.value keys.now)) }
+    ensures refused { IfErr result (AreKeysRefused A.width (key_networks A.value keys.now)) }
 {
     if keys.len() >= 1 << 31 {
         return Err(TableError::TooMany);

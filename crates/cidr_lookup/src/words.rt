@@ -1,5 +1,5 @@
 //! Words of 32 bits, as they lie in an array or are put into one.
-ghost use Rattle.std.specs.Prelude.{◌≡◌, ◌≢◌, ℕ, ◌<◌, ◌++◌, ◌∷◌, [], List, Some, length, slice_get, slice_index_or, take, OnErr, OnOk};
+ghost use Rattle.std.specs.Prelude.{◌≡◌, ◌≢◌, ℕ, ◌<◌, ◌++◌, ◌∷◌, [], List, Some, length, slice_get, slice_index_or, take, IfErr, OnErr, OnOk};
 
 /// Words that can be read.
 pub trait Words {
@@ -67,7 +67,8 @@ pub(crate) trait Sink {
     fn push(&mut self, word: u32) -> Result<(), Stop>
         ensures kept { given self.new ≡ given self.old }
         ensures put { OnOk result (put self.new ≡ put self.old ++ word ∷ []) }
-        ensures refused { OnErr result ((put self.new ≡ put self.old) × refuses self.new word) };
+        ensures refused { OnErr result ((put self.new ≡ put self.old) × refuses self.new word) }
+        ensures only { IfErr result (λ stop. stop ≡ Stop.Refused) };
 }
 
 impl Sink for Vec<u32> {

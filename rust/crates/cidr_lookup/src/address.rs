@@ -29,7 +29,7 @@ pub trait Address: Sized + Word {
     /// ```
     fn padded_width() -> u32;
 
-    /// How many steps of six bits are best for so many networks.
+    /// How many steps of six bits the table of so many networks has: those that are best, of at most 2^20 entries.
     ///
     /// ```
     /// # use cidr_arrays::Key;
@@ -79,6 +79,9 @@ impl Address for u32 {
 
     #[inline]
     fn steps_for(networks: usize) -> u32 {
+        if networks < 64 {
+            return 5;
+        }
         if networks < 1000 { 4 } else { 3 }
     }
 
@@ -112,6 +115,9 @@ impl Address for Halves {
 
     #[inline]
     fn steps_for(networks: usize) -> u32 {
+        if networks < 64 {
+            return 20;
+        }
         if networks < 100_000 { 19 } else { 18 }
     }
 

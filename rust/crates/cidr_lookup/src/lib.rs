@@ -38,6 +38,7 @@
 
 mod address;
 mod building;
+mod bytes;
 mod checking;
 mod node;
 mod search;

@@ -16,7 +16,7 @@ pub struct LookupTable {
     pub first: Vec<u32>,
     /// The nodes, each behind those that it leads to.
     pub words: Vec<u32>,
-    /// How many steps of six bits there are behind the first bits: 3 or 4 of IPv4, 18 or 19 of IPv6, whose last step in
+    /// How many steps of six bits there are behind the first bits: 3 to 5 of IPv4, 18 to 20 of IPv6. The last step in
     /// IPv4 has two bits.
     pub steps: u32,
 }
@@ -29,7 +29,7 @@ pub enum TableError {
     /// The key at this index, counted from 0, is no network, or doesn't come after the one before it: the first such
     /// key. `no network, or out of order: key 2`.
     Refused(usize),
-    /// A node would stand behind 2,147,483,647 words: `more than 2147483647 words`.
+    /// The table has more than 2,147,483,647 words: `more than 2147483647 words`.
     TooLarge,
     /// An allocation failed: `out of memory`.
     NoMemory,
@@ -85,6 +85,9 @@ pub fn build<A: Address>(alloc: Global, keys: &[Key<A>]) -> Result<LookupTable, 
     let answers = ranges.answers.as_slice();
     match put_table(keys, starts, answers, &mut first, &mut words, steps) {
         Ok(()) => {
+            if words.len() >= 1 << 31 {
+                return Err(TableError::TooLarge);
+            }
             first.shrink_to_fit();
             words.shrink_to_fit();
             Ok(LookupTable {
