@@ -633,7 +633,7 @@ function bound(c, module) {
     // ---- tables: rows of a network and a value, with the longest match
 
     const returned = new FinalizationRegistry((at) => c.free(at));
-    const FILE = 160, FOUND = 16; // bytes of what a call tells of a file, and of a row that it finds
+    const FILE = 144, FOUND = 16; // bytes of what a call tells of a file, and of a row that it finds
 
     /** A file of look-up tables in the module's memory. */
     class Held {
@@ -646,8 +646,8 @@ function bound(c, module) {
             this.file = this.at + place;
             bytes.set(content, this.at);
             check(c.pcidr_file_open(this.at, this.length, this.file));
-            this.rows4 = words[(this.file + 64) >>> 2];
-            this.rows = this.rows4 + words[(this.file + 144) >>> 2];
+            this.rows4 = words[(this.file + 56) >>> 2];
+            this.rows = this.rows4 + words[(this.file + 128) >>> 2];
         }
         get at() {
             if (this.#at === 0) throw new TypeError("the table is closed");

@@ -14,7 +14,7 @@ import re
 import sys
 
 WIDTHS = {"uint8_t": 1, "uint32_t": 4, "uint64_t": 8, "size_t": 8, "char": 1, "pcidr_value": 24, "pcidr_halves": 16, "pcidr_special": 32,
-          "pcidr_range": 48, "pcidr_rule": 32, "pcidr_row": 32, "pcidr_table": 56, "pcidr_file": 160, "pcidr_found": 16}
+          "pcidr_range": 48, "pcidr_rule": 32, "pcidr_row": 32, "pcidr_table": 56, "pcidr_file": 144, "pcidr_found": 16}
 POINTERS = (0, 8, 16, 32)  # where a pcidr_table has addresses
 r = random.Random(85)
 
@@ -173,13 +173,13 @@ def file_of(library):
     call.add_memory(b"".join(made)), call.add_number(len(made), 8)
     call.add_memory(b"".join(n.to_bytes(4, "little") for n in offsets)), call.add_number(len(offsets), 8)
     call.add_memory(b"".join(values)), call.add_number(offsets[-1], 8)
-    call.add_memory(bytes(8192)), call.add_number(8192, 8), call.add_memory(bytes(8))
+    call.add_memory(bytes(65536)), call.add_number(65536, 8), call.add_memory(bytes(8))
     code, after = call.run(library, False)
     assert code == 0
     content = bytearray(after[3][:int.from_bytes(after[4][:8], "little")])
     open_it = Call("pcidr_file_open")
-    open_it.add_memory(content), open_it.add_number(len(content), 8), open_it.add_memory(bytes(160))
-    where = open_it.run(library, False)[1][1][:160]
+    open_it.add_memory(content), open_it.add_number(len(content), 8), open_it.add_memory(bytes(144))
+    where = open_it.run(library, False)[1][1][:144]
     kind = r.random()
     if kind < 0.15 and content:
         for _ in range(r.randint(1, 3)):

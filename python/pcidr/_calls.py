@@ -189,31 +189,29 @@ class Table(Structure):
 class FileTable(Structure):
     """`pcidr_file_table`."""
 
-    starts: int
-    answers: int
-    level: int
+    first: int
+    words: int
     addresses: int
     lengths: int
     offsets: int
     values: int
     values_len: int
     rows: int
-    ranges: int
     entries: int
-    shift: int
+    words_len: int
+    steps: int
     _fields_ = [
-        ("starts", c_size_t),
-        ("answers", c_size_t),
-        ("level", c_size_t),
+        ("first", c_size_t),
+        ("words", c_size_t),
         ("addresses", c_size_t),
         ("lengths", c_size_t),
         ("offsets", c_size_t),
         ("values", c_size_t),
         ("values_len", c_size_t),
         ("rows", c_uint32),
-        ("ranges", c_uint32),
         ("entries", c_uint32),
-        ("shift", c_uint32),
+        ("words_len", c_uint32),
+        ("steps", c_uint32),
     ]
 
 

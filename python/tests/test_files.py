@@ -130,9 +130,11 @@ class Tables(InFolder):
 
     def test_bytes_made_by_hand(self):
         """A file as the page of `cidr_files` describes it to the byte."""
-        header = struct.pack("<4sI8x6I6I", b"\x89CID", 1, 1, 3, 3, 31, 3, 0, 0, 1, 0, 0, 0, 0)
-        ipv4 = struct.pack("<3I4x3I4x3I4xI4xB7x2I3s5x", 0, 10 << 24, 11 << 24, 0, 1, 0, 0, 2, 2, 10 << 24, 8, 0, 3, b"ten")
-        ipv6 = struct.pack("<2QI4xI4x", 0, 0, 0, 0)
+        header = struct.pack("<4sI8x6I6I", b"\x89CID", 2, 1, 64, 5, 5, 3, 0, 0, 256, 0, 20, 0, 0)
+        first = (0, 0, 1 << 31, *[0] * 61)  # that of 8.0.0.0/6 is a node, and 10.0.0.0/8 its parts 32 to 47
+        node = (1 << 31 | 1 << 15, 1 << 31, 0, 1, 0)
+        ipv4 = struct.pack("<64I5I4xI4xB7x2I3s5x", *first, *node, 10 << 24, 8, 0, 3, b"ten")
+        ipv6 = bytes(4 * 256 + 8)
         stored = self.opened(header + ipv4 + ipv6)
         self.assertEqual(dict(stored), {Network("10.0.0.0/8"): b"ten"})
         asked = ["9.255.255.255", "10.0.0.0", "10.255.255.255", "11.0.0.0", "::"]
@@ -205,7 +207,8 @@ class Wrong(InFolder):
 
     def test_each_byte(self):
         refused = 0
-        for place, flip in product(range(len(self.content)), (1, RANDOM.randrange(2, 256))):
+        places = [place for place, byte in enumerate(self.content) if place < 64 or byte or RANDOM.random() < 0.2]
+        for place, flip in product(places, (1, RANDOM.randrange(2, 256))):
             changed = bytearray(self.content)
             changed[place] ^= flip
             is_opened, is_same = self.answered(changed)
@@ -214,10 +217,10 @@ class Wrong(InFolder):
                 self.assertEqual([row and row[0] for row in answers], [row and row[0] for row in self.answers], place)
             refused += not is_opened
             self.answered(changed, check=False)
-        self.assertGreater(refused, len(self.content))
+        self.assertGreater(refused, len(places))
 
     def test_what_is_wrong_is_said(self):
-        for content in (b"", b"10.0.0.0/8 value\n", b"\x89CID\2\0\0\0" + bytes(56), self.content[:-1], self.content + b"\0"):
+        for content in (b"", b"10.0.0.0/8 value\n", b"\x89CID\1\0\0\0" + bytes(56), b"\x89CID\3\0\0\0" + bytes(56), self.content[:-1], self.content + b"\0"):
             self.path.write_bytes(content)
             for kind in (Table, NetworkSet):
                 with self.assertRaisesRegex(ValueError, f"..+: '{self.path}'$"):

@@ -91,11 +91,11 @@ enum {
     PCIDR_NO_MEMORY = 12,      /* there is no memory */
     PCIDR_WRAPPED = 13,        /* the step leaves the network; its result is there all the same */
     PCIDR_NOT_ADDRESS = 14,    /* the string is no address */
-    PCIDR_TOO_MANY = 15,       /* there are more than 2,147,483,647 networks */
+    PCIDR_TOO_MANY = 15,       /* there are more than 2,147,483,647 networks, or words of their look-up table */
     PCIDR_SHIFT = 16,          /* a shift is not below 32, or 128 in IPv6 */
     PCIDR_NO_TABLE = 17,       /* the arrays are not those of the networks */
     PCIDR_NO_FILE = 18,        /* the bytes are no file of look-up tables */
-    PCIDR_OTHER_VERSION = 19,  /* the file is of another version, such as a newer one */
+    PCIDR_OTHER_VERSION = 19,  /* the file is of another version than 2, such as 1 of an older release: write it anew */
     PCIDR_SHORT = 20,          /* the file is shorter than its header says */
     PCIDR_LONG = 21,           /* the file is longer than its header says */
     PCIDR_VALUES = 22,         /* the values of rows don't lie one behind the other, or have 2^32 bytes or more */
@@ -861,18 +861,17 @@ static inline uint32_t pcidr_table_lookup_each(const pcidr_table *table, const p
 /* Where the parts of one of the two tables lie, in bytes from the beginning of the file, and how many elements they
  * have. */
 typedef struct pcidr_file_table {
-    size_t starts;     /* where the first addresses of the ranges begin */
-    size_t answers;    /* where the answers of the ranges begin */
-    size_t level;      /* where the first level begins */
+    size_t first;      /* where the entries of the blocks of addresses begin */
+    size_t words;      /* where the words of the nodes begin */
     size_t addresses;  /* where the first addresses of the rows' networks begin */
     size_t lengths;    /* where their prefix lengths begin */
     size_t offsets;    /* where the offsets of the values begin: of each row's, and where the last one ends */
     size_t values;     /* where the values begin */
     size_t values_len; /* how many bytes the values have */
-    uint32_t rows;     /* how many rows there are */
-    uint32_t ranges;   /* how many ranges */
-    uint32_t entries;  /* how many entries the first level has */
-    uint32_t shift;    /* how many of the last bits of an address the first level doesn't read */
+    uint32_t rows;      /* how many rows there are */
+    uint32_t entries;   /* how many entries of blocks */
+    uint32_t words_len; /* how many words of nodes */
+    uint32_t steps;     /* how many steps of six bits a look-up takes at most */
 } pcidr_file_table;
 
 /* The two tables of a file. It has no pointer, and is used with the bytes that it was opened from, or the same ones
@@ -890,22 +889,21 @@ typedef struct pcidr_found {
     uint32_t row;
 } pcidr_found;
 
-PCIDR_ASSERT(sizeof(pcidr_file_table) == 80);
-PCIDR_ASSERT(offsetof(pcidr_file_table, starts) == 0);
-PCIDR_ASSERT(offsetof(pcidr_file_table, answers) == 8);
-PCIDR_ASSERT(offsetof(pcidr_file_table, level) == 16);
-PCIDR_ASSERT(offsetof(pcidr_file_table, addresses) == 24);
-PCIDR_ASSERT(offsetof(pcidr_file_table, lengths) == 32);
-PCIDR_ASSERT(offsetof(pcidr_file_table, offsets) == 40);
-PCIDR_ASSERT(offsetof(pcidr_file_table, values) == 48);
-PCIDR_ASSERT(offsetof(pcidr_file_table, values_len) == 56);
-PCIDR_ASSERT(offsetof(pcidr_file_table, rows) == 64);
-PCIDR_ASSERT(offsetof(pcidr_file_table, ranges) == 68);
-PCIDR_ASSERT(offsetof(pcidr_file_table, entries) == 72);
-PCIDR_ASSERT(offsetof(pcidr_file_table, shift) == 76);
-PCIDR_ASSERT(sizeof(pcidr_file) == 160);
+PCIDR_ASSERT(sizeof(pcidr_file_table) == 72);
+PCIDR_ASSERT(offsetof(pcidr_file_table, first) == 0);
+PCIDR_ASSERT(offsetof(pcidr_file_table, words) == 8);
+PCIDR_ASSERT(offsetof(pcidr_file_table, addresses) == 16);
+PCIDR_ASSERT(offsetof(pcidr_file_table, lengths) == 24);
+PCIDR_ASSERT(offsetof(pcidr_file_table, offsets) == 32);
+PCIDR_ASSERT(offsetof(pcidr_file_table, values) == 40);
+PCIDR_ASSERT(offsetof(pcidr_file_table, values_len) == 48);
+PCIDR_ASSERT(offsetof(pcidr_file_table, rows) == 56);
+PCIDR_ASSERT(offsetof(pcidr_file_table, entries) == 60);
+PCIDR_ASSERT(offsetof(pcidr_file_table, words_len) == 64);
+PCIDR_ASSERT(offsetof(pcidr_file_table, steps) == 68);
+PCIDR_ASSERT(sizeof(pcidr_file) == 144);
 PCIDR_ASSERT(offsetof(pcidr_file, ipv4) == 0);
-PCIDR_ASSERT(offsetof(pcidr_file, ipv6) == 80);
+PCIDR_ASSERT(offsetof(pcidr_file, ipv6) == 72);
 PCIDR_ASSERT(sizeof(pcidr_found) == 16);
 PCIDR_ASSERT(offsetof(pcidr_found, value) == 0);
 PCIDR_ASSERT(offsetof(pcidr_found, value_len) == 8);
@@ -915,9 +913,10 @@ PCIDR_ASSERT(offsetof(pcidr_found, row) == 12);
  * Errors, the first of: NO_FILE; OTHER_VERSION; SHORT or LONG. Then `file` is as it was. Does not allocate. */
 uint32_t pcidr_file_open(const uint8_t *bytes, size_t bytes_len, pcidr_file *file);
 
-/* PCIDR_OK where the bytes are a file of tables: one pass over them. Errors, the first of: NO_FILE; OTHER_VERSION;
- * SHORT or LONG; and of the IPv4 table, then of the IPv6 table: NO_MEMORY; TOO_MANY, NO_TABLE, SHIFT or NO_VALUE as of
- * `pcidr_table_check`; VALUES. Allocates: the networks, answers and first level of a table. */
+/* PCIDR_OK where the bytes are a file of tables, whose look-ups are built anew and compared. Errors, the first of: NO_FILE;
+ * OTHER_VERSION; SHORT or LONG; and of the IPv4 table, then of the IPv6 table: TOO_MANY or NO_VALUE of its networks; NO_TABLE
+ * where the look-ups are not theirs; VALUES. NO_MEMORY may come before those of a table. Allocates: the networks of a table
+ * and their ranges. */
 uint32_t pcidr_file_check(const uint8_t *bytes, size_t bytes_len);
 
 /* The longest match: 1, and `found` has the row of the longest network that the address is in, and its value; or 0,

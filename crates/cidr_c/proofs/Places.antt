@@ -40,11 +40,12 @@ ipv6_at bytes file same =
     ∙ ap (parts_by_size (ipv6_sizes bytes)) (sym (behind_from (ipv4_sizes bytes) header bytes)))
 
 -- what holds of the parts of a table where they lie, holds of it
-pub moved : (w : ℕ) (numbers : List ℕ → List ℕ) (Holds : List (List ℕ) → ℕ → Type 0) (here parts : List (List ℕ)) (s shift a address : ℕ)
-    → here ≡ parts → s ≡ shift → a ≡ address → (IsStoredTable w numbers here s → Holds here a) → IsStoredTable w numbers parts shift → Holds parts address
-moved w numbers Holds here parts s shift a address same shifts addresses holds good =
-    let stored : IsStoredTable w numbers here s =
-    subst (λ (ps : List (List ℕ)). IsStoredTable w numbers ps s) (sym same) (subst (λ (k : ℕ). IsStoredTable w numbers parts k) (sym shifts) good) in
+pub moved : (w padding : ℕ) (numbers : List ℕ → List ℕ) (Holds : List (List ℕ) → ℕ → Type 0) (here parts : List (List ℕ)) (s steps a address : ℕ)
+    → here ≡ parts → s ≡ steps → a ≡ address → (IsStoredTable w padding numbers here s → Holds here a) → IsStoredTable w padding numbers parts steps
+    → Holds parts address
+moved w padding numbers Holds here parts s steps a address same all addresses holds good =
+    let stored : IsStoredTable w padding numbers here s =
+    subst (λ (ps : List (List ℕ)). IsStoredTable w padding numbers ps s) (sym same) (subst (λ (k : ℕ). IsStoredTable w padding numbers parts k) (sym all) good) in
     subst (λ (ps : List (List ℕ)). Holds ps address) same (subst (λ (k : ℕ). Holds here k) addresses (holds stored))
 
 -- the bytes of a value, among those of the file and among those of the part of the values
@@ -67,27 +68,27 @@ no_ends offsets rows size row good l (inl lt) = absurd (omega (arith, lt, good.a
 no_ends offsets rows size row good l (inr lt) = absurd (omega (arith, lt, good.ascending (row + 1) rows (omega arith) (omega arith), good.last))
 
 -- ---- inside of the bytes
--- parts of these sizes, one behind the other, of which the fourth and the fifth are not looked at
-all_inside : (p a b c d e f g n : ℕ)
-    → p + (padded a + (padded b + (padded c + (padded d + (padded e + (padded f + (padded g + 0))))))) ≤ n
-    → (p + a ≤ n) × (p + padded a + b ≤ n) × (p + padded a + padded b + c ≤ n) × (p + padded a + padded b + padded c + padded d + padded e + f ≤ n)
-    × (p + padded a + padded b + padded c + padded d + padded e + padded f + g ≤ n)
-all_inside p a b c d e f g n h = (omega (arith, h), omega (arith, h), omega (arith, h), omega (arith, h), omega (arith, h))
+-- parts of these sizes, one behind the other, of which the third and the fourth are not looked at
+all_inside : (p a b c d e f n : ℕ)
+    → p + (padded a + (padded b + (padded c + (padded d + (padded e + (padded f + 0)))))) ≤ n
+    → (p + a ≤ n) × (p + padded a + b ≤ n) × (p + padded a + padded b + padded c + padded d + e ≤ n)
+    × (p + padded a + padded b + padded c + padded d + padded e + f ≤ n)
+all_inside p a b c d e f n h = (omega (arith, h), omega (arith, h), omega (arith, h), omega (arith, h))
 
 inside_from : (size place : ℕ) (counts : Counts) (bytes : List ℕ) → place + padded_room (sizes_of size counts) ≤ length bytes
-    → LieInBytes size (table_from place size counts) bytes
+    → LieInBytes (table_from place size counts) bytes
 inside_from size place counts bytes fits =
     let all =
-    all_inside place (size * counts.ranges) (4 * counts.ranges) (4 * counts.entries) (size * counts.rows) counts.rows (4 * (counts.rows + 1)) counts.values (length bytes)
+    all_inside place (4 * counts.entries) (4 * counts.words) (size * counts.rows) counts.rows (4 * (counts.rows + 1)) counts.values (length bytes)
     fits in
-    record { starts = all.0; answers = all.1; level = all.2; offsets = all.3; values = all.4 }
+    record { first = all.0; words = all.1; offsets = all.2; values = all.3 }
 
 -- the parts of the two tables of a file are
-pub ipv4_inside : (bytes : List ℕ) (file : CFile) → file ≡ file_in bytes → IsLaidOut bytes → LieInBytes 4 file.ipv4 bytes
+pub ipv4_inside : (bytes : List ℕ) (file : CFile) → file ≡ file_in bytes → IsLaidOut bytes → LieInBytes file.ipv4 bytes
 ipv4_inside bytes file same laid_out =
-    subst (λ (f : CFile). LieInBytes 4 f.ipv4 bytes) (sym same) (inside_from 4 header (ipv4_counts bytes) bytes (omega (arith, laid_out.long)))
+    subst (λ (f : CFile). LieInBytes f.ipv4 bytes) (sym same) (inside_from 4 header (ipv4_counts bytes) bytes (omega (arith, laid_out.long)))
 
-pub ipv6_inside : (bytes : List ℕ) (file : CFile) → file ≡ file_in bytes → IsLaidOut bytes → LieInBytes 16 file.ipv6 bytes
+pub ipv6_inside : (bytes : List ℕ) (file : CFile) → file ≡ file_in bytes → IsLaidOut bytes → LieInBytes file.ipv6 bytes
 ipv6_inside bytes file same laid_out =
-    subst (λ (f : CFile). LieInBytes 16 f.ipv6 bytes) (sym same)
+    subst (λ (f : CFile). LieInBytes f.ipv6 bytes) (sym same)
     (inside_from 16 (header + padded_room (ipv4_sizes bytes)) (ipv6_counts bytes) bytes (omega (arith, laid_out.long)))

@@ -2,11 +2,22 @@
 use Rattle.std.proofs.Common.{◌≡◌, ◌≢◌, refl, sym, ◌∙◌, ap, ap₂, subst, arith, inl, inr, lt-ltb, le-ltb, ℕ, zero, suc, ◌+◌, ◌-◌, ◌^◌, ◌<◌, ◌≤◌, ◌⊎◌, Bool, cond, Option, Some, None, List, [], ◌∷◌, drop, get_or, length, map, replicate, take}
 use Rattle.std.proofs.lemmas.List.{drop-drop, drop-take, get_or-drop, get_or-map, get_or-replicate, get_or-take, length-drop, length-replicate, take-take}
 use Rattle.std.specs.List.{AllWithin, HoldsAt, slice_range}
+use Rattle.std.specs.Int.{from_le_bytes, w32}
 use Rattle.std.specs.Option.{MatchOption, unwrap_or}
-use Rattle.cidr_files.specs.Layout.{ipv4_parts, ipv6_parts, wide_words, words}
+use Rattle.cidr_files.specs.Contents.{HasZerosBetween, IsWriteRefused}
+use Rattle.cidr_files.specs.Layout.{ipv4_counts, ipv4_parts, ipv6_counts, ipv6_parts, wide_word, wide_words, words}
 use Rattle.cidr_files.specs.Tables.{AreOffsets, IsFile, offsets_in, part_at, stored_networks}
+use Rattle.cidr_files.specs.declared.contents.Rows.{Rows}
+use Rattle.cidr_files.specs.declared.faults.WriteError.{WriteError}
+use Rattle.cidr_files.specs.declared.faults.WriteError.TheVariants.{Table}
+use Rattle.cidr_lookup.specs.Tables.{HasTooManyWords, ipv4_steps, ipv6_steps}
+use Rattle.cidr_lookup.specs.declared.table.TableError.{TableError}
+use Rattle.cidr_lookup.specs.declared.table.TableError.TheVariants.{TooLarge}
+use Rattle.cidr_arrays.specs.Arrays.{key_networks}
+use Rattle.cidr_arrays.specs.declared.key.Key.{Key}
+use Rattle.cidr_arrays.proofs.Numbers.{length_networks}
 use Rattle.cidr_c.specs.model.Tables.{ipv4_pair, ipv6_pair}
-use Rattle.cidr_c.specs.calls.Writing.{AreValueOffsets, IsFileOf, IsFileWritten, IsFirstRefusedAt, ipv4_rows, bytes_of_row}
+use Rattle.cidr_c.specs.calls.Writing.{AreTooMany, AreValueOffsets, IsFileOf, IsFileWritten, IsFirstRefusedAt, bytes_of_row, ipv4_networks, ipv4_rows, ipv6_networks}
 use Rattle.cidr_c.specs.declared.values.CValue.{CValue}
 
 -- ---- how many IPv4 values stand first
@@ -46,17 +57,21 @@ back_value values from a b within =
 
 -- ---- a file
 pub file_of : (networks : List CValue) (offsets values bytes : List ℕ) (k from : ℕ) → k ≡ ipv4_rows networks → k ≤ length networks
-    → AreOffsets offsets (length networks) (length values) → from ≡ get_or offsets k 0 → IsFile bytes
+    → AreOffsets offsets (length networks) (length values) → from ≡ get_or offsets k 0 → IsFile bytes → HasZerosBetween bytes
+    → (ipv4_counts bytes).steps ≡ ipv4_steps (length (ipv4_networks networks)) → (ipv6_counts bytes).steps ≡ ipv6_steps (length (ipv6_networks networks))
     → stored_networks words (ipv4_parts bytes) ≡ map ipv4_pair (take k networks)
     → stored_networks wide_words (ipv6_parts bytes) ≡ map ipv6_pair (drop k networks)
-    → offsets_in (ipv4_parts bytes) ≡ take (k + 1) offsets → part_at (ipv4_parts bytes) 6 ≡ take from values
-    → offsets_in (ipv6_parts bytes) ≡ map (λ offset. offset - from) (drop k offsets) → part_at (ipv6_parts bytes) 6 ≡ drop from values
+    → offsets_in (ipv4_parts bytes) ≡ take (k + 1) offsets → part_at (ipv4_parts bytes) 5 ≡ take from values
+    → offsets_in (ipv6_parts bytes) ≡ map (λ offset. offset - from) (drop k offsets) → part_at (ipv6_parts bytes) 5 ≡ drop from values
     → IsFileOf networks offsets values bytes
-file_of networks offsets values bytes k from k_is k_within fine from_is good networks4 networks6 offsets4 values4 offsets6 values6 =
+file_of networks offsets values bytes k from k_is k_within fine from_is good zeros own4 own6 networks4 networks6 offsets4 values4 offsets6 values6 =
     let p4 = ipv4_parts bytes in
     let p6 = ipv6_parts bytes in
     record {
       file = good;
+      zeros = zeros;
+      ipv4_own = own4;
+      ipv6_own = own6;
       ipv4 = networks4 ∙ ap (λ n. map ipv4_pair (take n networks)) k_is;
       ipv6 = networks6 ∙ ap (λ n. map ipv6_pair (drop n networks)) k_is;
       ipv4_values = λ row lt.
@@ -88,6 +103,27 @@ file_of networks offsets values bytes k from k_is k_within fine from_is good net
           ∙ (back_value values from a b within ∙ ap (λ n. bytes_of_row offsets values (n + row)) k_is));
     }
 
+-- a look-up table with too many words
+many_words : {W : Type 0} (w padding : ℕ) (steps : ℕ → ℕ) (value : W → ℕ) (keys : List (Key W)) (networks : List (ℕ × ℕ)) → key_networks value keys ≡ networks
+    → HasTooManyWords w padding (steps (length keys)) (key_networks value keys) → HasTooManyWords w padding (steps (length networks)) networks
+many_words w padding steps value keys networks is many =
+    subst (λ (ns : List (ℕ × ℕ)). HasTooManyWords w padding (steps (length ns)) ns) is
+    (subst (λ (k : ℕ). HasTooManyWords w padding (steps k) (key_networks value keys)) (sym (length_networks value keys)) many)
+
+refused_words : (networks : List CValue) (ipv4 : Rows (List ℕ)) (ipv6 : Rows (List (List ℕ))) → IsWriteRefused ipv4 ipv6 (Table TooLarge)
+    → key_networks (from_le_bytes w32) ipv4.keys.now ≡ ipv4_networks networks → key_networks wide_word ipv6.keys.now ≡ ipv6_networks networks → AreTooMany networks
+refused_words networks ipv4 ipv6 (inl (fine, (few, ascend, many))) is4 is6 =
+    inr (inl (many_words 32 4 ipv4_steps (from_le_bytes w32) ipv4.keys.now (ipv4_networks networks) is4 many))
+refused_words networks ipv4 ipv6 (inr (before, (fine, (few, ascend, many)))) is4 is6 =
+    inr (inr (many_words 128 0 ipv6_steps wide_word ipv6.keys.now (ipv6_networks networks) is6 many))
+
+pub too_many_words : (networks : List CValue) (ipv4 : Rows (List ℕ)) (ipv6 : Rows (List (List ℕ))) (error : WriteError) (why : TableError)
+    → IsWriteRefused ipv4 ipv6 error → error ≡ Table why → why ≡ TooLarge
+    → key_networks (from_le_bytes w32) ipv4.keys.now ≡ ipv4_networks networks → key_networks wide_word ipv6.keys.now ≡ ipv6_networks networks → AreTooMany networks
+too_many_words networks ipv4 ipv6 error why refused is large is4 is6 =
+    refused_words networks ipv4 ipv6
+    (subst (λ (e : WriteError). IsWriteRefused ipv4 ipv6 e) (is ∙ ap Table large) refused) is4 is6
+
 -- empty values lie one behind the other
 pub empty_fine : (n : ℕ) → AreOffsets (replicate (n + 1) 0) n 0
 empty_fine n = record {
@@ -110,6 +146,21 @@ module _ (networks : List CValue) (offsets values old : List ℕ) (count : ℕ) 
     refused = λ z. absurd (omega (arith, z));
     room = λ z. absurd (omega (arith, z));
     codes = inr (inr (inl refl));
+    stays = λ _. refl;
+    count_stays = λ _. refl;
+  }
+
+  -- the look-up table has too many words
+  pub words_refused : AreTooMany networks → IsFileWritten networks offsets values old old count count 15
+  words_refused many = record {
+    file = λ z. absurd (omega (arith, z));
+    fits = λ z. absurd (omega (arith, z));
+    behind = λ _. refl;
+    many = λ _. many;
+    values_wrong = λ z. absurd (omega (arith, z));
+    refused = λ z. absurd (omega (arith, z));
+    room = λ z. absurd (omega (arith, z));
+    codes = inr (inl refl);
     stays = λ _. refl;
     count_stays = λ _. refl;
   }

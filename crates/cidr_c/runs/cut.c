@@ -27,7 +27,7 @@ static size_t found_in(const uint8_t *bytes, size_t length, const pcidr_file *fi
 }
 
 int main(int argc, char **argv) {
-    static uint8_t bytes[64 * MANY];
+    static uint8_t bytes[128 * MANY];
     size_t length = 0;
     pcidr_file file;
     for (size_t i = 0; i < MANY; i++) networks[i].low = 0x0a000000 + 2 * i, networks[i].tag = 32;

@@ -16,7 +16,7 @@ static int failures;
         }                                                       \
     } while (0)
 
-enum { MOST = 300, AROUND = 4 * MOST + 4, ROOM = 1 << 16, SIZE = 360 };
+enum { MOST = 300, AROUND = 4 * MOST + 4, ROOM = 1 << 18, SIZE = 1624 };
 
 static pcidr_value networks[MOST], asked[AROUND];
 static uint32_t offsets[MOST + 1];
@@ -113,7 +113,10 @@ static void write_worked(void) {
 }
 
 static void worked(void) {
-    static const uint8_t head[] = {0x89, 0x43, 0x49, 0x44, 1, 0, 0, 0};
+    static const uint8_t head[] = {0x89, 0x43, 0x49, 0x44, 2, 0, 0, 0};
+    /* The node of 10.0.0.0/12, whose runs are the values 1, 2 and 1 from the parts 0, 4 and 8 on, and that of 8.0.0.0/6, which
+     * has 0, the first node, 1 and 0 from the parts 0, 32, 33 and 48 on. */
+    static const uint32_t nodes[] = {0, 0x88800000u, 1, 2, 1, 0xc0008000u, 0x80000000u, 0, 1u << 31, 1, 0};
     static const struct {
         const char *address;
         uint32_t row;
@@ -125,16 +128,17 @@ static void worked(void) {
                   {"2001:db8::/64", PCIDR_NO_ROW, ""}, {"any", PCIDR_NO_ROW, ""}};
     write_worked();
     WANT(memcmp(room, head, sizeof head) == 0);
+    WANT(memcmp(room + 320, nodes, sizeof nodes) == 0);
     pcidr_file file;
     memset(&file, 9, sizeof file);
     WANT(pcidr_file_open(room, count, &file) == PCIDR_OK);
     WANT(pcidr_file_check(room, count) == PCIDR_OK);
-    WANT(file.ipv4.starts == 64 && file.ipv4.answers == 96 && file.ipv4.level == 128 && file.ipv4.addresses == 168);
-    WANT(file.ipv4.lengths == 184 && file.ipv4.offsets == 192 && file.ipv4.values == 208 && file.ipv4.values_len == 14);
-    WANT(file.ipv4.rows == 3 && file.ipv4.ranges == 7 && file.ipv4.entries == 9 && file.ipv4.shift == 29);
-    WANT(file.ipv6.starts == 224 && file.ipv6.answers == 272 && file.ipv6.level == 288 && file.ipv6.addresses == 312);
-    WANT(file.ipv6.lengths == 328 && file.ipv6.offsets == 336 && file.ipv6.values == 344 && file.ipv6.values_len == 13);
-    WANT(file.ipv6.rows == 1 && file.ipv6.ranges == 3 && file.ipv6.entries == 5 && file.ipv6.shift == 126);
+    WANT(file.ipv4.first == 64 && file.ipv4.words == 320 && file.ipv4.addresses == 416);
+    WANT(file.ipv4.lengths == 432 && file.ipv4.offsets == 440 && file.ipv4.values == 456 && file.ipv4.values_len == 14);
+    WANT(file.ipv4.rows == 3 && file.ipv4.entries == 64 && file.ipv4.words_len == 24 && file.ipv4.steps == 5);
+    WANT(file.ipv6.first == 472 && file.ipv6.words == 1496 && file.ipv6.addresses == 1576);
+    WANT(file.ipv6.lengths == 1592 && file.ipv6.offsets == 1600 && file.ipv6.values == 1608 && file.ipv6.values_len == 13);
+    WANT(file.ipv6.rows == 1 && file.ipv6.entries == 256 && file.ipv6.words_len == 19 && file.ipv6.steps == 20);
     for (size_t i = 0; i < sizeof wanted / sizeof *wanted; i++) {
         pcidr_value address = value_of(wanted[i].address);
         pcidr_found found;
@@ -195,17 +199,17 @@ static void changed(void) {
                 accepted++;
                 for (size_t n = 0; n < many; n++) {
                     WANT(others[n].row == founds[n].row);
-                    WANT(i / 16 == 12 || memcmp(&others[n], &founds[n], sizeof *founds) == 0);
+                    WANT((i >= 440 && i < 456) || memcmp(&others[n], &founds[n], sizeof *founds) == 0);
                 }
             }
             bytes[i] ^= changes[k];
         }
     free(bytes);
-    /* In the header 16 bytes are not read, 41 are free behind parts, and 27 are of values. An offset of 5 may be 4, one of
-     * 10 may be 11, and a shift of 127 says the same as 126. */
-    WANT(accepted == 3 * (16 + 41 + 27) + 3);
-    room[4] = 2;
-    WANT(pcidr_file_open(room, SIZE, &whole) == PCIDR_OTHER_VERSION && pcidr_file_check(room, SIZE) == PCIDR_OTHER_VERSION);
+    /* In the header 16 bytes are not read, 25 are free behind parts, and 27 are of values. An offset of 5 may be 4, and one of
+     * 10 may be 11. */
+    WANT(accepted == 3 * (16 + 25 + 27) + 2);
+    for (room[4] = 0; room[4] < 5; room[4] += room[4] == 1 ? 2 : 1)
+        WANT(pcidr_file_open(room, SIZE, &whole) == PCIDR_OTHER_VERSION && pcidr_file_check(room, SIZE) == PCIDR_OTHER_VERSION);
 }
 
 /* Bytes of any numbers, and places of any numbers: none of them is believed. */
@@ -221,9 +225,9 @@ static void any_bytes(void) {
         if (turn % 4 < 2) {
             pcidr_file_table *tables[2] = {&file.ipv4, &file.ipv6};
             for (int k = 0; k < 2; k++) {
-                size_t *places = &tables[k]->starts;
+                size_t *places = &tables[k]->first;
                 uint32_t *counts = &tables[k]->rows;
-                for (int i = 0; i < 8; i++) places[i] = random_number() % 110;
+                for (int i = 0; i < 7; i++) places[i] = random_number() % 110;
                 for (int i = 0; i < 4; i++) counts[i] = (uint32_t)(random_number() % 20);
             }
         }
@@ -306,8 +310,8 @@ static void errors(void) {
     WANT(WRITE(2, 3, 2) == PCIDR_NO_VALUE && count == 0);
     WANT(pcidr_set_write(two, 1, room, ROOM, &count) == PCIDR_NO_VALUE && count == 0);
     ends[0] = 0;
-    WANT(pcidr_file_write(NULL, 0, ends, 1, NULL, 0, NULL, 0, &count) == PCIDR_NO_ROOM && count == 152);
-    WANT(pcidr_set_write(NULL, 0, room, ROOM, &count) == PCIDR_OK && count == 152);
+    WANT(pcidr_file_write(NULL, 0, ends, 1, NULL, 0, NULL, 0, &count) == PCIDR_NO_ROOM && count == 1360);
+    WANT(pcidr_set_write(NULL, 0, room, ROOM, &count) == PCIDR_OK && count == 1360);
 
     pcidr_file file, kept;
     pcidr_found found;

@@ -33,7 +33,7 @@ static uint32_t found_ipv6[2 * COUNT + 1], level_ipv6[3];
 static pcidr_table table_ipv6, built_ipv6;
 /* Their file, and room for it. */
 static uint32_t offsets[COUNT + 1];
-static uint8_t file[1 << 14], written[1 << 14];
+static uint8_t file[1 << 16], written[1 << 16];
 static size_t file_len;
 
 static uint32_t cover(void) { return pcidr_cover(networks, COUNT, &count); }

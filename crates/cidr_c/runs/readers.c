@@ -6,7 +6,7 @@
 #include <string.h>
 #include <sys/mman.h>
 
-enum { THREADS = 8, ROWS = 256, ASKED = 4096, ROOM = 1 << 16 };
+enum { THREADS = 8, ROWS = 256, ASKED = 4096, ROOM = 1 << 18 };
 
 static pcidr_value asked[ASKED];
 static pcidr_found wanted[ASKED];

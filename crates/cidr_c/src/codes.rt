@@ -37,7 +37,7 @@ pub const NO_MEMORY: u32 = 12;
 pub const WRAPPED: u32 = 13;
 /// A string that is to be an address alone is none.
 pub const NOT_ADDRESS: u32 = 14;
-/// There are more than 2,147,483,647 networks.
+/// There are more than 2,147,483,647 networks, or words of their look-up table.
 pub const TOO_MANY: u32 = 15;
 /// A shift is not below the number of bits of an address.
 pub const SHIFT: u32 = 16;

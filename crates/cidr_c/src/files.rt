@@ -5,17 +5,20 @@ ghost use Rattle.cidr.specs.model.Bits.{bits};
 ghost use Rattle.cidr_table.specs.model.Prefixes.{IsLongestMatch};
 ghost use Rattle.cidr_arrays.specs.Arrays.{prefix_bits, row_of};
 ghost use Rattle.cidr_files.specs.Layout.{padded, padded_room, sizes_of, wide_word, words};
-ghost use Rattle.cidr_files.specs.Tables.{AreArrays, AreOffsets, offsets_in, stored_networks, value_in};
+ghost use Rattle.cidr_files.specs.Tables.{AreLookUps, AreOffsets, offsets_in, stored_networks, value_in};
 ghost use Rattle.cidr_c.specs.calls.Calls.{IsYesOrNo};
-ghost use Rattle.cidr_c.specs.model.Files.{AreAnsweredIn, LieInBytes, IsFileChecked, IsFoundInFile, IsFoundInParts, IsInSet, IsInSetAt, IsOpened, bytes_at, file_fault_code, file_in, parts_at, table_fault_code, table_from};
+ghost use Rattle.cidr_c.specs.model.Files.{AreAnsweredIn, LieInBytes, IsFileChecked, IsFoundInFile, IsFoundInParts, IsInSet, IsInSetAt, IsOpened, bytes_at, file_fault_code, file_in, parts_at, table_error_code, table_fault_code, table_from, words_fault_code};
 ghost use Rattle.cidr_c.specs.model.Tables.{no_row};
 ghost use Rattle.cidr_c.specs.model.Values.{IsLow, number_in};
 
-use crate::codes::{LONG, NO_FILE, NO_MEMORY, NO_ROOM, OK, OTHER_VERSION, SHORT, VALUES};
-use crate::tables::{NO_ROW, fault_code};
+use crate::codes::{
+    LONG, NO_FILE, NO_MEMORY, NO_ROOM, NO_TABLE, NO_VALUE, OK, OTHER_VERSION, SHORT, TOO_MANY,
+    VALUES,
+};
+use crate::tables::NO_ROW;
 use crate::values::CValue;
-use cidr_arrays::longest_match;
 use cidr_files::{Counts, Family, Fault, Ipv4Bytes, Ipv6Bytes, TableFault, checked, counts, open};
+use cidr_lookup::{TableError, find};
 use std::alloc::Global;
 
 /// The size of the header of a file.
@@ -25,12 +28,10 @@ const HEADER: usize = 64;
 #[repr(C)]
 #[derive(Clone, Copy)]
 pub struct CFileTable {
-    /// Where the first addresses of the ranges begin.
-    pub starts: usize,
-    /// Where the answers of the ranges begin.
-    pub answers: usize,
-    /// Where the first level begins.
-    pub level: usize,
+    /// Where the entries of the blocks of addresses begin.
+    pub first: usize,
+    /// Where the words of the nodes begin.
+    pub words: usize,
     /// Where the first addresses of the rows' networks begin.
     pub addresses: usize,
     /// Where their prefix lengths begin.
@@ -43,12 +44,12 @@ pub struct CFileTable {
     pub values_len: usize,
     /// How many rows there are.
     pub rows: u32,
-    /// How many ranges.
-    pub ranges: u32,
-    /// How many entries the first level has.
+    /// How many entries of blocks.
     pub entries: u32,
-    /// The shift of the first level.
-    pub shift: u32,
+    /// How many words of nodes.
+    pub words_len: u32,
+    /// How many steps of six bits there are behind the first bits.
+    pub steps: u32,
 }
 
 /// The two tables of a file.
@@ -88,8 +89,8 @@ pub extern "C" fn pcidr_file_open(bytes: &[u8], file: &mut CFile) -> u32
     }
 }
 
-/// 0 where the bytes are a file of tables, else the number of what is wrong with them first. It goes once through them, and
-/// allocates the networks, the answers and the first level of a table.
+/// 0 where the bytes are a file of tables, else the number of what is wrong with them first. It builds the words of each
+/// table anew and compares them as it goes, and allocates its networks and their ranges.
 #[unsafe(no_mangle)]
 pub extern "C" fn pcidr_file_check(alloc: Global, bytes: &[u8]) -> u32
     ensures { IsFileChecked bytes.now result }
@@ -170,7 +171,7 @@ fn file_fault_code(fault: &Fault) -> u32
 {
     match fault {
         Fault::Magic => NO_FILE,
-        Fault::Version(_) => OTHER_VERSION,
+        Fault::Old | Fault::Version(_) => OTHER_VERSION,
         Fault::Short => SHORT,
         Fault::Long => LONG,
         Fault::Ipv4(fault) | Fault::Ipv6(fault) => table_fault_code(fault),
@@ -183,9 +184,35 @@ fn table_fault_code(fault: &TableFault) -> u32
     ensures above { 0 < result }
 {
     match fault {
-        TableFault::Arrays(fault) => fault_code(fault),
+        TableFault::Words(fault) => words_fault_code(fault),
         TableFault::Offsets => VALUES,
-        TableFault::NoMemory => NO_MEMORY,
+    }
+}
+
+/// The number of what is wrong with its words.
+fn words_fault_code(fault: &cidr_lookup::Fault) -> u32
+    ensures value { result ≡ words_fault_code fault.now }
+    ensures above { 0 < result }
+{
+    match fault {
+        cidr_lookup::Fault::Keys(error) => table_error_code(error),
+        cidr_lookup::Fault::Steps
+        | cidr_lookup::Fault::TooLong
+        | cidr_lookup::Fault::First(_)
+        | cidr_lookup::Fault::Word(_) => NO_TABLE,
+    }
+}
+
+/// The number of why keys have no words.
+fn table_error_code(error: &TableError) -> u32
+    ensures value { result ≡ table_error_code error.now }
+    ensures above { 0 < result }
+{
+    match error {
+        TableError::TooMany => TOO_MANY,
+        TableError::Refused(_) => NO_VALUE,
+        TableError::TooLarge => NO_TABLE,
+        TableError::NoMemory => NO_MEMORY,
     }
 }
 
@@ -207,21 +234,20 @@ fn put_table(place: usize, size: usize, counts: &Counts, table: &mut CFileTable)
     ensures below { result < place + 2 ^ 40 }
 {
     let rows = counts.rows as usize;
-    let ranges = counts.ranges as usize;
     let entries = counts.entries as usize;
+    let words = counts.words as usize;
     let values = counts.values as usize;
-    table.starts = place;
-    table.answers = behind(table.starts, size * ranges);
-    table.level = behind(table.answers, 4 * ranges);
-    table.addresses = behind(table.level, 4 * entries);
+    table.first = place;
+    table.words = behind(table.first, 4 * entries);
+    table.addresses = behind(table.words, 4 * words);
     table.lengths = behind(table.addresses, size * rows);
     table.offsets = behind(table.lengths, rows);
     table.values = behind(table.offsets, 4 * (rows + 1));
     table.values_len = values;
     table.rows = counts.rows;
-    table.ranges = counts.ranges;
     table.entries = counts.entries;
-    table.shift = counts.shift;
+    table.words_len = counts.words;
+    table.steps = counts.steps;
     behind(table.values, values)
 }
 
@@ -240,10 +266,10 @@ fn found_in(bytes: &[u8], file: &CFile, asked: &CValue) -> CFound
     ensures { IsFoundInFile bytes.now file.now asked.now result }
 {
     if let Some(address) = ipv4_address(asked) {
-        return found_at(bytes, &file.ipv4, 4, address);
+        return found_at(bytes, &file.ipv4, address);
     }
     if let Some(address) = ipv6_address(asked) {
-        return found_at(bytes, &file.ipv6, 16, address);
+        return found_at(bytes, &file.ipv6, address);
     }
     nothing()
 }
@@ -251,11 +277,10 @@ fn found_in(bytes: &[u8], file: &CFile, asked: &CValue) -> CFound
 /// What is found in a table. No branch hangs on whether there is a row, which a processor can't foresee: where there is
 /// none, the offsets of the first row are read.
 #[inline(always)]
-fn found_at<W: Family>(bytes: &[u8], table: &CFileTable, size: usize, address: W) -> CFound
-    requires { size ≤ 16 }
-    ensures { IsFoundInParts W.width W.numbers size table.now bytes.now (W.value address) result }
+fn found_at<W: Family>(bytes: &[u8], table: &CFileTable, address: W) -> CFound
+    ensures { (size : ℕ) → IsFoundInParts W.width W.padding W.numbers size table.now bytes.now (W.value address) result }
 {
-    let end = end_at(bytes, table, size, address);
+    let end = end_at(bytes, table, address);
     if table.rows == 0 {
         return nothing();
     }
@@ -264,14 +289,13 @@ fn found_at<W: Family>(bytes: &[u8], table: &CFileTable, size: usize, address: W
 
 /// How many rows there are up to that of the longest match, or 0 where there is none.
 #[inline(always)]
-fn end_at<W: Family>(bytes: &[u8], table: &CFileTable, size: usize, address: W) -> u32
-    requires { size ≤ 16 }
+fn end_at<W: Family>(bytes: &[u8], table: &CFileTable, address: W) -> u32
     ensures within { result ≤ table.now.rows }
-    ensures longest { LieInBytes size table.now bytes.now → AreArrays W.width W.numbers (parts_at size table.now bytes.now) table.now.shift
+    ensures longest { (size : ℕ) → LieInBytes table.now bytes.now → AreLookUps W.width W.padding W.numbers (parts_at size table.now bytes.now) table.now.steps
         → IsLongestMatch (prefix_bits W.width) (bits W.width (W.value address))
         (stored_networks W.numbers (parts_at size table.now bytes.now)) (row_of result) }
 {
-    match row_at(bytes, table, size, address) {
+    match row_at(bytes, table, address) {
         Some(row) => row as u32 + 1,
         None => 0,
     }
@@ -284,7 +308,7 @@ fn place_at(bytes: &[u8], table: &CFileTable, end: u32) -> (usize, u32)
     requires some { 0 < table.now.rows }
     requires end { end ≤ table.now.rows }
     ensures inside { result.0 + result.1 ≤ length bytes.now }
-    ensures value { 0 < end → (size : ℕ) → LieInBytes size table.now bytes.now → (rows : ℕ) → end - 1 < rows
+    ensures value { 0 < end → (size : ℕ) → LieInBytes table.now bytes.now → (rows : ℕ) → end - 1 < rows
         → AreOffsets (offsets_in (parts_at size table.now bytes.now)) rows (length (bytes_at bytes.now table.now.values table.now.values_len))
         → bytes_at bytes.now result.0 result.1 ≡ value_in (parts_at size table.now bytes.now) (end - 1) }
 {
@@ -309,28 +333,22 @@ fn found_of(end: u32, place: (usize, u32)) -> CFound
 
 /// The row of the longest match of an address in a table, if what tells it lies inside of the bytes.
 #[inline(always)]
-fn row_at<W: Family>(bytes: &[u8], table: &CFileTable, size: usize, address: W) -> Option<usize>
-    requires { size ≤ 16 }
+fn row_at<W: Family>(bytes: &[u8], table: &CFileTable, address: W) -> Option<usize>
     ensures within { IfSome result (λ row. row < table.now.rows) }
     ensures fits { IfSome result (λ row. row + 1 < 2 ^ 32) }
-    ensures longest { LieInBytes size table.now bytes.now → AreArrays W.width W.numbers (parts_at size table.now bytes.now) table.now.shift
+    ensures longest { (size : ℕ) → LieInBytes table.now bytes.now → AreLookUps W.width W.padding W.numbers (parts_at size table.now bytes.now) table.now.steps
         → IsLongestMatch (prefix_bits W.width) (bits W.width (W.value address))
         (stored_networks W.numbers (parts_at size table.now bytes.now)) result }
 {
-    let ranges = table.ranges as usize;
-    let starts = part_at(bytes, table.starts, size * ranges)?;
-    let answers = part_at(bytes, table.answers, 4 * ranges)?;
-    let level = part_at(bytes, table.level, 4 * table.entries as usize)?;
-    let (answers, _) = answers.as_chunks::<4>();
-    let (level, _) = level.as_chunks::<4>();
-    longest_match(
-        W::addresses(starts),
-        answers,
-        level,
-        table.shift,
-        table.rows as usize,
-        address,
-    )
+    let first = part_at(bytes, table.first, 4 * table.entries as usize)?;
+    let words = part_at(bytes, table.words, 4 * table.words_len as usize)?;
+    let (first, _) = first.as_chunks::<4>();
+    let (words, _) = words.as_chunks::<4>();
+    let row = find(&first, &words, table.steps, address)?;
+    if row >= table.rows as usize {
+        return None;
+    }
+    Some(row)
 }
 
 /// Where the value of a row begins and how many bytes it has, if what tells it and the values lie inside of the bytes.
@@ -339,7 +357,7 @@ fn value_at(bytes: &[u8], table: &CFileTable, row: usize) -> Option<(usize, u32)
     requires { row < table.now.rows }
     ensures inside { IfSome result (λ value. value.0 + value.1 ≤ length bytes.now) }
     ensures value { IfSome result (λ value. (size : ℕ) → bytes_at bytes.now value.0 value.1 ≡ value_in (parts_at size table.now bytes.now) row) }
-    ensures none { result ≡ None → (size : ℕ) → LieInBytes size table.now bytes.now → (rows : ℕ) → row < rows
+    ensures none { result ≡ None → (size : ℕ) → LieInBytes table.now bytes.now → (rows : ℕ) → row < rows
         → ¬ (AreOffsets (offsets_in (parts_at size table.now bytes.now)) rows (length (bytes_at bytes.now table.now.values table.now.values_len))) }
 {
     let offsets = part_at(bytes, table.offsets, 4 * (table.rows as usize + 1))?;
@@ -386,21 +404,20 @@ fn has_in(bytes: &[u8], file: &CFile, asked: &CValue) -> u8
     ensures { IsInSet bytes.now file.now asked.now result }
 {
     if let Some(address) = ipv4_address(asked) {
-        return has_at(bytes, &file.ipv4, 4, address);
+        return has_at(bytes, &file.ipv4, address);
     }
     if let Some(address) = ipv6_address(asked) {
-        return has_at(bytes, &file.ipv6, 16, address);
+        return has_at(bytes, &file.ipv6, address);
     }
     0
 }
 
 /// 1 where an address is in one of the networks of a table, and 0 where not.
 #[inline(always)]
-fn has_at<W: Family>(bytes: &[u8], table: &CFileTable, size: usize, address: W) -> u8
-    requires { size ≤ 16 }
-    ensures { IsInSetAt W.width W.numbers size table.now bytes.now (W.value address) result }
+fn has_at<W: Family>(bytes: &[u8], table: &CFileTable, address: W) -> u8
+    ensures { (size : ℕ) → IsInSetAt W.width W.padding W.numbers size table.now bytes.now (W.value address) result }
 {
-    match row_at(bytes, table, size, address) {
+    match row_at(bytes, table, address) {
         Some(_) => 1,
         None => 0,
     }

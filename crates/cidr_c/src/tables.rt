@@ -261,7 +261,7 @@ fn put_rows<W: Family>(
 }
 
 /// The number of what is wrong with arrays.
-pub fn fault_code(fault: &Fault) -> u32
+fn fault_code(fault: &Fault) -> u32
     ensures value { result ≡ fault_code fault.now }
     ensures above { 0 < result }
 {

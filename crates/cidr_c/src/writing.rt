@@ -7,12 +7,13 @@ use crate::codes::{NO_MEMORY, NO_ROOM, NO_VALUE, OK, TOO_MANY, VALUES};
 use crate::tables::keys_in;
 use crate::values::{CValue, is_ipv4};
 use cidr_arrays::first_refused;
-use cidr_files::{Ipv4Bytes, Ipv6Bytes, Rows, are_offsets, written};
+use cidr_files::{Ipv4Bytes, Ipv6Bytes, Rows, WriteError, are_offsets, written};
+use cidr_lookup::TableError;
 use std::alloc::{AllocError, Global};
 
 /// Writes the file of networks and their values: 0, and `count` becomes how many bytes stand in the front of `out`. The
 /// value of row i is what `values` has from offset i up to the next one. Else the number of the first error: too many
-/// networks; the values; a network, and `count` becomes its index; the room, and `count` becomes how much is enough; of
+/// networks, or words of their look-ups; the values; a network, and `count` becomes its index; the room, and `count` becomes how much is enough; of
 /// memory at any place before. An error leaves `out` as it was.
 ///
 /// It takes O(n), and a pass over the bytes, and allocates them and as much again.
@@ -106,6 +107,7 @@ fn put_file(
     };
     match written(alloc, &ipv4_table, &ipv6_table) {
         Ok(bytes) => put_bytes(bytes.as_slice(), out, count),
+        Err(WriteError::Table(TableError::TooLarge)) => TOO_MANY,
         Err(_) => NO_MEMORY,
     }
 }

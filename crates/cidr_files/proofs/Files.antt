@@ -2,19 +2,20 @@
 use Rattle.std.proofs.Common.{◌≡◌, refl, sym, ◌∙◌, ap, ap₂, subst, arith, ℕ, zero, suc, ◌+◌, ◌*◌, ◌^◌, ◌<◌, ◌≤◌, List, [], ◌∷◌, ◌++◌, length, get_or, map, drop}
 use Rattle.std.proofs.lemmas.List.{append-nil, drop_at, length-append, length-map}
 use Rattle.std.specs.List.{zip}
-use Rattle.cidr_arrays.specs.Arrays.{Represents, key_networks}
+use Rattle.cidr_arrays.specs.Arrays.{key_networks}
 use Rattle.cidr_arrays.specs.declared.key.Key.{Key}
-use Rattle.cidr_arrays.proofs.Longest.{row_within}
 use Rattle.cidr_arrays.proofs.Numbers.{length_networks}
-use Rattle.cidr.specs.model.Bits.{bits}
+use Rattle.cidr_lookup.specs.Tables.{IsLookupTable}
+use Rattle.cidr_lookup.proofs.Fits.{table_fits}
 use Rattle.cidr_files.specs.Contents.{AreContents, HasRows, HasZerosBetween, key_addresses, counts_of, head_of, lengths_of, parts_written}
 use Rattle.cidr_files.specs.Layout.{IsLaidOut, bytes_behind, counts_in, header, ipv4_counts, ipv4_parts, ipv4_sizes, ipv6_counts, ipv6_parts, ipv6_sizes, magic, parts_by_size, padded_room, sizes_of, version, wide_words, words}
 use Rattle.cidr_files.specs.Spelling.{length-spelled, length-wide_bytes, length-word_bytes, spells_wide, spells_words, wide_bytes, word_bytes, words-spelled}
-use Rattle.cidr_files.specs.Tables.{AreOffsets, IsFile, IsSmall, IsStoredTable, stored_networks}
+use Rattle.cidr_files.specs.Tables.{AreOffsets, HasFewWords, IsFile, IsSmall, IsStoredTable, stored_networks}
 use Rattle.cidr_files.specs.Written.{AreBelow, joined_parts, spelled}
 use Rattle.cidr_files.specs.declared.contents.Contents.{Contents}
 use Rattle.cidr_files.specs.declared.layout.Counts.{Counts}
 use Rattle.cidr_files.proofs.Joined.{behind-joined, length-joined, parts_of-joined}
+use Rattle.cidr_files.proofs.KeyRows.{same_words}
 
 module _ (a b : Counts) (ipv4 ipv6 : List (List ℕ)) (bytes : List ℕ) (below : AreBelow (2 ^ 32) (head_of a b))
     (is : bytes ≡ spelled word_bytes (head_of a b) ++ (joined_parts ipv4 ++ joined_parts ipv6))
@@ -84,17 +85,14 @@ length-network value [] i l = absurd (omega arith)
 length-network value (key ∷ keys) zero l = refl
 length-network value (key ∷ keys) (suc i) l = length-network value keys i (omega arith)
 
-module _ {W : Type 0} (w : ℕ) (value : W → ℕ) (contents : Contents W) (good : AreContents w value contents) where
-  pub starts_below : AreBelow (2 ^ w) (map value contents.starts.now)
-  starts_below = λ k l. good.arrays.ranges.fits k l
-
+module _ {W : Type 0} (w padding : ℕ) (value : W → ℕ) (contents : Contents W) (good : AreContents w padding value contents) where
   pub addresses_below : AreBelow (2 ^ w) (key_addresses value contents.rows.now.keys.now)
   addresses_below = λ k l.
       let within : k < length contents.rows.now.keys.now = omega (arith, length-map contents.rows.now.keys.now (λ (key : Key W). value key.address)) in
       omega (
         arith,
         address-network value contents.rows.now.keys.now k within,
-        (good.arrays.keys.each k (omega (arith, length_networks value contents.rows.now.keys.now))).within,
+        (good.table.keys.each k (omega (arith, length_networks value contents.rows.now.keys.now))).within,
       )
 
   pub lengths_below : w ≤ 128 → AreBelow 256 (lengths_of contents.rows.now.keys.now)
@@ -103,26 +101,11 @@ module _ {W : Type 0} (w : ℕ) (value : W → ℕ) (contents : Contents W) (goo
       omega (
         arith,
         length-network value contents.rows.now.keys.now k within,
-        (good.arrays.keys.each k (omega (arith, length_networks value contents.rows.now.keys.now))).fits,
+        (good.table.keys.each k (omega (arith, length_networks value contents.rows.now.keys.now))).fits,
       )
 
-  -- each range has its start, so that its answer is one of a row
-  pub answers_below : AreBelow (2 ^ 32) contents.answers.now
-  answers_below = λ k l.
-      let starts = map value contents.starts.now in
-      let within : k < length starts = omega (arith, good.arrays.ranges.both) in
-      let start = get_or starts k 0 in
-      let found = good.arrays.ranges.matches start k (good.arrays.ranges.fits k within)
-      (record { within = within; from = omega arith; last = λ i lt l'. good.arrays.ranges.ordered.ascending k i lt l' }) in
-      omega (
-        arith,
-        row_within w (key_networks value contents.rows.now.keys.now) (bits w start) (get_or contents.answers.now k 0) found,
-        length_networks value contents.rows.now.keys.now,
-        good.rows,
-      )
-
-  pub level_below : AreBelow (2 ^ 32) contents.level.now
-  level_below = λ k l. omega (arith, (good.arrays.entries k l).within, length-map contents.starts.now value, good.ranges)
+  words_below : AreBelow (2 ^ 32) contents.first.now × AreBelow (2 ^ 32) contents.words.now
+  words_below = table_fits w padding contents.steps (key_networks value contents.rows.now.keys.now) contents.first.now contents.words.now good.table good.nodes
 
   pub offsets_below : AreBelow (2 ^ 32) contents.rows.now.offsets.now
   offsets_below = λ k l.
@@ -135,12 +118,11 @@ module _ {W : Type 0} (w : ℕ) (value : W → ℕ) (contents : Contents W) (goo
     sizes_are =
         let c = contents in
         let word = length-spelled word_bytes 4 length-word_bytes in
-        ap₂ ◌∷◌ (length-spelled bytes size long (map value c.starts.now) ∙ ap (λ n. size * n) (length-map c.starts.now value))
-        (ap₂ ◌∷◌ (word c.answers.now ∙ ap (λ n. 4 * n) (good.arrays.ranges.both ∙ length-map c.starts.now value))
-        (ap₂ ◌∷◌ (word c.level.now)
+        ap₂ ◌∷◌ (word c.first.now)
+        (ap₂ ◌∷◌ (word c.words.now)
         (ap₂ ◌∷◌ (length-spelled bytes size long (key_addresses value c.rows.now.keys.now) ∙ ap (λ n. size * n) (length-map c.rows.now.keys.now (λ (key : Key W). value key.address)))
         (ap₂ ◌∷◌ (length-map c.rows.now.keys.now (λ (key : Key W). key.len))
-        (ap₂ ◌∷◌ (word c.rows.now.offsets.now ∙ ap (λ n. 4 * n) good.offsets.many) refl)))))
+        (ap₂ ◌∷◌ (word c.rows.now.offsets.now ∙ ap (λ n. 4 * n) good.offsets.many) refl))))
 
     pub has_rows : HasRows numbers (parts_written value bytes contents) value contents.rows.now
     has_rows = record {
@@ -151,25 +133,29 @@ module _ {W : Type 0} (w : ℕ) (value : W → ℕ) (contents : Contents W) (goo
       values_are = refl;
     }
 
-    pub is_table : IsStoredTable w numbers (parts_written value bytes contents) contents.shift
+    count : length (stored_networks numbers (parts_written value bytes contents)) ≡ length contents.rows.now.keys.now
+    count = ap length has_rows.networks_are ∙ length_networks value contents.rows.now.keys.now
+
+    pub is_table : IsStoredTable w padding numbers (parts_written value bytes contents) contents.steps
     is_table =
         let h = has_rows in
-        let count : length (stored_networks numbers (parts_written value bytes contents)) ≡ length contents.rows.now.keys.now =
-        ap length h.networks_are ∙ length_networks value contents.rows.now.keys.now in
-        let a : numbers (spelled bytes (map value contents.starts.now)) ≡ map value contents.starts.now = spells (map value contents.starts.now) starts_below in
-        let b = spells_words contents.answers.now answers_below in
-        let d = spells_words contents.level.now level_below in
         record {
-          arrays =
-              subst (λ (xs : List (ℕ × ℕ)). Represents w xs (numbers (spelled bytes (map value contents.starts.now))) (words (spelled word_bytes contents.answers.now)) (words (spelled word_bytes contents.level.now)) contents.shift) (sym h.networks_are)
-              (subst (λ (xs : List ℕ). Represents w (key_networks value contents.rows.now.keys.now) xs (words (spelled word_bytes contents.answers.now)) (words (spelled word_bytes contents.level.now)) contents.shift) (sym a)
-              (subst (λ (xs : List ℕ). Represents w (key_networks value contents.rows.now.keys.now) (map value contents.starts.now) xs (words (spelled word_bytes contents.level.now)) contents.shift) (sym b)
-              (subst (λ (xs : List ℕ). Represents w (key_networks value contents.rows.now.keys.now) (map value contents.starts.now) contents.answers.now xs contents.shift) (sym d)
-              good.arrays)));
+          look_ups =
+              same_words (λ ks fs ns. IsLookupTable w padding contents.steps ks fs ns) (key_networks value contents.rows.now.keys.now)
+              (stored_networks numbers (parts_written value bytes contents)) contents.first.now (words (spelled word_bytes contents.first.now))
+              contents.words.now (words (spelled word_bytes contents.words.now)) (sym h.networks_are) (sym (spells_words contents.first.now words_below.0))
+              (sym (spells_words contents.words.now words_below.1)) good.table;
           offsets =
               subst (λ (n : ℕ). AreOffsets (words (spelled word_bytes contents.rows.now.offsets.now)) n (length contents.rows.now.values.now)) (sym count)
               (subst (λ (xs : List ℕ). AreOffsets xs (length contents.rows.now.keys.now) (length contents.rows.now.values.now)) (sym h.offsets_are) good.offsets);
         }
+
+    pub has_few_words : HasFewWords numbers (parts_written value bytes contents)
+    has_few_words = record {
+      rows = omega (arith, count, good.rows);
+      entries = omega (arith, ap length (spells_words contents.first.now words_below.0), good.entries);
+      nodes = omega (arith, ap length (spells_words contents.words.now words_below.1), good.nodes);
+    }
 
 -- ---- both tables
 below_more : (bound n : ℕ) (ns : List ℕ) → n < bound → AreBelow bound ns → AreBelow bound (n ∷ ns)
@@ -180,28 +166,30 @@ none_below : (bound : ℕ) → AreBelow bound []
 none_below bound = λ k l. absurd (omega arith)
 
 -- the words of a header's counts
-counts_below : (c : Counts) (rest : List ℕ) → c.rows < 2 ^ 32 → c.ranges < 2 ^ 32 → c.entries < 2 ^ 32 → c.shift < 2 ^ 32 → c.values < 2 ^ 32 → AreBelow (2 ^ 32) rest
-    → AreBelow (2 ^ 32) (c.rows ∷ c.ranges ∷ c.entries ∷ c.shift ∷ c.values ∷ 0 ∷ rest)
-counts_below c rest rows ranges entries shift values others =
+counts_below : (c : Counts) (rest : List ℕ) → c.rows < 2 ^ 32 → c.entries < 2 ^ 32 → c.words < 2 ^ 32 → c.steps < 2 ^ 32 → c.values < 2 ^ 32 → AreBelow (2 ^ 32) rest
+    → AreBelow (2 ^ 32) (c.rows ∷ c.entries ∷ c.words ∷ c.steps ∷ c.values ∷ 0 ∷ rest)
+counts_below c rest rows entries nodes steps values others =
     let bound = 2 ^ 32 in
-    below_more bound c.rows (c.ranges ∷ c.entries ∷ c.shift ∷ c.values ∷ 0 ∷ rest) rows
-    (below_more bound c.ranges (c.entries ∷ c.shift ∷ c.values ∷ 0 ∷ rest) ranges
-    (below_more bound c.entries (c.shift ∷ c.values ∷ 0 ∷ rest) entries
-    (below_more bound c.shift (c.values ∷ 0 ∷ rest) shift
+    below_more bound c.rows (c.entries ∷ c.words ∷ c.steps ∷ c.values ∷ 0 ∷ rest) rows
+    (below_more bound c.entries (c.words ∷ c.steps ∷ c.values ∷ 0 ∷ rest) entries
+    (below_more bound c.words (c.steps ∷ c.values ∷ 0 ∷ rest) nodes
+    (below_more bound c.steps (c.values ∷ 0 ∷ rest) steps
     (below_more bound c.values (0 ∷ rest) values
     (below_more bound 0 rest (omega arith) others)))))
 
-module _ {A B : Type 0} (value_a : A → ℕ) (value_b : B → ℕ) (ipv4 : Contents A) (ipv6 : Contents B) (good_a : AreContents 32 value_a ipv4)
-    (good_b : AreContents 128 value_b ipv6) where
+module _ {A B : Type 0} (value_a : A → ℕ) (value_b : B → ℕ) (ipv4 : Contents A) (ipv6 : Contents B) (good_a : AreContents 32 4 value_a ipv4)
+    (good_b : AreContents 128 0 value_b ipv6) where
   pub head_below : AreBelow (2 ^ 32) (head_of (counts_of ipv4) (counts_of ipv6))
   head_below =
       let a = counts_of ipv4 in
       let b = counts_of ipv6 in
       let bound = 2 ^ 32 in
-      let tail_b = counts_below b [] (omega (arith, good_b.rows)) good_b.ranges good_b.entries (omega (arith, good_b.shift_below)) good_b.sizes (none_below bound) in
-      let words_b = b.rows ∷ b.ranges ∷ b.entries ∷ b.shift ∷ b.values ∷ 0 ∷ [] in
-      let tail_a = counts_below a words_b (omega (arith, good_a.rows)) good_a.ranges good_a.entries (omega (arith, good_a.shift_below)) good_a.sizes tail_b in
-      let words_a = a.rows ∷ a.ranges ∷ a.entries ∷ a.shift ∷ a.values ∷ 0 ∷ words_b in
+      let tail_b = counts_below b [] (omega (arith, good_b.rows)) (omega (arith, good_b.entries)) (omega (arith, good_b.nodes)) (omega (arith, good_b.table.some)) good_b.sizes
+      (none_below bound) in
+      let words_b = b.rows ∷ b.entries ∷ b.words ∷ b.steps ∷ b.values ∷ 0 ∷ [] in
+      let tail_a = counts_below a words_b (omega (arith, good_a.rows)) (omega (arith, good_a.entries)) (omega (arith, good_a.nodes)) (omega (arith, good_a.table.some)) good_a.sizes
+      tail_b in
+      let words_a = a.rows ∷ a.entries ∷ a.words ∷ a.steps ∷ a.values ∷ 0 ∷ words_b in
       below_more bound magic (version ∷ 0 ∷ 0 ∷ words_a) (omega arith)
       (below_more bound version (0 ∷ 0 ∷ words_a) (omega arith)
       (below_more bound 0 (0 ∷ words_a) (omega arith) (below_more bound 0 words_a (omega arith) tail_a)))
@@ -210,35 +198,38 @@ module _ {A B : Type 0} (value_a : A → ℕ) (value_b : B → ℕ) (ipv4 : Cont
       ++ (joined_parts (parts_written value_a word_bytes ipv4) ++ joined_parts (parts_written value_b wide_bytes ipv6))) where
     pub is_file : IsFile bytes × IsSmall bytes × HasRows words (ipv4_parts bytes) value_a ipv4.rows.now
         × HasRows wide_words (ipv6_parts bytes) value_b ipv6.rows.now × HasZerosBetween bytes
+        × ((ipv4_counts bytes).steps ≡ ipv4.steps) × ((ipv6_counts bytes).steps ≡ ipv6.steps)
     is_file =
         let a = counts_of ipv4 in
         let b = counts_of ipv6 in
         let p4 = parts_written value_a word_bytes ipv4 in
         let p6 = parts_written value_b wide_bytes ipv6 in
-        let s4 = sizes_are 32 value_a ipv4 good_a 4 words word_bytes length-word_bytes spells_words in
-        let s6 = sizes_are 128 value_b ipv6 good_b 16 wide_words wide_bytes length-wide_bytes spells_wide in
-        let t4 = is_table 32 value_a ipv4 good_a 4 words word_bytes length-word_bytes spells_words in
-        let t6 = is_table 128 value_b ipv6 good_b 16 wide_words wide_bytes length-wide_bytes spells_wide in
-        let h4 = has_rows 32 value_a ipv4 good_a 4 words word_bytes length-word_bytes spells_words in
-        let h6 = has_rows 128 value_b ipv6 good_b 16 wide_words wide_bytes length-wide_bytes spells_wide in
+        let s4 = sizes_are 32 4 value_a ipv4 good_a 4 words word_bytes length-word_bytes spells_words in
+        let s6 = sizes_are 128 0 value_b ipv6 good_b 16 wide_words wide_bytes length-wide_bytes spells_wide in
+        let t4 = is_table 32 4 value_a ipv4 good_a 4 words word_bytes length-word_bytes spells_words in
+        let t6 = is_table 128 0 value_b ipv6 good_b 16 wide_words wide_bytes length-wide_bytes spells_wide in
+        let h4 = has_rows 32 4 value_a ipv4 good_a 4 words word_bytes length-word_bytes spells_words in
+        let h6 = has_rows 128 0 value_b ipv6 good_b 16 wide_words wide_bytes length-wide_bytes spells_wide in
+        let f4 = has_few_words 32 4 value_a ipv4 good_a 4 words word_bytes length-word_bytes spells_words in
+        let f6 = has_few_words 128 0 value_b ipv6 good_b 16 wide_words wide_bytes length-wide_bytes spells_wide in
         let e4 = parts_a a b p4 p6 bytes head_below is s4 s6 in
         let e6 = parts_b a b p4 p6 bytes head_below is s4 s6 in
-        let shift4 : (ipv4_counts bytes).shift ≡ ipv4.shift = ap (λ (c : Counts). c.shift) (counts_a a b p4 p6 bytes head_below is s4 s6) in
-        let shift6 : (ipv6_counts bytes).shift ≡ ipv6.shift = ap (λ (c : Counts). c.shift) (counts_b a b p4 p6 bytes head_below is s4 s6) in
+        let steps4 : (ipv4_counts bytes).steps ≡ ipv4.steps = ap (λ (c : Counts). c.steps) (counts_a a b p4 p6 bytes head_below is s4 s6) in
+        let steps6 : (ipv6_counts bytes).steps ≡ ipv6.steps = ap (λ (c : Counts). c.steps) (counts_b a b p4 p6 bytes head_below is s4 s6) in
         let has4 : HasRows words (ipv4_parts bytes) value_a ipv4.rows.now = subst (λ (ps : List (List ℕ)). HasRows words ps value_a ipv4.rows.now) (sym e4) h4 in
         let has6 : HasRows wide_words (ipv6_parts bytes) value_b ipv6.rows.now = subst (λ (ps : List (List ℕ)). HasRows wide_words ps value_b ipv6.rows.now) (sym e6) h6 in (
           record {
             laid_out = laid_out a b p4 p6 bytes head_below is s4 s6;
-            ipv4 = subst (λ (ps : List (List ℕ)). IsStoredTable 32 words ps (ipv4_counts bytes).shift) (sym e4) (subst (λ (n : ℕ). IsStoredTable 32 words p4 n) (sym shift4) t4);
-            ipv6 = subst (λ (ps : List (List ℕ)). IsStoredTable 128 wide_words ps (ipv6_counts bytes).shift) (sym e6) (subst (λ (n : ℕ). IsStoredTable 128 wide_words p6 n) (sym shift6) t6);
+            ipv4 = subst (λ (ps : List (List ℕ)). IsStoredTable 32 4 words ps (ipv4_counts bytes).steps) (sym e4) (subst (λ (n : ℕ). IsStoredTable 32 4 words p4 n) (sym steps4) t4);
+            ipv6 = subst (λ (ps : List (List ℕ)). IsStoredTable 128 0 wide_words ps (ipv6_counts bytes).steps) (sym e6) (subst (λ (n : ℕ). IsStoredTable 128 0 wide_words p6 n) (sym steps6) t6);
           },
           record {
-            ipv4_rows = omega (arith, ap length has4.networks_are, length_networks value_a ipv4.rows.now.keys.now, good_a.rows);
-            ipv4_shift = omega (arith, shift4, good_a.shift_below);
-            ipv6_rows = omega (arith, ap length has6.networks_are, length_networks value_b ipv6.rows.now.keys.now, good_b.rows);
-            ipv6_shift = omega (arith, shift6, good_b.shift_below);
+            ipv4 = subst (λ (ps : List (List ℕ)). HasFewWords words ps) (sym e4) f4;
+            ipv6 = subst (λ (ps : List (List ℕ)). HasFewWords wide_words ps) (sym e6) f6;
           },
           has4,
           has6,
           zeros_between a b p4 p6 bytes head_below is s4 s6,
+          steps4,
+          steps6,
         )

@@ -44,14 +44,11 @@ pub read_index : {A : Type 0} (place : A → ℕ) (xs : List A) (i : ℕ) (a : A
     → n ≡ get_or (map place xs) i 0
 read_index place xs i a n e is l = e ∙ (ap place is ∙ sym (get_or-map place xs i a 0 l))
 
--- what is said of arrays is said of the same arrays
-pub same_arrays : (P : List (ℕ × ℕ) → List ℕ → List ℕ → List ℕ → Type 0) (networks networks' : List (ℕ × ℕ)) (starts starts' answers answers' level level' : List ℕ)
-    → networks ≡ networks' → starts ≡ starts' → answers ≡ answers' → level ≡ level' → P networks starts answers level → P networks' starts' answers' level'
-same_arrays P networks networks' starts starts' answers answers' level level' n s a l h =
-    subst (λ (xs : List (ℕ × ℕ)). P xs starts' answers' level') n
-    (subst (λ (xs : List ℕ). P networks xs answers' level') s
-    (subst (λ (xs : List ℕ). P networks starts xs level') a
-    (subst (λ (xs : List ℕ). P networks starts answers xs) l h)))
+-- what is said of words is said of the same words
+pub same_words : (P : List (ℕ × ℕ) → List ℕ → List ℕ → Type 0) (networks networks' : List (ℕ × ℕ)) (first first' nodes nodes' : List ℕ)
+    → networks ≡ networks' → first ≡ first' → nodes ≡ nodes' → P networks first nodes → P networks' first' nodes'
+same_words P networks networks' first first' nodes nodes' n f m h =
+    subst (λ (xs : List (ℕ × ℕ)). P xs first' nodes') n (subst (λ (xs : List ℕ). P networks xs nodes') f (subst (λ (xs : List ℕ). P networks first xs) m h))
 
 -- the length of a key
 pub length_at : {A : Type 0} (keys : List (Key A)) (i : ℕ) (d : Key A) → i < length keys

@@ -4,4 +4,5 @@ pub mod Parts
 pub mod KeyRows
 pub mod Joined
 pub mod Files
+pub mod Refusals
 pub mod Putting

@@ -52,7 +52,11 @@ abbrev pub magic : ℕ
 magic = 0x44494389
 
 abbrev pub version : ℕ
-version = 1
+version = 2
+
+-- that of the files of earlier releases
+abbrev pub old_version : ℕ
+old_version = 1
 
 -- the size of the header
 abbrev pub header : ℕ
@@ -62,20 +66,20 @@ header = 64
 abbrev pub counts_in : List ℕ → ℕ → Counts
 counts_in ws k = record {
   rows = slice_index_or ws k 0;
-  ranges = slice_index_or ws (k + 1) 0;
-  entries = slice_index_or ws (k + 2) 0;
-  shift = slice_index_or ws (k + 3) 0;
+  entries = slice_index_or ws (k + 1) 0;
+  words = slice_index_or ws (k + 2) 0;
+  steps = slice_index_or ws (k + 3) 0;
   values = slice_index_or ws (k + 4) 0;
 }
 
 abbrev pub counts_at : List ℕ → ℕ → Counts
 counts_at bytes k = counts_in (words bytes) k
 
--- the sizes of its parts, where an address has so many bytes: starts, answers, first level, addresses, prefix lengths,
+-- the sizes of its parts, where an address has so many bytes: entries of blocks, words of nodes, addresses, prefix lengths,
 -- offsets of the values, and these
 abbrev pub sizes_of : ℕ → Counts → List ℕ
 sizes_of size counts =
-    size * counts.ranges ∷ 4 * counts.ranges ∷ 4 * counts.entries ∷ size * counts.rows ∷ counts.rows ∷ 4 * (counts.rows + 1) ∷ counts.values ∷ []
+    4 * counts.entries ∷ 4 * counts.words ∷ size * counts.rows ∷ counts.rows ∷ 4 * (counts.rows + 1) ∷ counts.values ∷ []
 
 abbrev pub ipv4_counts : List ℕ → Counts
 ipv4_counts bytes = counts_at bytes 4

@@ -93,10 +93,3 @@ pub spelled_more : (bytes : ℕ → List ℕ) (ns : List ℕ) (n : ℕ) → spel
 unfolding spelled
 spelled_more bytes [] n = append-nil (bytes n)
 spelled_more bytes (m ∷ ns) n = ap (λ xs. bytes m ++ xs) (spelled_more bytes ns n) ∙ sym (append_assoc (bytes m) (spelled bytes ns) (bytes n))
-
--- ---- how many bits an address has
-pub wide_word_bits : 18 ≤ 32
-wide_word_bits = omega arith
-
-pub wide_address_bits : 18 ≤ 128
-wide_address_bits = omega arith

@@ -2,7 +2,6 @@
 ghost use Rattle.std.specs.Prelude.{◌≡◌, ◌↔◌, ◌^◌, ◌<◌, map, zip, IfErr, IfOk, IsTrue};
 ghost use Rattle.cidr_arrays.specs.Arrays.{key_networks};
 ghost use Rattle.cidr_files.specs.Faults.{IsFaultOfBytes, IsTableFault};
-ghost use Rattle.cidr_files.specs.Layout.{words};
 ghost use Rattle.cidr_files.specs.Tables.{AreOffsets, IsTableCutFrom, IsFile, IsStoredTable, parts_in};
 
 use crate::family::{Family, Ipv4Bytes, Ipv6Bytes};
@@ -10,11 +9,13 @@ use crate::faults::{Fault, TableFault};
 use crate::layout::{Part, Table};
 use crate::opening::open;
 use cidr_arrays::{Index, Key, Word};
+use cidr_lookup::Fault::Keys;
+use cidr_lookup::TableError::NoMemory;
 use std::alloc::{AllocError, Global};
 
 /// The tables of a file, by [`open`] and by [`check`](crate::check) of both, in the time and memory of these. The error
-/// is the first of those that [`Fault`] names, in its order, but that `NoMemory` of a table may come before what else is
-/// wrong with it.
+/// is the first of those that [`Fault`] names, in its order, but that want of memory for a table may come before what else
+/// is wrong with it.
 ///
 /// ```
 /// let table = checked(rt.alloc(), file.as_slice())?;
@@ -36,34 +37,24 @@ pub fn checked(alloc: Global, bytes: &[u8]) -> Result<Table<'_>, Fault>
     Ok(table)
 }
 
-/// Whether the parts are a table: the arrays are those of the keys, and the values lie one behind the other. The error
-/// is the first of those that [`TableFault`] names, in its order, but that `NoMemory` may come before any.
+/// Whether the parts are a table: the words are those of the look-up table of the keys, and the values lie one behind the
+/// other. The error is the first of those that [`TableFault`] names, in its order, but that want of memory may come before
+/// any.
 ///
-/// It takes O(n) for n rows, and O(1) for each entry of the first level. It allocates the keys, the answers and the first
-/// level, and frees them.
+/// It takes O(n) for n rows: the table is built, and compared as it goes. It allocates the keys and their ranges, and frees
+/// them.
 pub fn check<W: Family>(alloc: Global, part: &Part<'_>) -> Result<(), TableFault>
-    ensures table { IfOk result (λ _. IsStoredTable W.width W.numbers (parts_in part.now) part.now.shift) }
-    ensures refused { IfErr result (IsTableFault W.width W.numbers (parts_in part.now) part.now.shift) }
+    ensures table { IfOk result (λ _. IsStoredTable W.width W.padding W.numbers (parts_in part.now) part.now.steps) }
+    ensures refused { IfErr result (IsTableFault W.width W.padding W.numbers (parts_in part.now) part.now.steps) }
 {
-    let starts = W::addresses(part.starts);
     let addresses = W::addresses(part.addresses);
     let Ok(keys) = keys_of(alloc, addresses, part.lengths) else {
-        return Err(TableFault::NoMemory);
+        return Err(TableFault::Words(Keys(NoMemory)));
     };
-    let Ok(answers) = numbers_of(alloc, part.answers) else {
-        return Err(TableFault::NoMemory);
-    };
-    let Ok(level) = numbers_of(alloc, part.level) else {
-        return Err(TableFault::NoMemory);
-    };
-    if let Err(fault) = cidr_arrays::check(
-        keys.as_slice(),
-        starts,
-        answers.as_slice(),
-        level.as_slice(),
-        part.shift,
-    ) {
-        return Err(TableFault::Arrays(fault));
+    let (first, _) = part.first.as_chunks::<4>();
+    let (words, _) = part.words.as_chunks::<4>();
+    if let Err(fault) = cidr_lookup::check(alloc, keys.as_slice(), &first, &words, part.steps) {
+        return Err(TableFault::Words(fault));
     }
     let (offsets, _) = part.offsets.as_chunks::<4>();
     if !are_offsets(offsets, keys.len(), part.values.len()) {
@@ -89,18 +80,6 @@ fn keys_of<W: Word>(
         })?;
     }
     Ok(keys)
-}
-
-/// The numbers that bytes spell.
-fn numbers_of(alloc: Global, bytes: &[u8]) -> Result<Vec<u32>, AllocError>
-    ensures { IfOk result (λ numbers. numbers.items ≡ words bytes.now) }
-{
-    let (spelled, _) = bytes.as_chunks::<4>();
-    let mut numbers = Vec::with_capacity(alloc, spelled.len())?;
-    for i in 0..spelled.len() {
-        numbers.push(u32::from_le_bytes(spelled[i]))?;
-    }
-    Ok(numbers)
 }
 
 /// Whether offsets are those of so many values that lie one behind the other and have so many bytes together: there is

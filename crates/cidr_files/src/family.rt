@@ -1,10 +1,10 @@
 //! The families of addresses, as files have them.
-ghost use Rattle.std.specs.Prelude.{◌≡◌, ℕ, ◌++◌, ◌^◌, ◌<◌, List, length, map, OnOk, ◌≤◌};
+ghost use Rattle.std.specs.Prelude.{◌≡◌, ℕ, ◌++◌, ◌^◌, ◌<◌, List, length, map, OnOk};
 ghost use Rattle.cidr_files.specs.Layout.{wide_words, words};
-ghost use Rattle.cidr_files.specs.Spelling.{length-wide_bytes, length-word_bytes, spells_wide, spells_words, wide_address_bits, wide_bytes, wide_word_bits, word_bytes};
+ghost use Rattle.cidr_files.specs.Spelling.{length-wide_bytes, length-word_bytes, spells_wide, spells_words, wide_bytes, word_bytes};
 ghost use Rattle.cidr_files.specs.Written.{AreBelow, spelled};
 
-use cidr_arrays::Word;
+use cidr_lookup::Address;
 use std::alloc::AllocError;
 
 /// The bytes of an IPv4 address in a file: its number, the least significant byte first, which is not network byte
@@ -16,7 +16,7 @@ pub type Ipv4Bytes = [u8; 4];
 pub type Ipv6Bytes = [[u8; 8]; 2];
 
 /// A family of addresses, as files have them: [`Ipv4Bytes`] or [`Ipv6Bytes`].
-pub trait Family: Word {
+pub trait Family: Address {
     /// The numbers that bytes spell.
     ghost numbers: { List ℕ → List ℕ };
 
@@ -43,9 +43,6 @@ pub trait Family: Word {
 
     /// The bytes of numbers spell these.
     ghost spells: { (ns : List ℕ) → AreBelow (2 ^ Self.width) ns → numbers (spelled bytes_of ns) ≡ ns };
-
-    /// An address has more bits than a first level reads.
-    ghost wide: { 18 ≤ Self.width };
 }
 
 impl Family for [u8; 4] {
@@ -69,8 +66,6 @@ impl Family for [u8; 4] {
     ghost long = { length-word_bytes };
 
     ghost spells = { spells_words };
-
-    ghost wide = { wide_word_bits };
 }
 
 impl Family for [[u8; 8]; 2] {
@@ -96,6 +91,4 @@ impl Family for [[u8; 8]; 2] {
     ghost long = { length-wide_bytes };
 
     ghost spells = { spells_wide };
-
-    ghost wide = { wide_address_bits };
 }

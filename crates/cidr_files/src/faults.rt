@@ -1,6 +1,6 @@
 //! What is wrong with a file.
 
-use cidr_arrays::BuildError;
+use cidr_lookup::TableError;
 use std::alloc::AllocError;
 use std::error::Error;
 use std::fmt;
@@ -8,12 +8,11 @@ use std::fmt;
 /// What is wrong with a table: the first thing, or that there was no memory to see.
 #[derive(Debug, Drop, PartialEq)]
 pub enum TableFault {
-    /// The keys, the ranges or the first level: the message of that.
-    Arrays(cidr_arrays::Fault),
+    /// The keys or the words: the message of that. That of the keys may be that there was no memory to check the table: it
+    /// may be right or wrong, in whatever way.
+    Words(cidr_lookup::Fault),
     /// The values don't lie one behind the other, or there are not as many as keys: `values not one behind the other`.
     Offsets,
-    /// There was no memory to check it: it may be right or wrong, in whatever way. `memory allocation failed`.
-    NoMemory,
 }
 
 impl fmt::Display for TableFault {
@@ -24,9 +23,8 @@ impl fmt::Display for TableFault {
 
     fn fmt<W: fmt::Write>(&self, f: &mut fmt::Formatter<W>) -> fmt::Result {
         match self {
-            TableFault::Arrays(fault) => write!(f, "{fault}"),
+            TableFault::Words(fault) => write!(f, "{fault}"),
             TableFault::Offsets => f.write_str("values not one behind the other"),
-            TableFault::NoMemory => f.write_str("memory allocation failed"),
         }
     }
 }
@@ -38,14 +36,17 @@ impl Error for TableFault {}
 pub enum Fault {
     /// It doesn't begin with the bytes of a file of tables: `no file of tables`.
     Magic,
-    /// It is of this version, and not of version 1, which this library reads: `of another version than 1: 2`.
+    /// It is of version 1, which earlier releases wrote: `of version 1, which an older netset compile made: compile the table
+    /// anew`.
+    Old,
+    /// It is of this version, and not of version 2, which this library reads: `of another version than 2: 3`.
     Version(u32),
     /// It is shorter than its header says, or has not all of its header: `shorter than its header says`.
     Short,
     /// It is longer than its header says: `longer than its header says`.
     Long,
     /// The table of IPv4 networks is none, and this is why, or there was no memory to see: `no table of IPv4: not of
-    /// the keys: range 2`.
+    /// the keys: entry 2`.
     Ipv4(TableFault),
     /// The same of the table of IPv6 networks; that of IPv4 networks is right.
     Ipv6(TableFault),
@@ -60,7 +61,10 @@ impl fmt::Display for Fault {
     fn fmt<W: fmt::Write>(&self, f: &mut fmt::Formatter<W>) -> fmt::Result {
         match self {
             Fault::Magic => f.write_str("no file of tables"),
-            Fault::Version(other) => write!(f, "of another version than 1: {other}"),
+            Fault::Old => f.write_str(
+                "of version 1, which an older netset compile made: compile the table anew",
+            ),
+            Fault::Version(other) => write!(f, "of another version than 2: {other}"),
             Fault::Short => f.write_str("shorter than its header says"),
             Fault::Long => f.write_str("longer than its header says"),
             Fault::Ipv4(fault) => write!(f, "no table of IPv4: {fault}"),
@@ -74,13 +78,11 @@ impl Error for Fault {}
 /// Why no file was made; [`written`](crate::written) says what comes first.
 #[derive(Debug, Drop, PartialEq)]
 pub enum WriteError {
-    /// The keys are too many, or the key at an index is refused, and the message says which; `NoRoom` is never told.
-    Keys(BuildError),
+    /// The keys have no look-up table, or there was no memory: the message of that.
+    Table(TableError),
     /// The values don't lie one behind the other, there are not as many as keys, or they have 2^32 bytes or more
     /// together: `values not one behind the other, or too long`.
     Values,
-    /// There was no memory: `memory allocation failed`.
-    NoMemory,
 }
 
 impl fmt::Display for WriteError {
@@ -91,9 +93,8 @@ impl fmt::Display for WriteError {
 
     fn fmt<W: fmt::Write>(&self, f: &mut fmt::Formatter<W>) -> fmt::Result {
         match self {
-            WriteError::Keys(e) => write!(f, "{e}"),
+            WriteError::Table(e) => write!(f, "{e}"),
             WriteError::Values => f.write_str("values not one behind the other, or too long"),
-            WriteError::NoMemory => f.write_str("memory allocation failed"),
         }
     }
 }
@@ -102,22 +103,23 @@ impl Error for WriteError {}
 
 impl From<AllocError> for WriteError {
     ghost use Rattle.std.specs.Prelude.{◌≡◌};
-    ghost use Rattle.cidr_files.specs.declared.faults.WriteError.TheVariants.{NoMemory};
+    ghost use Rattle.cidr_files.specs.declared.faults.WriteError.TheVariants.{Table};
+    ghost use Rattle.cidr_lookup.specs.declared.table.TableError.TheVariants.{NoMemory};
 
-    ghost from_gives = { λ _ e. e ≡ NoMemory };
+    ghost from_gives = { λ _ e. e ≡ Table NoMemory };
 
     fn from(_error: AllocError) -> WriteError {
-        WriteError::NoMemory
+        WriteError::Table(TableError::NoMemory)
     }
 }
 
-impl From<BuildError> for WriteError {
+impl From<TableError> for WriteError {
     ghost use Rattle.std.specs.Prelude.{◌≡◌};
-    ghost use Rattle.cidr_files.specs.declared.faults.WriteError.TheVariants.{Keys};
+    ghost use Rattle.cidr_files.specs.declared.faults.WriteError.TheVariants.{Table};
 
-    ghost from_gives = { λ error e. e ≡ Keys error };
+    ghost from_gives = { λ error e. e ≡ Table error };
 
-    fn from(error: BuildError) -> WriteError {
-        WriteError::Keys(error)
+    fn from(error: TableError) -> WriteError {
+        WriteError::Table(error)
     }
 }

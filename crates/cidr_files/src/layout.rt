@@ -5,12 +5,12 @@
 pub struct Counts {
     /// How many rows it has.
     pub rows: u32,
-    /// How many ranges.
-    pub ranges: u32,
-    /// How many entries its first level has.
+    /// How many entries there are, of blocks of addresses with the same first bits.
     pub entries: u32,
-    /// How many of the last bits of an address the first level doesn't read.
-    pub shift: u32,
+    /// How many words the nodes have.
+    pub words: u32,
+    /// How many steps of six bits there are behind the first bits.
+    pub steps: u32,
     /// How many bytes its values have.
     pub values: u32,
 }
@@ -18,12 +18,10 @@ pub struct Counts {
 /// The parts of a table, in bytes as the file has them; README.md says what they are.
 #[derive(Clone, Copy)]
 pub struct Part<'a> {
-    /// The first addresses of the ranges.
-    pub starts: &'a [u8],
-    /// The answers of the ranges.
-    pub answers: &'a [u8],
-    /// The first level.
-    pub level: &'a [u8],
+    /// The entries of the blocks of addresses that have the same first bits, as `cidr_lookup` has them.
+    pub first: &'a [u8],
+    /// The words of the nodes.
+    pub words: &'a [u8],
     /// The first addresses of the keys.
     pub addresses: &'a [u8],
     /// Their prefix lengths.
@@ -32,8 +30,8 @@ pub struct Part<'a> {
     pub offsets: &'a [u8],
     /// The values.
     pub values: &'a [u8],
-    /// The shift of the first level.
-    pub shift: u32,
+    /// How many steps of six bits there are behind the first bits.
+    pub steps: u32,
 }
 
 /// The two tables of a file.

@@ -5,7 +5,6 @@
 //! bytes. [`written`] makes the bytes of a file. README.md describes them.
 #![tactic(auto)]
 
-mod arrays;
 mod building;
 mod checking;
 mod contents;

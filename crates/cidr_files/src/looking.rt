@@ -5,11 +5,10 @@ ghost use Rattle.cidr.specs.model.Network.{BeginsWith};
 ghost use Rattle.cidr_table.specs.model.Prefixes.{IsLongestMatch};
 ghost use Rattle.cidr_arrays.specs.Arrays.{prefix_bits};
 ghost use Rattle.cidr_files.specs.Layout.{words};
-ghost use Rattle.cidr_files.specs.Tables.{AreArrays, AreOffsets, stored_networks, offsets_in, part_at, parts_in, value_in};
+ghost use Rattle.cidr_files.specs.Tables.{AreLookUps, AreOffsets, stored_networks, offsets_in, part_at, parts_in, value_in};
 
 use crate::family::Family;
 use crate::layout::Part;
-use cidr_arrays::{Index, longest_match};
 
 /// What a look-up finds: a row, and where its value lies among the values.
 #[derive(Clone, Copy)]
@@ -28,19 +27,19 @@ pub struct Found {
 /// Whatever the bytes are, it reads nothing outside of them, and the row, counted from 0, is one of them. It is the
 /// longest match, and the value that of its row, in parts that [`check`](crate::check) accepted.
 ///
-/// It takes one search among the ranges that the first level leaves, O(log r) for r of them, and allocates nothing.
+/// It takes one step for each six bits that are needed to tell the match, as `find` of `cidr_lookup`, and allocates nothing.
 ///
 /// ```
 /// let (_row, name) = lookup(&table.ipv4, address.to_bits().to_le_bytes())?;
 /// ```
 pub fn lookup<'a, W: Family>(part: &Part<'a>, address: W) -> Option<(usize, &'a [u8])>
     ensures within { IfSome result (λ found. found.0 < length (stored_networks W.numbers (parts_in part.now))) }
-    ensures longest { IfSome result (λ found. AreArrays W.width W.numbers (parts_in part.now) part.now.shift
+    ensures longest { IfSome result (λ found. AreLookUps W.width W.padding W.numbers (parts_in part.now) part.now.steps
         → IsLongestMatch (prefix_bits W.width) (bits W.width (W.value address)) (stored_networks W.numbers (parts_in part.now)) (Some found.0)) }
-    ensures none { result ≡ None → AreArrays W.width W.numbers (parts_in part.now) part.now.shift
+    ensures none { result ≡ None → AreLookUps W.width W.padding W.numbers (parts_in part.now) part.now.steps
         → IsLongestMatch (prefix_bits W.width) (bits W.width (W.value address)) (stored_networks W.numbers (parts_in part.now)) None }
     ensures value { IfSome result (λ found.
-        AreOffsets (offsets_in (parts_in part.now)) (length (stored_networks W.numbers (parts_in part.now))) (length (part_at (parts_in part.now) 6))
+        AreOffsets (offsets_in (parts_in part.now)) (length (stored_networks W.numbers (parts_in part.now))) (length (part_at (parts_in part.now) 5))
         → found.1.now ≡ value_in (parts_in part.now) found.0) }
 {
     let found = find(part, address)?;
@@ -55,15 +54,15 @@ pub fn lookup<'a, W: Family>(part: &Part<'a>, address: W) -> Option<(usize, &'a 
 #[inline(always)]
 pub fn find<W: Family>(part: &Part<'_>, address: W) -> Option<Found>
     ensures within { IfSome result (λ found. found.row < length (stored_networks W.numbers (parts_in part.now))) }
-    ensures longest { IfSome result (λ found. AreArrays W.width W.numbers (parts_in part.now) part.now.shift
+    ensures longest { IfSome result (λ found. AreLookUps W.width W.padding W.numbers (parts_in part.now) part.now.steps
         → IsLongestMatch (prefix_bits W.width) (bits W.width (W.value address)) (stored_networks W.numbers (parts_in part.now)) (Some found.row)) }
-    ensures none { result ≡ None → AreArrays W.width W.numbers (parts_in part.now) part.now.shift
+    ensures none { result ≡ None → AreLookUps W.width W.padding W.numbers (parts_in part.now) part.now.steps
         → IsLongestMatch (prefix_bits W.width) (bits W.width (W.value address)) (stored_networks W.numbers (parts_in part.now)) None }
     ensures ordered { IfSome result (λ found. found.from ≤ found.to) }
-    ensures inside { IfSome result (λ found. found.to ≤ length (part_at (parts_in part.now) 6)) }
+    ensures inside { IfSome result (λ found. found.to ≤ length (part_at (parts_in part.now) 5)) }
     ensures value { IfSome result (λ found.
-        AreOffsets (offsets_in (parts_in part.now)) (length (stored_networks W.numbers (parts_in part.now))) (length (part_at (parts_in part.now) 6))
-        → slice_range (part_at (parts_in part.now) 6) found.from found.to ≡ value_in (parts_in part.now) found.row) }
+        AreOffsets (offsets_in (parts_in part.now)) (length (stored_networks W.numbers (parts_in part.now))) (length (part_at (parts_in part.now) 5))
+        → slice_range (part_at (parts_in part.now) 5) found.from found.to ≡ value_in (parts_in part.now) found.row) }
 {
     let row = row_of(part, address)?;
     let (from, to) = place_of(part, row);
@@ -77,7 +76,7 @@ pub fn find<W: Family>(part: &Part<'_>, address: W) -> Option<Found>
 /// has(&table.ipv6, Ipv6Bytes::of(address.to_bits()))
 /// ```
 pub fn has<W: Family>(part: &Part<'_>, address: W) -> bool
-    ensures { AreArrays W.width W.numbers (parts_in part.now) part.now.shift
+    ensures { AreLookUps W.width W.padding W.numbers (parts_in part.now) part.now.steps
         → (IsTrue result ↔ ((network : ℕ × ℕ) × Contains (stored_networks W.numbers (parts_in part.now)) network
         × BeginsWith (bits W.width (W.value address)) (prefix_bits W.width network))) }
 {
@@ -92,15 +91,17 @@ pub fn has<W: Family>(part: &Part<'_>, address: W) -> bool
 fn row_of<W: Family>(part: &Part<'_>, address: W) -> Option<usize>
     ensures within { IfSome result (λ row. row < length (stored_networks W.numbers (parts_in part.now))) }
     ensures short { IfSome result (λ row. row < 2 ^ 63) }
-    ensures longest { AreArrays W.width W.numbers (parts_in part.now) part.now.shift
+    ensures longest { AreLookUps W.width W.padding W.numbers (parts_in part.now) part.now.steps
         → IsLongestMatch (prefix_bits W.width) (bits W.width (W.value address)) (stored_networks W.numbers (parts_in part.now)) result }
 {
-    let starts = W::addresses(part.starts);
-    let (answers, _) = part.answers.as_chunks::<4>();
-    let (level, _) = part.level.as_chunks::<4>();
+    let (first, _) = part.first.as_chunks::<4>();
+    let (words, _) = part.words.as_chunks::<4>();
     let addresses = W::addresses(part.addresses);
-    let rows = addresses.len().min(part.lengths.len());
-    longest_match(starts, answers, level, part.shift, rows, address)
+    let row = cidr_lookup::find(&first, &words, part.steps, address)?;
+    if row >= addresses.len().min(part.lengths.len()) {
+        return None;
+    }
+    Some(row)
 }
 
 /// Where the value of a row begins and ends, or twice 0 where the offsets are wrong.
@@ -108,9 +109,9 @@ fn row_of<W: Family>(part: &Part<'_>, address: W) -> Option<usize>
 fn place_of(part: &Part<'_>, row: usize) -> (u32, u32)
     requires { row < 2 ^ 63 }
     ensures ordered { result.0 ≤ result.1 }
-    ensures inside { result.1 ≤ length (part_at (parts_in part.now) 6) }
-    ensures value { (rows : ℕ) → row < rows → AreOffsets (offsets_in (parts_in part.now)) rows (length (part_at (parts_in part.now) 6))
-        → slice_range (part_at (parts_in part.now) 6) result.0 result.1 ≡ value_in (parts_in part.now) row }
+    ensures inside { result.1 ≤ length (part_at (parts_in part.now) 5) }
+    ensures value { (rows : ℕ) → row < rows → AreOffsets (offsets_in (parts_in part.now)) rows (length (part_at (parts_in part.now) 5))
+        → slice_range (part_at (parts_in part.now) 5) result.0 result.1 ≡ value_in (parts_in part.now) row }
 {
     let (offsets, _) = part.offsets.as_chunks::<4>();
     if row + 1 >= offsets.len() {

@@ -11,13 +11,16 @@ use crate::layout::{Counts, Part, Table};
 pub(crate) const MAGIC: u32 = 0x4449_4389;
 
 /// The version that is read and written.
-pub(crate) const VERSION: u32 = 1;
+pub(crate) const VERSION: u32 = 2;
+
+/// The version of the files of earlier releases.
+const OLD_VERSION: u32 = 1;
 
 /// The size of the header.
 const HEADER: usize = 64;
 
 /// The tables of a file, in parts that are not yet checked: a few reads, however long it is, and no allocation. The
-/// error is the first of `Magic`, `Version`, and `Short` or `Long`.
+/// error is the first of `Magic`, `Old` or `Version`, and `Short` or `Long`.
 pub fn open(bytes: &[u8]) -> Result<Table<'_>, Fault>
     ensures laid_out { IfOk result (λ _. IsLaidOut bytes.now) }
     ensures cut { IfOk result (IsTableCutFrom bytes.now) }
@@ -28,6 +31,9 @@ pub fn open(bytes: &[u8]) -> Result<Table<'_>, Fault>
         return Err(Fault::Magic);
     }
     let version = word_at(bytes, 1);
+    if version == OLD_VERSION {
+        return Err(Fault::Old);
+    }
     if version != VERSION {
         return Err(Fault::Version(version));
     }
@@ -59,30 +65,27 @@ pub fn counts(bytes: &[u8]) -> (Counts, Counts)
 fn part_of<'a>(bytes: &'a [u8], size: usize, counts: &Counts) -> Option<(Part<'a>, &'a [u8])>
     requires { size ≤ 16 }
     ensures parts { IfSome result (λ found. parts_in found.0 ≡ parts_by_size (sizes_of size counts.now) bytes.now) }
-    ensures shift { IfSome result (λ found. found.0.shift ≡ counts.now.shift) }
+    ensures steps { IfSome result (λ found. found.0.steps ≡ counts.now.steps) }
     ensures rest { IfSome result (λ found. found.1.now ≡ bytes_behind (sizes_of size counts.now) bytes.now) }
     ensures left { IfSome result
         (λ found. length found.1.now + padded_room (sizes_of size counts.now) ≡ length bytes.now) }
     ensures none { result ≡ None → length bytes.now < padded_room (sizes_of size counts.now) }
 {
     let rows = counts.rows as usize;
-    let ranges = counts.ranges as usize;
-    let (starts, rest) = cut(bytes, size * ranges)?;
-    let (answers, rest) = cut(rest, 4 * ranges)?;
-    let (level, rest) = cut(rest, 4 * counts.entries as usize)?;
+    let (first, rest) = cut(bytes, 4 * counts.entries as usize)?;
+    let (words, rest) = cut(rest, 4 * counts.words as usize)?;
     let (addresses, rest) = cut(rest, size * rows)?;
     let (lengths, rest) = cut(rest, rows)?;
     let (offsets, rest) = cut(rest, 4 * (rows + 1))?;
     let (values, rest) = cut(rest, counts.values as usize)?;
     let part = Part {
-        starts,
-        answers,
-        level,
+        first,
+        words,
         addresses,
         lengths,
         offsets,
         values,
-        shift: counts.shift,
+        steps: counts.steps,
     };
     Some((part, rest))
 }
@@ -109,9 +112,9 @@ fn counts_at(bytes: &[u8], index: usize) -> Counts
 {
     Counts {
         rows: word_at(bytes, index),
-        ranges: word_at(bytes, index + 1),
-        entries: word_at(bytes, index + 2),
-        shift: word_at(bytes, index + 3),
+        entries: word_at(bytes, index + 1),
+        words: word_at(bytes, index + 2),
+        steps: word_at(bytes, index + 3),
         values: word_at(bytes, index + 4),
     }
 }

@@ -1,8 +1,8 @@
 //! Files of tables, written.
 ghost use Rattle.std.specs.Prelude.{◌≡◌, ◌+◌, ◌%◌, ◌^◌, ◌<◌, ◌++◌, length, map, replicate, IfOk, OnOk};
 ghost use Rattle.std.specs.Int.{from_le_bytes, w32};
-ghost use Rattle.cidr_files.specs.Contents.{AreContents, HasRows, HasZerosBetween, key_addresses, head_of, lengths_of, parts_written};
-ghost use Rattle.cidr_files.specs.Layout.{ipv4_parts, ipv6_parts, wide_word, wide_words, words};
+ghost use Rattle.cidr_files.specs.Contents.{AreContents, HasRows, HasZerosBetween, file_bytes, key_addresses, head_of, lengths_of, parts_written};
+ghost use Rattle.cidr_files.specs.Layout.{ipv4_counts, ipv4_parts, ipv6_counts, ipv6_parts, wide_word, wide_words, words};
 ghost use Rattle.cidr_files.specs.Spelling.{word_bytes};
 ghost use Rattle.cidr_files.specs.Tables.{IsFile, IsSmall};
 ghost use Rattle.cidr_files.specs.Written.{AreBelow, filled, free, joined_parts, spelled};
@@ -14,24 +14,27 @@ use crate::opening::{MAGIC, VERSION};
 use cidr_arrays::Key;
 use std::alloc::{AllocError, Global};
 
-/// The bytes of a file of two tables whose arrays the caller has; of rows alone, take `written`. It takes a pass over
+/// The bytes of a file of two tables whose words the caller has; of rows alone, take `written`. It takes a pass over
 /// the bytes and allocates them. The error is that an allocation fails.
 ///
-/// The caller has to prove that each table is one: that its arrays are those of its keys, as `build` and `fill_level`
-/// of `cidr_arrays` write them, that its values lie one behind the other, and that there are fewer than 2^31 keys,
-/// fewer than 2^32 ranges, entries and bytes of values, and a shift below 32, or 128 in IPv6.
+/// The caller has to prove that each table is one: that its words are those of its keys, as `build` of `cidr_lookup`
+/// returns them, that its values lie one behind the other, and that there are fewer than 2^31 keys, entries and words,
+/// and fewer than 2^32 bytes of values.
 pub fn file_of(
     alloc: Global,
     ipv4: &Contents<'_, Ipv4Bytes>,
     ipv6: &Contents<'_, Ipv6Bytes>,
 ) -> Result<Vec<u8>, AllocError>
-    requires ipv4 { AreContents 32 (from_le_bytes w32) ipv4.now }
-    requires ipv6 { AreContents 128 wide_word ipv6.now }
+    requires ipv4 { AreContents 32 4 (from_le_bytes w32) ipv4.now }
+    requires ipv6 { AreContents 128 0 wide_word ipv6.now }
     ensures file { IfOk result (λ bytes. IsFile bytes.items) }
     ensures small { IfOk result (λ bytes. IsSmall bytes.items) }
     ensures zeros { IfOk result (λ bytes. HasZerosBetween bytes.items) }
     ensures ipv4 { IfOk result (λ bytes. HasRows words (ipv4_parts bytes.items) (from_le_bytes w32) ipv4.now.rows.now) }
     ensures ipv6 { IfOk result (λ bytes. HasRows wide_words (ipv6_parts bytes.items) wide_word ipv6.now.rows.now) }
+    ensures ipv4_steps { IfOk result (λ bytes. (ipv4_counts bytes.items).steps ≡ ipv4.now.steps) }
+    ensures ipv6_steps { IfOk result (λ bytes. (ipv6_counts bytes.items).steps ≡ ipv6.now.steps) }
+    ensures all { IfOk result (λ bytes. bytes.items ≡ file_bytes ipv4.now ipv6.now) }
 {
     let mut out = Vec::new(alloc);
     put_head(&mut out, &counts_of(ipv4), &counts_of(ipv6))?;
@@ -52,15 +55,15 @@ fn put_head(out: &mut Vec<u8>, ipv4: &Counts, ipv6: &Counts) -> Result<(), Alloc
         0,
         0,
         ipv4.rows,
-        ipv4.ranges,
         ipv4.entries,
-        ipv4.shift,
+        ipv4.words,
+        ipv4.steps,
         ipv4.values,
         0,
         ipv6.rows,
-        ipv6.ranges,
         ipv6.entries,
-        ipv6.shift,
+        ipv6.words,
+        ipv6.steps,
         ipv6.values,
         0,
     ];
@@ -75,24 +78,12 @@ fn put_contents<W: Family>(out: &mut Vec<u8>, contents: &Contents<'_, W>) -> Res
     ensures parts { OnOk result (out.new.items ≡ out.old.items ++ joined_parts (parts_written W.value W.bytes_of contents.now)) }
     ensures aligned { OnOk result (length out.new.items % 8 ≡ 0) }
 {
-    put_address_part(out, contents.starts)?;
-    put_word_part(out, contents.answers)?;
-    put_word_part(out, contents.level)?;
+    put_word_part(out, contents.first)?;
+    put_word_part(out, contents.words)?;
     put_key_part(out, contents.rows.keys)?;
     put_length_part(out, contents.rows.keys)?;
     put_word_part(out, contents.rows.offsets)?;
     put_part(out, contents.rows.values)?;
-    Ok(())
-}
-
-/// Writes a part of addresses.
-fn put_address_part<W: Family>(out: &mut Vec<u8>, addresses: &[W]) -> Result<(), AllocError>
-    requires { length out.old.items % 8 ≡ 0 }
-    ensures part { OnOk result (out.new.items ≡ out.old.items ++ filled (spelled W.bytes_of (map W.value addresses.now))) }
-    ensures aligned { OnOk result (length out.new.items % 8 ≡ 0) }
-{
-    put_addresses(out, addresses)?;
-    fill(out)?;
     Ok(())
 }
 
@@ -138,16 +129,6 @@ fn put_part(out: &mut Vec<u8>, part: &[u8]) -> Result<(), AllocError>
 {
     out.extend_from_slice(part)?;
     fill(out)?;
-    Ok(())
-}
-
-/// Writes the bytes of addresses.
-fn put_addresses<W: Family>(out: &mut Vec<u8>, addresses: &[W]) -> Result<(), AllocError>
-    ensures { OnOk result (out.new.items ≡ out.old.items ++ spelled W.bytes_of (map W.value addresses.now)) }
-{
-    for i in 0..addresses.len() {
-        W::put(addresses[i].number(), out)?;
-    }
     Ok(())
 }
 

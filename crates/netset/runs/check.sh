@@ -1542,6 +1542,11 @@ le() {
     done
 }
 
+# zeros COUNT: so many words of 0.
+zeros() {
+    printf '\\x00%.0s' $(seq $((4 * $1)))
+}
+
 # saved NAME BYTES: whether a file has exactly these bytes, and none is beside it.
 saved() {
     if ! printf '%b' "$2" | cmp -s - "$room/$1" || [[ -n $(cd "$room" && compgen -G ".netset-*") ]]; then
@@ -1561,12 +1566,11 @@ kept() {
 # Tables as files of look-ups. Their bytes are put together by hand, from the page of the crate cidr_files.
 rows_of_compiled_tables() {
     local none row same=$': the same file as TABLE\n'
-    # no row: one range, and the entries of a first level that reads one bit
-    none=$(le 0x44494389 1 0 0 0 1 3 31 0 0 0 1 3 127 0 0)$(le 0 0)$(le 0 0)$(le 0 0 0 0)$(le 0 0)
-    none+=$(le 0 0 0 0)$(le 0 0)$(le 0 0 0 0)$(le 0 0)
-    # 10.0.0.0/8 with the value x: ranges from 0, 10 << 24 and 11 << 24, and a first level that reads two bits
-    row=$(le 0x44494389 1 0 0 1 3 5 30 1 0 0 1 3 127 0 0)$(le 0 0x0a000000 0x0b000000 0)$(le 0 1 0 0)$(le 0 2 2 2 2 0)
-    row+=$(le 0x0a000000 0)$(le 8 0)$(le 0 1)$(le 0x78 0)$(le 0 0 0 0)$(le 0 0)$(le 0 0 0 0)$(le 0 0)
+    # no row: entries of 64 blocks of IPv4 and 256 of IPv6, and the one offset of each family
+    none=$(le 0x44494389 2 0 0 0 64 0 5 0 0 0 256 0 20 0 0)$(zeros 66)$(zeros 258)
+    # 10.0.0.0/8 with the value x: the block of 8.0.0.0/6 has a node, whose parts 32 to 47 of 64 have the first row
+    row=$(le 0x44494389 2 0 0 1 64 5 5 1 0 0 256 0 20 0 0)$(le 0 0 0x80000000)$(zeros 61)$(le 0x80008000 0x80000000 0 1 0 0)
+    row+=$(le 0x0a000000 0)$(le 8 0)$(le 0 1)$(le 0x78 0)$(zeros 258)
     run 0 '' '' '' compile nothing compiled
     saved compiled "$none"
     run 0 '' '' '# x\n10.0.0.0/8 y\n10.0.0.0/8 \tx \r\n' compile - compiled
@@ -1761,6 +1765,7 @@ rows_of_a_full_disk() {
 # Files of look-ups in the place of TABLE and of LIST: the answers are those of the table that they were made of.
 rows_of_stored_tables() {
     local addresses found size at other=$': no lines, and no file of look-ups\n'
+    local old=$': a file of look-ups of version 1, which an older netset made: compile the table anew\n'
     addresses='10.2.0.1\n10.1.2.3 and more\r\n\n # 10.1.2.3\n192.0.2.7#\n192.0.2.8 ;\n2001:DB8:0::1\n\t::1'
     found=$'10.2.0.1 10.0.0.0/8 ten\n10.1.2.3 10.1.0.0/16 x  y \t; z\n192.0.2.7 192.0.2.7\n192.0.2.8 -\n2001:db8::1 2001:db8::/32 \xff#\n::1 ::/0 all\n'
     run 0 '' '' '' compile owners compiled
@@ -1777,7 +1782,7 @@ rows_of_stored_tables() {
     run 1 $'10.0.0.1 -\n' '' '10.0.0.1' look none
     run 0 '' '' '10.0.0.0/8 x' compile - one
     run 1 $'11.0.0.0 -\n::1 -\n' '' '11.0.0.0\n::1' look one
-    # a file that was cut, that has bytes behind its end, that is of another version or was changed
+    # a file that was cut, that has bytes behind its end, that is of version 1 or another or was changed
     size=$(wc -c <"$room/compiled")
     for at in 8 63 64 65 "$((size / 2))" "$((size - 1))"; do
         head -c "$at" "$room/compiled" >"$room/part"
@@ -1790,7 +1795,10 @@ rows_of_stored_tables() {
     run 2 '' "-$other" '\x89PNG\r\n' look - address
     { cat "$room/compiled" && printf '\0\0\0\0\0\0\0\0'; } >"$room/part"
     run 2 '' $'part: a file of look-ups with bytes behind its end\n' '' look part
-    with_byte 4 2
+    with_byte 4 1
+    run 2 '' "part$old" '' look part
+    run 2 '' "part$old" '' match part
+    with_byte 4 3
     run 2 '' $'part: a file of look-ups of another version\n' '' look part
     with_byte 64 1
     run 2 '' $'part: a file of look-ups that was changed\n' '' look part

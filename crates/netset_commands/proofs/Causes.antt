@@ -24,7 +24,7 @@ use Rattle.netset_commands.specs.declared.output.answers.Verdict.{Verdict}
 use Rattle.netset_commands.specs.declared.errors.ArgumentError.{ArgumentError}
 use Rattle.netset_commands.specs.declared.errors.CommandError.{CommandError}
 use Rattle.netset_commands.specs.declared.errors.CommandError.TheVariants as error
-use Rattle.netset_commands.specs.declared.errors.FileError.TheVariants.{TooLarge, NotSaved, Hole, Unlike, Version, Short, Long, Changed}
+use Rattle.netset_commands.specs.declared.errors.FileError.TheVariants.{TooLarge, NotSaved, Hole, Unlike, Old, Version, Short, Long, Changed}
 use Rattle.cidr_lists.specs.declared.errors.LineError.{LineError}
 use Rattle.cidr_lists.specs.declared.forms.RowForm.{RowForm}
 use Rattle.netset_commands.specs.declared.errors.ReadError.{ReadError}
@@ -179,6 +179,7 @@ uncompiled contents refused form table name (error.File file (NotSaved why)) (in
 uncompiled contents refused form table name (error.File file TooLarge) is h = h
 uncompiled contents refused form table name (error.File file Hole) is h = h
 uncompiled contents refused form table name (error.File file Unlike) is h = h
+uncompiled contents refused form table name (error.File file Old) is h = h
 uncompiled contents refused form table name (error.File file Version) is h = h
 uncompiled contents refused form table name (error.File file Short) is h = h
 uncompiled contents refused form table name (error.File file Long) is h = h

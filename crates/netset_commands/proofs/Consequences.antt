@@ -18,7 +18,7 @@ use Rattle.netset_commands.specs.declared.commands.Reading.{Reading}
 use Rattle.netset_commands.specs.declared.errors.CommandError.{CommandError}
 use Rattle.netset_commands.specs.declared.errors.CommandError.TheVariants as error
 use Rattle.netset_commands.specs.declared.errors.Unsaved.TheVariants as unsaved
-use Rattle.netset_commands.specs.declared.errors.FileError.TheVariants.{TooLarge, NotSaved, Hole, Unlike, Version, Short, Long, Changed}
+use Rattle.netset_commands.specs.declared.errors.FileError.TheVariants.{TooLarge, NotSaved, Hole, Unlike, Old, Version, Short, Long, Changed}
 use Rattle.cidr_io.proofs.Chains.{whole_none}
 use Rattle.netset_commands.proofs.Telling.{tells_nothing}
 use Rattle.netset_commands.proofs.Typed.{typed_asks}
@@ -42,6 +42,7 @@ above_one (error.File name (NotSaved unsaved.Same)) = omega arith
 above_one (error.File name (NotSaved unsaved.Unknown)) = omega arith
 above_one (error.File name Hole) = omega arith
 above_one (error.File name Unlike) = omega arith
+above_one (error.File name Old) = omega arith
 above_one (error.File name Version) = omega arith
 above_one (error.File name Short) = omega arith
 above_one (error.File name Long) = omega arith

@@ -19,13 +19,14 @@ use Rattle.cidr.specs.laws.NetworkLaws.{length-first_of}
 use Rattle.cidr.specs.model.Bits.{bit_cmp, number}
 use Rattle.cidr.specs.model.Network.{first_of, zeros}
 use Rattle.cidr_arrays.specs.Arrays.{AreAscendingNetworks, AreNetworksUpTo, IsNetwork, Precedes, key_networks}
-use Rattle.cidr_arrays.specs.declared.building.BuildError.TheVariants.{TooMany, Refused, NoRoom}
 use Rattle.cidr_arrays.specs.declared.key.Key.{Key}
 use Rattle.cidr_files.specs.Contents.{AreRowsUnwritten}
 use Rattle.cidr_files.specs.Tables.{AreOffsets}
 use Rattle.cidr_files.specs.declared.contents.Rows.{Rows}
-use Rattle.cidr_files.specs.declared.faults.WriteError.{WriteError}
-use Rattle.cidr_files.specs.declared.faults.WriteError.TheVariants.{Keys, Values, NoMemory}
+use Rattle.cidr_files.specs.declared.faults.WriteError.TheVariants.{Table, Values}
+use Rattle.cidr_lookup.specs.Tables.{HasTooManyWords}
+use Rattle.cidr_lookup.specs.declared.table.TableError.{TableError}
+use Rattle.cidr_lookup.specs.declared.table.TableError.TheVariants.{TooMany, Refused, TooLarge, NoMemory}
 use Rattle.cidr_lists.specs.Tables.{resolved, value_at}
 use Rattle.cidr_lists.specs.declared.rows.Span.{Span}
 use Rattle.netset_commands.specs.Columns.{AreColumns, numbered_network, value_bytes}
@@ -103,11 +104,12 @@ bytes_said all (row ∷ rows) =
     sum_by-cons f (resolved all row) (map (resolved all) rows) ∙ (ap (λ (n : ℕ). g row + n) (bytes_said all rows) ∙ sym (sum_by-cons g row rows))
 
 -- their values are too long
-pub long_values : (all : List ℕ) (rows : List (List Bool × Span)) → 2 ^ 32 ≤ value_bytes all rows → AreTooLarge (map (resolved all) rows)
-long_values all rows long = inr (omega (arith, long, bytes_said all rows))
+pub long_values : (w padding : ℕ) (steps : ℕ → ℕ) (all : List ℕ) (rows : List (List Bool × Span)) → 2 ^ 32 ≤ value_bytes all rows
+    → AreTooLarge w padding steps (map (resolved all) rows)
+long_values w padding steps all rows long = inr (inl (omega (arith, long, bytes_said all rows)))
 
 -- ---- why columns are not written: they are too large
-module _ {W : Type 0} (w : ℕ) (value : W → ℕ) (all : List ℕ) (rows : List (List Bool × Span)) (columns : Columns W) (file : Rows W)
+module _ {W : Type 0} (w padding : ℕ) (steps : ℕ → ℕ) (value : W → ℕ) (all : List ℕ) (rows : List (List Bool × Span)) (columns : Columns W) (file : Rows W)
     (are : AreColumns w value (λ (p : List Bool). p) all rows columns) (keys : file.keys.now ≡ columns.keys.items) (offsets : file.offsets.now ≡ columns.offsets.items)
     (values : file.values.now ≡ columns.values.items) (sorted : IsStrictlySortedBy bit_cmp (keys_of rows)) where
   networks_are : key_networks value file.keys.now ≡ map (numbered_network w) (keys_of rows)
@@ -127,13 +129,24 @@ module _ {W : Type 0} (w : ℕ) (value : W → ℕ) (all : List ℕ) (rows : Lis
       (subst (λ (n : ℕ). AreOffsets columns.offsets.items n (length file.values.now)) (sym many_keys)
       (subst (λ (vs : List ℕ). AreOffsets columns.offsets.items (length rows) (length vs)) (sym values) are.offsets))
 
-  pub only_large : (e : WriteError) → e ≢ NoMemory → AreRowsUnwritten w value file e → AreTooLarge (map (resolved all) rows)
-  only_large (Keys TooMany) other many = inl (omega (arith, many, many_keys, length-map rows (resolved all)))
-  only_large (Keys (Refused place)) other (few, fine, (within, before, refused)) =
+  -- the networks of the table
+  all_networks : map (λ (row : List Bool × List ℕ). numbered_network w row.0) (map (resolved all) rows) ≡ key_networks value file.keys.now
+  all_networks = map-map (λ (row : List Bool × List ℕ). numbered_network w row.0) (resolved all) rows ∙ (sym are.networks ∙ sym (ap (key_networks value) keys))
+
+  -- why the keys have no table
+  pub only_large : (e : TableError) → e ≢ NoMemory → AreRowsUnwritten w padding steps value file (Table e) → AreTooLarge w padding steps (map (resolved all) rows)
+  only_large TooMany other many = inl (omega (arith, many, many_keys, length-map rows (resolved all)))
+  only_large (Refused place) other (fine, (few, (within, before, refused))) =
       absurd (refused (one_up w (key_networks value file.keys.now) place within are_ascending))
-  only_large (Keys NoRoom) other never = absurd never
-  only_large Values other (few, wrong) = elim (cases_lt (length file.values.now) (2 ^ 32)) [
-    | inl short ↦ absurd (wrong (record { offsets = places_are; sizes = short }))
-    | inr long ↦ long_values all rows (omega (arith, long, ap length values, are.total))
-  ]
+  only_large TooLarge other (fine, (few, ascend, many)) =
+      let count : length file.keys.now ≡ length (map (resolved all) rows) = many_keys ∙ sym (length-map rows (resolved all)) in
+      inr (inr (subst (λ (k : ℕ). HasTooManyWords w padding (steps k) (map (λ (row : List Bool × List ℕ). numbered_network w row.0) (map (resolved all) rows))) count
+      (subst (λ (ns : List (ℕ × ℕ)). HasTooManyWords w padding (steps (length file.keys.now)) ns) (sym all_networks) many)))
   only_large NoMemory other h = absurd (other refl)
+
+  -- or the values do not lie one behind the other
+  pub only_long : AreRowsUnwritten w padding steps value file Values → AreTooLarge w padding steps (map (resolved all) rows)
+  only_long (few, wrong) = elim (cases_lt (length file.values.now) (2 ^ 32)) [
+    | inl short ↦ absurd (wrong (record { offsets = places_are; sizes = short }))
+    | inr long ↦ long_values w padding steps all rows (omega (arith, long, ap length values, are.total))
+  ]

@@ -70,20 +70,20 @@ prefixes w numbers parts = map (prefix_bits w) (stored_networks numbers parts)
 
 -- one more
 network_at : {W : Type 0} (w : ℕ) (value : W → ℕ) (numbers : List ℕ → List ℕ) (parts : List (List ℕ)) (addresses : List W) (row len : ℕ) (address : W)
-    → map value addresses ≡ numbers (part_at parts 3) → row < length addresses → row < length (part_at parts 4) → address ≡ get_or addresses row address
-    → len ≡ get_or (part_at parts 4) row 0 → take len (bits w (value address)) ≡ prefix_bits w (get_or (stored_networks numbers parts) row (0, 0))
+    → map value addresses ≡ numbers (part_at parts 2) → row < length addresses → row < length (part_at parts 3) → address ≡ get_or addresses row address
+    → len ≡ get_or (part_at parts 3) row 0 → take len (bits w (value address)) ≡ prefix_bits w (get_or (stored_networks numbers parts) row (0, 0))
 network_at w value numbers parts addresses row len address are l l' here at =
-    let numbered : get_or (numbers (part_at parts 3)) row 0 ≡ value address =
+    let numbered : get_or (numbers (part_at parts 2)) row 0 ≡ value address =
     ap (λ (ns : List ℕ). get_or ns row 0) (sym are) ∙ (get_or-map value addresses row address 0 l ∙ ap value (sym here)) in
-    let within : row < length (numbers (part_at parts 3)) = omega (arith, l, ap length are, length-map addresses value) in
+    let within : row < length (numbers (part_at parts 2)) = omega (arith, l, ap length are, length-map addresses value) in
     let pair : get_or (stored_networks numbers parts) row (0, 0) ≡ (value address, len) =
-    get_or-zip (numbers (part_at parts 3)) (part_at parts 4) row (0, 0) within l' ∙ ap₂ (λ (a b : ℕ). (a, b)) numbered (sym at) in
+    get_or-zip (numbers (part_at parts 2)) (part_at parts 3) row (0, 0) within l' ∙ ap₂ (λ (a b : ℕ). (a, b)) numbered (sym at) in
     ap (prefix_bits w) (sym pair)
 
 pub network_pushed : {C W : Type 0} (bits_of : C → List Bool) (w : ℕ) (value : W → ℕ) (numbers : List ℕ → List ℕ) (parts : List (List ℕ)) (addresses : List W)
     (old now new : List C) (row len : ℕ) (address : W) (host item : C)
-    → map value addresses ≡ numbers (part_at parts 3) → row < length addresses → row < length (part_at parts 4) → address ≡ get_or addresses row address
-    → len ≡ get_or (part_at parts 4) row 0 → bits_of host ≡ bits w (value address) → bits_of item ≡ take len (bits_of host) → new ≡ now ++ item ∷ []
+    → map value addresses ≡ numbers (part_at parts 2) → row < length addresses → row < length (part_at parts 3) → address ≡ get_or addresses row address
+    → len ≡ get_or (part_at parts 3) row 0 → bits_of host ≡ bits w (value address) → bits_of item ≡ take len (bits_of host) → new ≡ now ++ item ∷ []
     → map bits_of now ≡ map bits_of old ++ map (prefix_bits w) (take row (stored_networks numbers parts))
     → map bits_of new ≡ map bits_of old ++ map (prefix_bits w) (take (row + 1) (stored_networks numbers parts))
 network_pushed bits_of w value numbers parts addresses old now new row len address host item are l l' here at hosted clipped pushed h =
@@ -92,7 +92,7 @@ network_pushed bits_of w value numbers parts addresses old now new row len addre
     let named : bits_of item ≡ f (get_or networks row (0, 0)) =
     clipped ∙ (ap (take len) hosted ∙ network_at w value numbers parts addresses row len address are l l' here at) in
     let within : row < length networks =
-    omega (arith, l, l', length-zip (numbers (part_at parts 3)) (part_at parts 4), ap length are, length-map addresses value) in
+    omega (arith, l, l', length-zip (numbers (part_at parts 2)) (part_at parts 3), ap length are, length-map addresses value) in
     ap (map bits_of) pushed
     ∙ (map_push bits_of now item
     ∙ (ap₂ (λ (xs : List (List Bool)) (x : List Bool). xs ++ x ∷ []) h named
@@ -100,13 +100,13 @@ network_pushed bits_of w value numbers parts addresses old now new row len addre
     ∙ ap (λ (xs : List (List Bool)). map bits_of old ++ xs) (sym (map_more f networks row (0, 0) within)))))
 
 pub networks_pushed : {C W : Type 0} (bits_of : C → List Bool) (w : ℕ) (value : W → ℕ) (numbers : List ℕ → List ℕ) (parts : List (List ℕ)) (addresses : List W)
-    (old new : List C) (rows row : ℕ) → map value addresses ≡ numbers (part_at parts 3) → rows ≡ min (length addresses) (length (part_at parts 4)) → rows ≤ row
+    (old new : List C) (rows row : ℕ) → map value addresses ≡ numbers (part_at parts 2) → rows ≡ min (length addresses) (length (part_at parts 3)) → rows ≤ row
     → map bits_of new ≡ map bits_of old ++ map (prefix_bits w) (take row (stored_networks numbers parts))
     → map bits_of new ≡ map bits_of old ++ map (prefix_bits w) (stored_networks numbers parts)
 networks_pushed bits_of w value numbers parts addresses old new rows row are is end h =
     let networks = stored_networks numbers parts in
     let past : length networks ≤ row =
-    omega (arith, is, end, length-zip (numbers (part_at parts 3)) (part_at parts 4), ap length are, length-map addresses value) in
+    omega (arith, is, end, length-zip (numbers (part_at parts 2)) (part_at parts 3), ap length are, length-map addresses value) in
     h ∙ ap (λ (ns : List (ℕ × ℕ)). map bits_of old ++ map (prefix_bits w) ns) (take_all row networks past)
 
 listed_rows : (table : Table) (old new : Lists) → old.v4.items ≡ [] → old.v6.items ≡ [] → new.v4.items ≡ old.v4.items ++ prefixes 32 words (parts_in table.ipv4)

@@ -126,20 +126,20 @@ network_clipped w asked network fits begins =
     subst (λ (k : ℕ). take k asked ≡ prefix_bits w network) long begins
 
 -- the row that was found, by the beginning of the address and by its value
-pub found_clipped : (w : ℕ) (numbers : List ℕ → List ℕ) (parts : List (List ℕ)) (shift : ℕ) (asked : List Bool) (i len : ℕ) (network : List Bool) (value : List ℕ)
-    → IsStoredTable w numbers parts shift → IsLongestMatch (prefix_bits w) asked (stored_networks numbers parts) (Some i)
-    → len ≡ get_or (part_at parts 4) i 0 → network ≡ take len asked → value ≡ value_in parts i
+pub found_clipped : (w padding : ℕ) (numbers : List ℕ → List ℕ) (parts : List (List ℕ)) (steps : ℕ) (asked : List Bool) (i len : ℕ) (network : List Bool) (value : List ℕ)
+    → IsStoredTable w padding numbers parts steps → IsLongestMatch (prefix_bits w) asked (stored_networks numbers parts) (Some i)
+    → len ≡ get_or (part_at parts 3) i 0 → network ≡ take len asked → value ≡ value_in parts i
     → IsLookedUp (λ (p : List Bool). p) asked (stored_rows w numbers parts) (Some (network, value))
-found_clipped w numbers parts shift asked i len network value table m at clipped valued =
+found_clipped w padding numbers parts steps asked i len network value table m at clipped valued =
     let networks = stored_networks numbers parts in
-    let addresses = numbers (part_at parts 3) in
-    let lengths = part_at parts 4 in
+    let addresses = numbers (part_at parts 2) in
+    let lengths = part_at parts 3 in
     let l : i < length networks = slice_get_within networks i m.key m.here in
     let first : get_or networks i (0, 0) ≡ m.key = get_or_from_slice_get networks i m.key (0, 0) m.here in
     let pair : get_or networks i (0, 0) ≡ (get_or addresses i 0, get_or lengths i 0) =
     get_or-zip addresses lengths i (0, 0) (omega (arith, l, length-zip addresses lengths)) (omega (arith, l, length-zip addresses lengths)) in
     let long : len ≡ m.key.1 = at ∙ ap (λ (n : ℕ × ℕ). n.1) (sym pair ∙ first) in
-    let fits : m.key.1 ≤ w = subst (λ (n : ℕ × ℕ). n.1 ≤ w) first (table.arrays.keys.each i l).fits in
+    let fits : m.key.1 ≤ w = subst (λ (n : ℕ × ℕ). n.1 ≤ w) first (table.look_ups.keys.each i l).fits in
     let named : network ≡ prefix_bits w m.key = clipped ∙ (ap (λ (k : ℕ). take k asked) long ∙ network_clipped w asked m.key fits m.begins) in
     subst (λ (row : List Bool × List ℕ). IsLookedUp (λ (p : List Bool). p) asked (stored_rows w numbers parts) (Some row))
     (ap₂ (λ (p : List Bool) (v : List ℕ). (p, v)) (sym named) (sym valued)) (found_row w (value_in parts) asked networks i m)
@@ -167,12 +167,12 @@ table_had bytes table file cut = record {
 
 -- as many rows as there are addresses with a length
 pub rows_counted : {W : Type 0} (value : W → ℕ) (numbers : List ℕ → List ℕ) (parts : List (List ℕ)) (addresses : List W) (rows : ℕ)
-    → map value addresses ≡ numbers (part_at parts 3) → rows ≡ min (length addresses) (length (part_at parts 4)) → length (stored_networks numbers parts) ≡ rows
+    → map value addresses ≡ numbers (part_at parts 2) → rows ≡ min (length addresses) (length (part_at parts 3)) → length (stored_networks numbers parts) ≡ rows
 rows_counted value numbers parts addresses rows are is =
-    omega (arith, is, length-zip (numbers (part_at parts 3)) (part_at parts 4), ap length are, length-map addresses value)
+    omega (arith, is, length-zip (numbers (part_at parts 2)) (part_at parts 3), ap length are, length-map addresses value)
 
 pub tables_cut : (bytes : List ℕ) (table : Table) → IsFile bytes → IsTableCutFrom bytes table → AreTables table
 tables_cut bytes table file cut = record {
-  ipv4 = rw (cut.ipv4, cut.ipv4_shift) file.ipv4;
-  ipv6 = rw (cut.ipv6, cut.ipv6_shift) file.ipv6;
+  ipv4 = rw (cut.ipv4, cut.ipv4_steps) file.ipv4;
+  ipv6 = rw (cut.ipv6, cut.ipv6_steps) file.ipv6;
 }

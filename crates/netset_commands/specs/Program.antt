@@ -42,7 +42,7 @@ use Rattle.netset_commands.specs.declared.errors.ArgumentError.TheVariants as ba
 use Rattle.netset_commands.specs.declared.errors.Unsaved.{Unsaved}
 use Rattle.netset_commands.specs.declared.errors.Unsaved.TheVariants as unsaved
 use Rattle.netset_commands.specs.declared.errors.FileError.{FileError}
-use Rattle.netset_commands.specs.declared.errors.FileError.TheVariants.{TooLarge, NotSaved, Hole, Unlike, Version, Short, Long, Changed}
+use Rattle.netset_commands.specs.declared.errors.FileError.TheVariants.{TooLarge, NotSaved, Hole, Unlike, Old, Version, Short, Long, Changed}
 use Rattle.netset_commands.specs.declared.commands.AtFault.{AtFault}
 use Rattle.netset_commands.specs.declared.commands.AtFault.TheVariants.{Stop, Tell, Skip}
 use Rattle.netset_commands.specs.declared.commands.Reading.{Reading}
@@ -252,6 +252,7 @@ file_message TooLarge = codes ": too large for a file of look-ups\n"
 file_message (NotSaved why) = unsaved_message why
 file_message Hole = codes ": a value is -, which with --holes stands for none\n"
 file_message Unlike = codes ": no lines, and no file of look-ups\n"
+file_message Old = codes ": a file of look-ups of version 1, which an older netset made: compile the table anew\n"
 file_message Version = codes ": a file of look-ups of another version\n"
 file_message Short = codes ": a file of look-ups that is cut short\n"
 file_message Long = codes ": a file of look-ups with bytes behind its end\n"

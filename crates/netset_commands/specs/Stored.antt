@@ -11,6 +11,10 @@ use Rattle.cidr_files.specs.declared.faults.Fault.TheVariants as fault
 use Rattle.cidr_files.specs.declared.faults.TableFault.{TableFault}
 use Rattle.cidr_files.specs.declared.faults.TableFault.TheVariants as in_table
 use Rattle.cidr_files.specs.declared.layout.Table.{Table}
+use Rattle.cidr_lookup.specs.declared.checking.Fault.{Fault as WordsFault}
+use Rattle.cidr_lookup.specs.declared.checking.Fault.TheVariants as in_words
+use Rattle.cidr_lookup.specs.declared.table.TableError.{TableError}
+use Rattle.cidr_lookup.specs.declared.table.TableError.TheVariants as keys
 use Rattle.cidr_lists.specs.declared.errors.LineError.{LineError}
 use Rattle.cidr_lists.specs.declared.formats.LineFormat.{LineFormat}
 use Rattle.cidr_lists.specs.declared.forms.RowForm.{RowForm}
@@ -21,16 +25,27 @@ use Rattle.netset_commands.specs.Look.{IsUnreadTable}
 use Rattle.netset_commands.specs.declared.errors.CommandError.{CommandError}
 use Rattle.netset_commands.specs.declared.errors.CommandError.TheVariants as error
 use Rattle.netset_commands.specs.declared.errors.FileError.{FileError}
-use Rattle.netset_commands.specs.declared.errors.FileError.TheVariants.{Unlike, Version, Short, Long, Changed}
+use Rattle.netset_commands.specs.declared.errors.FileError.TheVariants.{Unlike, Old, Version, Short, Long, Changed}
 
--- how it is told what is wrong with a table in a file, or that there was no memory to see
+-- how it is told what is wrong with the keys of a table in a file, or that there was no memory to see
+abbrev pub keys_error_of : TableError → Option FileError
+keys_error_of keys.NoMemory = None
+keys_error_of e = Some Changed
+
+-- the same of its words
+abbrev pub words_error_of : WordsFault → Option FileError
+words_error_of (in_words.Keys e) = keys_error_of e
+words_error_of f = Some Changed
+
+-- the same of the table
 abbrev pub table_error_of : TableFault → Option FileError
-table_error_of in_table.NoMemory = None
-table_error_of f = Some Changed
+table_error_of (in_table.Words f) = words_error_of f
+table_error_of in_table.Offsets = Some Changed
 
 -- the same of a file
 abbrev pub file_error_of : Fault → Option FileError
 file_error_of fault.Magic = Some Unlike
+file_error_of fault.Old = Some Old
 file_error_of (fault.Version other) = Some Version
 file_error_of fault.Short = Some Short
 file_error_of fault.Long = Some Long
@@ -83,8 +98,8 @@ by_family rows Ipv6 = rows.1
 
 -- the parts of a file are tables
 pub record AreTables (table : Table) : Type 0 where
-  pub ipv4 : IsStoredTable 32 words (parts_in table.ipv4) table.ipv4.shift
-  pub ipv6 : IsStoredTable 128 wide_words (parts_in table.ipv6) table.ipv6.shift
+  pub ipv4 : IsStoredTable 32 4 words (parts_in table.ipv4) table.ipv4.steps
+  pub ipv6 : IsStoredTable 128 0 wide_words (parts_in table.ipv6) table.ipv6.steps
 
 -- these are the bytes of a file that begins as one of look-ups
 abbrev pub AreFileBytes : Option Text → List ℕ → Type 0

@@ -1,8 +1,10 @@
 -- Files that are written.
 use Rattle.std.specs.Prelude.{◌≡◌, ◌≢◌, ◌⊎◌, ℕ, suc, ◌+◌, ◌^◌, ◌<◌, ◌≤◌, nat_lt, if◌then◌else◌, List, [], ◌∷◌, drop, length, map, replicate, slice_index_or, slice_range, take, Some}
 use Rattle.cidr_arrays.specs.Arrays.{AreAscendingNetworks, IsFirstRefused}
-use Rattle.cidr_files.specs.Layout.{ipv4_parts, ipv6_parts, wide_words, words}
+use Rattle.cidr_files.specs.Contents.{HasZerosBetween}
+use Rattle.cidr_files.specs.Layout.{ipv4_counts, ipv4_parts, ipv6_counts, ipv6_parts, wide_words, words}
 use Rattle.cidr_files.specs.Tables.{AreOffsets, IsFile, stored_networks, value_in}
+use Rattle.cidr_lookup.specs.Tables.{HasTooManyWords, ipv4_steps, ipv6_steps}
 use Rattle.cidr_c.specs.model.Codes.{no_memory, no_room, no_value, too_many, wrong_values}
 use Rattle.cidr_c.specs.model.Tables.{ipv4_pair, ipv6_pair}
 use Rattle.cidr_c.specs.declared.values.CValue.{CValue}
@@ -27,9 +29,13 @@ bytes_of_row offsets values row = slice_range values (slice_index_or offsets row
 abbrev pub AreValueOffsets : List CValue → List ℕ → List ℕ → Type 0
 AreValueOffsets networks offsets values = AreOffsets offsets (length networks) (length values) × (length values < 2 ^ 32)
 
--- the bytes are a file of these networks and their values; the rows of IPv6 are those behind the rows of IPv4
+-- the bytes are a file of these networks and their values; the rows of IPv6 are those behind the rows of IPv4. Each table has as
+-- many steps as the builder takes for so many rows, and what is not read is zeros
 pub record IsFileOf (networks : List CValue) (offsets values bytes : List ℕ) : Type 0 where
   pub file : IsFile bytes
+  pub zeros : HasZerosBetween bytes
+  pub ipv4_own : (ipv4_counts bytes).steps ≡ ipv4_steps (length (ipv4_networks networks))
+  pub ipv6_own : (ipv6_counts bytes).steps ≡ ipv6_steps (length (ipv6_networks networks))
   pub ipv4 : stored_networks words (ipv4_parts bytes) ≡ ipv4_networks networks
   pub ipv6 : stored_networks wide_words (ipv6_parts bytes) ≡ ipv6_networks networks
   pub ipv4_values : (row : ℕ) → row < ipv4_rows networks → value_in (ipv4_parts bytes) row ≡ bytes_of_row offsets values row
@@ -43,6 +49,12 @@ IsFirstRefusedAt networks place =
     ⊎ (AreAscendingNetworks 32 (ipv4_networks networks)
     × (rest : ℕ) × (place ≡ ipv4_rows networks + rest) × IsFirstRefused 128 (ipv6_networks networks) (Some rest))
 
+-- there are too many of them, or the look-up table of a family has too many words
+abbrev pub AreTooMany : List CValue → Type 0
+AreTooMany networks = (2 ^ 31 ≤ length networks)
+    ⊎ (HasTooManyWords 32 4 (ipv4_steps (length (ipv4_networks networks))) (ipv4_networks networks)
+    ⊎ HasTooManyWords 128 0 (ipv6_steps (length (ipv6_networks networks))) (ipv6_networks networks))
+
 -- writing: 0, and the first `count` bytes are the file; or when each error comes, in this order, but for that of memory, which
 -- may come before each. With the number of `no_value` the count becomes the index of the first value that is refused, with
 -- that of `no_room` how many bytes are room enough
@@ -50,7 +62,7 @@ pub record IsFileWritten (networks : List CValue) (offsets values old new : List
   pub file : code ≡ 0 → IsFileOf networks offsets values (take count_new new)
   pub fits : code ≡ 0 → count_new ≤ length new
   pub behind : code ≡ 0 → drop count_new new ≡ drop count_new old
-  pub many : code ≡ too_many → 2 ^ 31 ≤ length networks
+  pub many : code ≡ too_many → AreTooMany networks
   pub values_wrong : code ≡ wrong_values → (length networks < 2 ^ 31) × ¬ (AreValueOffsets networks offsets values)
   pub refused : code ≡ no_value → (length networks < 2 ^ 31) × AreValueOffsets networks offsets values × IsFirstRefusedAt networks count_new
   pub room : code ≡ no_room → (bytes : List ℕ) × IsFileOf networks offsets values bytes × (count_new ≡ length bytes) × (length new < count_new)

@@ -9,13 +9,17 @@ use Rattle.cidr_files.specs.Faults.{IsFaultOfBytes}
 use Rattle.cidr_files.specs.Layout.{IsLaidOut, header, ipv4_counts, ipv4_parts, ipv4_sizes, ipv6_counts, ipv6_parts, padded, padded_room, sizes_of, wide_words, words}
 use Rattle.cidr_files.specs.Tables.{IsFile, IsStoredTable, stored_networks, value_in}
 use Rattle.cidr_files.specs.declared.faults.Fault.{Fault}
-use Rattle.cidr_files.specs.declared.faults.Fault.TheVariants.{Magic, Version, Short, Long, Ipv4, Ipv6}
+use Rattle.cidr_files.specs.declared.faults.Fault.TheVariants.{Magic, Old, Version, Short, Long, Ipv4, Ipv6}
 use Rattle.cidr_files.specs.declared.faults.TableFault.{TableFault}
-use Rattle.cidr_files.specs.declared.faults.TableFault.TheVariants.{Arrays, Offsets, NoMemory}
+use Rattle.cidr_files.specs.declared.faults.TableFault.TheVariants.{Words, Offsets}
+use Rattle.cidr_lookup.specs.declared.checking.Fault.{Fault as WordsFault}
+use Rattle.cidr_lookup.specs.declared.checking.Fault.TheVariants.{Keys}
+use Rattle.cidr_lookup.specs.declared.table.TableError.{TableError}
+use Rattle.cidr_lookup.specs.declared.table.TableError.TheVariants.{TooMany, Refused, TooLarge, NoMemory}
 use Rattle.cidr_files.specs.declared.layout.Counts.{Counts}
 use Rattle.cidr_c.specs.calls.Calls.{IsYesOrNo}
-use Rattle.cidr_c.specs.model.Codes.{long_file, no_file, no_memory, no_room, other_version, short_file, wrong_values}
-use Rattle.cidr_c.specs.model.Tables.{fault_code, no_row}
+use Rattle.cidr_c.specs.model.Codes.{long_file, no_file, no_memory, no_room, no_table, no_value, other_version, short_file, too_many, wrong_values}
+use Rattle.cidr_c.specs.model.Tables.{no_row}
 use Rattle.cidr_c.specs.model.Values.{IsAddressValue, IsLow, number_in}
 use Rattle.cidr_c.specs.declared.files.CFile.{CFile}
 use Rattle.cidr_c.specs.declared.files.CFileTable.{CFileTable}
@@ -32,18 +36,17 @@ places place (size ∷ sizes) = place ∷ places (place + padded size) sizes
 abbrev pub table_from : ℕ → ℕ → Counts → CFileTable
 table_from place size counts =
     let begins = places place (sizes_of size counts) in record {
-      starts = slice_index_or begins 0 0;
-      answers = slice_index_or begins 1 0;
-      level = slice_index_or begins 2 0;
-      addresses = slice_index_or begins 3 0;
-      lengths = slice_index_or begins 4 0;
-      offsets = slice_index_or begins 5 0;
-      values = slice_index_or begins 6 0;
+      first = slice_index_or begins 0 0;
+      words = slice_index_or begins 1 0;
+      addresses = slice_index_or begins 2 0;
+      lengths = slice_index_or begins 3 0;
+      offsets = slice_index_or begins 4 0;
+      values = slice_index_or begins 5 0;
       values_len = counts.values;
       rows = counts.rows;
-      ranges = counts.ranges;
       entries = counts.entries;
-      shift = counts.shift;
+      words_len = counts.words;
+      steps = counts.steps;
     }
 
 -- the tables of a file's bytes
@@ -54,15 +57,27 @@ file_in bytes = record {
 }
 
 -- ---- opening and checking
--- the number of what is wrong with a table
+-- the number of why keys have no words
+abbrev pub table_error_code : TableError → ℕ
+table_error_code TooMany = too_many
+table_error_code (Refused place) = no_value
+table_error_code TooLarge = no_table
+table_error_code NoMemory = no_memory
+
+-- of what is wrong with words
+abbrev pub words_fault_code : WordsFault → ℕ
+words_fault_code (Keys error) = table_error_code error
+words_fault_code other = no_table
+
+-- with a table
 abbrev pub table_fault_code : TableFault → ℕ
-table_fault_code (Arrays fault) = fault_code fault
+table_fault_code (Words fault) = words_fault_code fault
 table_fault_code Offsets = wrong_values
-table_fault_code NoMemory = no_memory
 
 -- and with a file
 abbrev pub file_fault_code : Fault → ℕ
 file_fault_code Magic = no_file
+file_fault_code Old = other_version
 file_fault_code (Version other) = other_version
 file_fault_code Short = short_file
 file_fault_code Long = long_file
@@ -79,6 +94,7 @@ pub record IsOpened (bytes : List ℕ) (old new : CFile) (code : ℕ) : Type 0 w
   pub laid_out : code ≡ 0 → IsLaidOut bytes
   pub file : code ≡ 0 → new ≡ file_in bytes
   pub fault : code ≢ 0 → IsFaultCode bytes code
+  pub unopened : code ≢ 0 → ¬ (IsLaidOut bytes)
   pub stays : code ≢ 0 → new ≡ old
 
 -- checking: 0, where the bytes are a file; or the number of what is wrong with them first, but for that of memory, which may
@@ -138,32 +154,30 @@ pub record AreAnsweredIn {A : Type 0} (Answers : CValue → A → Type 0) (asked
 -- the parts that lie where a table says
 abbrev pub parts_at : ℕ → CFileTable → List ℕ → List (List ℕ)
 parts_at size table bytes =
-    bytes_at bytes table.starts (size * table.ranges)
-    ∷ bytes_at bytes table.answers (4 * table.ranges)
-    ∷ bytes_at bytes table.level (4 * table.entries)
+    bytes_at bytes table.first (4 * table.entries)
+    ∷ bytes_at bytes table.words (4 * table.words_len)
     ∷ bytes_at bytes table.addresses (size * table.rows)
     ∷ bytes_at bytes table.lengths table.rows
     ∷ bytes_at bytes table.offsets (4 * (table.rows + 1))
     ∷ bytes_at bytes table.values table.values_len ∷ []
 
 -- all that a look-up reads of them lies inside of the bytes
-pub record LieInBytes (size : ℕ) (table : CFileTable) (bytes : List ℕ) : Type 0 where
-  pub starts : table.starts + size * table.ranges ≤ length bytes
-  pub answers : table.answers + 4 * table.ranges ≤ length bytes
-  pub level : table.level + 4 * table.entries ≤ length bytes
+pub record LieInBytes (table : CFileTable) (bytes : List ℕ) : Type 0 where
+  pub first : table.first + 4 * table.entries ≤ length bytes
+  pub words : table.words + 4 * table.words_len ≤ length bytes
   pub offsets : table.offsets + 4 * (table.rows + 1) ≤ length bytes
   pub values : table.values + table.values_len ≤ length bytes
 
 -- what is found in the parts of a table
-pub record IsFoundInParts (w : ℕ) (numbers : List ℕ → List ℕ) (size : ℕ) (table : CFileTable) (bytes : List ℕ) (address : ℕ) (found : CFound) : Type 0 where
+pub record IsFoundInParts (w padding : ℕ) (numbers : List ℕ → List ℕ) (size : ℕ) (table : CFileTable) (bytes : List ℕ) (address : ℕ) (found : CFound) : Type 0 where
   pub inside : found.value + found.value_len ≤ length bytes
   pub nothing : found.row ≡ no_row → (found.value ≡ 0) × (found.value_len ≡ 0)
   pub within : found.row ≢ no_row → found.row < table.rows
-  pub matched : LieInBytes size table bytes → IsStoredTable w numbers (parts_at size table bytes) table.shift
+  pub matched : LieInBytes table bytes → IsStoredTable w padding numbers (parts_at size table bytes) table.steps
       → IsMatched w (stored_networks numbers (parts_at size table bytes)) (value_in (parts_at size table bytes)) bytes address found
 
 -- whether one of their networks has an address
-pub record IsInSetAt (w : ℕ) (numbers : List ℕ → List ℕ) (size : ℕ) (table : CFileTable) (bytes : List ℕ) (address code : ℕ) : Type 0 where
+pub record IsInSetAt (w padding : ℕ) (numbers : List ℕ → List ℕ) (size : ℕ) (table : CFileTable) (bytes : List ℕ) (address code : ℕ) : Type 0 where
   pub codes : code ≤ 1
-  pub answer : LieInBytes size table bytes → IsStoredTable w numbers (parts_at size table bytes) table.shift
+  pub answer : LieInBytes table bytes → IsStoredTable w padding numbers (parts_at size table bytes) table.steps
       → IsYesOrNo code (IsInNetworks w (stored_networks numbers (parts_at size table bytes)) address)

@@ -13,7 +13,7 @@ ghost use Rattle.netset_commands.specs.Causes.{Cause};
 ghost use Rattle.netset_commands.specs.Commands.{IsInRow};
 ghost use Rattle.netset_commands.specs.Compiled.{HasTable};
 ghost use Rattle.netset_commands.specs.LookUps.{LooksUp};
-ghost use Rattle.netset_commands.specs.Stored.{ChecksFile, IsFaultTold, TellsUnfit, by_family, stored_rows, table_error_of, file_error_of};
+ghost use Rattle.netset_commands.specs.Stored.{ChecksFile, IsFaultTold, TellsUnfit, by_family, stored_rows, file_error_of, keys_error_of, table_error_of, words_error_of};
 
 use crate::errors::{CommandError, FileError};
 use crate::input::table::{Answer, LookUps, Networks, push_match, push_none};
@@ -28,6 +28,7 @@ use cidr_lists::formats::LineFormat;
 use cidr_lists::forms::check_value;
 use cidr_lists::lists::Lists;
 use cidr_lists::sets::Sets;
+use cidr_lookup::TableError;
 use std::alloc::{AllocError, Global};
 use std::marker::Model;
 
@@ -114,7 +115,7 @@ impl<'a> Stored<'a> {
 /// The value of a row; no bytes where the offsets are wrong.
 fn value_of<'a>(part: &Part<'a>, row: usize) -> &'a [u8]
     requires { row + 1 < 2 ^ 64 }
-    ensures { (rows : ℕ) → row < rows → AreOffsets (offsets_in (parts_in part.now)) rows (length (part_at (parts_in part.now) 6))
+    ensures { (rows : ℕ) → row < rows → AreOffsets (offsets_in (parts_in part.now)) rows (length (part_at (parts_in part.now) 5))
         → result.now ≡ value_in (parts_in part.now) row }
 {
     let (offsets, _) = part.offsets.as_chunks::<4>();
@@ -132,7 +133,7 @@ fn value_of<'a>(part: &Part<'a>, row: usize) -> &'a [u8]
 /// Sees that the values of the rows of a table can be told in a format. The error is that of the first which can't, with
 /// the number of its row, from 1 on.
 fn check_part<W: Family>(format: LineFormat, part: &Part<'_>) -> Result<(), (u64, LineError)>
-    requires { IsStoredTable W.width W.numbers (parts_in part.now) part.now.shift }
+    requires { IsStoredTable W.width W.padding W.numbers (parts_in part.now) part.now.steps }
     ensures { MatchResult result (λ _. AreFit format (stored_rows W.width W.numbers (parts_in part.now)))
         (λ bad. IsUnfitAt format (stored_rows W.width W.numbers (parts_in part.now)) bad.0 bad.1) }
 {
@@ -162,13 +163,38 @@ fn push_networks<W: Family, C: OfFile<W>>(
     Ok(())
 }
 
-/// What is told of what is wrong with a table, or nothing where there was no memory to see.
+/// What is told of what is wrong with keys, or nothing where there was no memory to see.
+fn keys_error_of(error: &TableError) -> Option<FileError>
+    ensures { result ≡ keys_error_of error.now }
+{
+    match error {
+        TableError::NoMemory => None,
+        TableError::TooMany | TableError::Refused(_) | TableError::TooLarge => {
+            Some(FileError::Changed)
+        }
+    }
+}
+
+/// The same of words.
+fn words_error_of(fault: &cidr_lookup::Fault) -> Option<FileError>
+    ensures { result ≡ words_error_of fault.now }
+{
+    match fault {
+        cidr_lookup::Fault::Keys(error) => keys_error_of(error),
+        cidr_lookup::Fault::Steps
+        | cidr_lookup::Fault::TooLong
+        | cidr_lookup::Fault::First(_)
+        | cidr_lookup::Fault::Word(_) => Some(FileError::Changed),
+    }
+}
+
+/// The same of a table.
 fn table_error_of(fault: &TableFault) -> Option<FileError>
     ensures { result ≡ table_error_of fault.now }
 {
     match fault {
-        TableFault::NoMemory => None,
-        TableFault::Arrays(_) | TableFault::Offsets => Some(FileError::Changed),
+        TableFault::Words(fault) => words_error_of(fault),
+        TableFault::Offsets => Some(FileError::Changed),
     }
 }
 
@@ -178,6 +204,7 @@ fn file_error_of(fault: &Fault) -> Option<FileError>
 {
     match fault {
         Fault::Magic => Some(FileError::Unlike),
+        Fault::Old => Some(FileError::Old),
         Fault::Version(_) => Some(FileError::Version),
         Fault::Short => Some(FileError::Short),
         Fault::Long => Some(FileError::Long),
@@ -206,7 +233,7 @@ impl OfFile<Ipv6Bytes> for Ipv6Cidr {
 
 /// The longest network of a table that an address is in, and its value.
 fn found_in<'a, W: Family, C: OfFile<W>>(part: &Part<'a>, address: W) -> Option<(C, &'a [u8])>
-    requires { IsStoredTable W.width W.numbers (parts_in part.now) part.now.shift }
+    requires { IsStoredTable W.width W.padding W.numbers (parts_in part.now) part.now.steps }
     ensures { IsLookedUp (λ p. p) (bits W.width (W.value address)) (stored_rows W.width W.numbers (parts_in part.now))
         (option_map (λ found. (C.bits found.0, found.1.now)) result) }
 {

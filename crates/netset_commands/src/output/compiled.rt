@@ -11,6 +11,7 @@ use cidr_arrays::{Key, Word};
 use cidr_files::{Family, Ipv4Bytes, Ipv6Bytes, Rows, WriteError, written};
 use cidr_lists::rows::{Span, value_of};
 use cidr_lists::table::Table;
+use cidr_lookup::TableError;
 use std::alloc::{AllocError, Global};
 
 /// A network of one family, as a file has it.
@@ -97,7 +98,7 @@ fn columns_of<W: Family, C: Keyed<W>>(
 }
 
 /// The bytes of a file of look-ups that has the rows of a table; `None` where it is too large for one: where a family has
-/// 2^31 rows or more, or values of 2^32 bytes or more. The error is that there is no memory.
+/// 2^31 rows or more, values of 2^32 bytes or more, or look-ups of 2^31 words or more. The error is that there is no memory.
 pub fn compiled(alloc: Global, table: &Table) -> Result<Option<Vec<u8>>, AllocError>
     ensures file { IfOk result (λ file. IfSome file (λ bytes. IsTableFile (kept table.now) bytes.items)) }
     ensures large { IfOk result (λ file. IfNone file (IsTooLarge (kept table.now))) }
@@ -114,8 +115,11 @@ pub fn compiled(alloc: Global, table: &Table) -> Result<Option<Vec<u8>>, AllocEr
     match written(alloc, &ipv4.rows(), &ipv6.rows()) {
         Ok(bytes) => Ok(Some(bytes)),
         Err(e) => match e {
-            WriteError::NoMemory => Err(AllocError),
-            _ => Ok(None),
+            WriteError::Values => Ok(None),
+            WriteError::Table(e) => match e {
+                TableError::NoMemory => Err(AllocError),
+                _ => Ok(None),
+            },
         },
     }
 }

@@ -1,10 +1,13 @@
 //! Look-up tables in files.
 
-use crate::codes::{LONG, NO_FILE, NO_MEMORY, NO_ROOM, OK, OTHER_VERSION, SHORT, VALUES};
-use crate::tables::{NO_ROW, fault_code};
+use crate::codes::{
+    LONG, NO_FILE, NO_MEMORY, NO_ROOM, NO_TABLE, NO_VALUE, OK, OTHER_VERSION, SHORT, TOO_MANY,
+    VALUES,
+};
+use crate::tables::NO_ROW;
 use crate::values::CValue;
-use cidr_arrays::longest_match;
 use cidr_files::{Counts, Family, Fault, Ipv4Bytes, Ipv6Bytes, TableFault, checked, counts, open};
+use cidr_lookup::{TableError, find};
 use cidr_support::alloc::Global;
 
 /// The size of the header of a file.
@@ -14,12 +17,10 @@ const HEADER: usize = 64;
 #[repr(C)]
 #[derive(Clone, Copy)]
 pub struct CFileTable {
-    /// Where the first addresses of the ranges begin.
-    pub starts: usize,
-    /// Where the answers of the ranges begin.
-    pub answers: usize,
-    /// Where the first level begins.
-    pub level: usize,
+    /// Where the entries of the blocks of addresses begin.
+    pub first: usize,
+    /// Where the words of the nodes begin.
+    pub words: usize,
     /// Where the first addresses of the rows' networks begin.
     pub addresses: usize,
     /// Where their prefix lengths begin.
@@ -32,12 +33,12 @@ pub struct CFileTable {
     pub values_len: usize,
     /// How many rows there are.
     pub rows: u32,
-    /// How many ranges.
-    pub ranges: u32,
-    /// How many entries the first level has.
+    /// How many entries of blocks.
     pub entries: u32,
-    /// The shift of the first level.
-    pub shift: u32,
+    /// How many words of nodes.
+    pub words_len: u32,
+    /// How many steps of six bits there are behind the first bits.
+    pub steps: u32,
 }
 
 /// The two tables of a file.
@@ -75,8 +76,8 @@ pub fn pcidr_file_open(bytes: &[u8], file: &mut CFile) -> u32 {
     }
 }
 
-/// 0 where the bytes are a file of tables, else the number of what is wrong with them first. It goes once through them, and
-/// allocates the networks, the answers and the first level of a table.
+/// 0 where the bytes are a file of tables, else the number of what is wrong with them first. It builds the words of each
+/// table anew and compares them as it goes, and allocates its networks and their ranges.
 #[inline]
 pub fn pcidr_file_check(alloc: Global, bytes: &[u8]) -> u32 {
     match checked(alloc, bytes) {
@@ -144,7 +145,7 @@ pub fn pcidr_set_has_each(
 fn file_fault_code(fault: &Fault) -> u32 {
     match fault {
         Fault::Magic => NO_FILE,
-        Fault::Version(_) => OTHER_VERSION,
+        Fault::Old | Fault::Version(_) => OTHER_VERSION,
         Fault::Short => SHORT,
         Fault::Long => LONG,
         Fault::Ipv4(fault) | Fault::Ipv6(fault) => table_fault_code(fault),
@@ -155,9 +156,31 @@ fn file_fault_code(fault: &Fault) -> u32 {
 #[inline]
 fn table_fault_code(fault: &TableFault) -> u32 {
     match fault {
-        TableFault::Arrays(fault) => fault_code(fault),
+        TableFault::Words(fault) => words_fault_code(fault),
         TableFault::Offsets => VALUES,
-        TableFault::NoMemory => NO_MEMORY,
+    }
+}
+
+/// The number of what is wrong with its words.
+#[inline]
+fn words_fault_code(fault: &cidr_lookup::Fault) -> u32 {
+    match fault {
+        cidr_lookup::Fault::Keys(error) => table_error_code(error),
+        cidr_lookup::Fault::Steps
+        | cidr_lookup::Fault::TooLong
+        | cidr_lookup::Fault::First(_)
+        | cidr_lookup::Fault::Word(_) => NO_TABLE,
+    }
+}
+
+/// The number of why keys have no words.
+#[inline]
+fn table_error_code(error: &TableError) -> u32 {
+    match error {
+        TableError::TooMany => TOO_MANY,
+        TableError::Refused(_) => NO_VALUE,
+        TableError::TooLarge => NO_TABLE,
+        TableError::NoMemory => NO_MEMORY,
     }
 }
 
@@ -172,21 +195,20 @@ fn put_file(bytes: &[u8], file: &mut CFile) {
 /// Makes a table one whose parts begin at a place, and whose addresses have so many bytes, and returns where they end.
 fn put_table(place: usize, size: usize, counts: &Counts, table: &mut CFileTable) -> usize {
     let rows = counts.rows as usize;
-    let ranges = counts.ranges as usize;
     let entries = counts.entries as usize;
+    let words = counts.words as usize;
     let values = counts.values as usize;
-    table.starts = place;
-    table.answers = behind(table.starts, size * ranges);
-    table.level = behind(table.answers, 4 * ranges);
-    table.addresses = behind(table.level, 4 * entries);
+    table.first = place;
+    table.words = behind(table.first, 4 * entries);
+    table.addresses = behind(table.words, 4 * words);
     table.lengths = behind(table.addresses, size * rows);
     table.offsets = behind(table.lengths, rows);
     table.values = behind(table.offsets, 4 * (rows + 1));
     table.values_len = values;
     table.rows = counts.rows;
-    table.ranges = counts.ranges;
     table.entries = counts.entries;
-    table.shift = counts.shift;
+    table.words_len = counts.words;
+    table.steps = counts.steps;
     behind(table.values, values)
 }
 
@@ -200,10 +222,10 @@ fn behind(place: usize, size: usize) -> usize {
 #[inline(always)]
 fn found_in(bytes: &[u8], file: &CFile, asked: &CValue) -> CFound {
     if let Some(address) = ipv4_address(asked) {
-        return found_at(bytes, &file.ipv4, 4, address);
+        return found_at(bytes, &file.ipv4, address);
     }
     if let Some(address) = ipv6_address(asked) {
-        return found_at(bytes, &file.ipv6, 16, address);
+        return found_at(bytes, &file.ipv6, address);
     }
     nothing()
 }
@@ -211,8 +233,8 @@ fn found_in(bytes: &[u8], file: &CFile, asked: &CValue) -> CFound {
 /// What is found in a table. No branch hangs on whether there is a row, which a processor can't foresee: where there is
 /// none, the offsets of the first row are read.
 #[inline(always)]
-fn found_at<W: Family>(bytes: &[u8], table: &CFileTable, size: usize, address: W) -> CFound {
-    let end = end_at(bytes, table, size, address);
+fn found_at<W: Family>(bytes: &[u8], table: &CFileTable, address: W) -> CFound {
+    let end = end_at(bytes, table, address);
     if table.rows == 0 {
         return nothing();
     }
@@ -221,8 +243,8 @@ fn found_at<W: Family>(bytes: &[u8], table: &CFileTable, size: usize, address: W
 
 /// How many rows there are up to that of the longest match, or 0 where there is none.
 #[inline(always)]
-fn end_at<W: Family>(bytes: &[u8], table: &CFileTable, size: usize, address: W) -> u32 {
-    match row_at(bytes, table, size, address) {
+fn end_at<W: Family>(bytes: &[u8], table: &CFileTable, address: W) -> u32 {
+    match row_at(bytes, table, address) {
         Some(row) => row as u32 + 1,
         None => 0,
     }
@@ -250,21 +272,16 @@ fn found_of(end: u32, place: (usize, u32)) -> CFound {
 
 /// The row of the longest match of an address in a table, if what tells it lies inside of the bytes.
 #[inline(always)]
-fn row_at<W: Family>(bytes: &[u8], table: &CFileTable, size: usize, address: W) -> Option<usize> {
-    let ranges = table.ranges as usize;
-    let starts = part_at(bytes, table.starts, size * ranges)?;
-    let answers = part_at(bytes, table.answers, 4 * ranges)?;
-    let level = part_at(bytes, table.level, 4 * table.entries as usize)?;
-    let (answers, _) = answers.as_chunks::<4>();
-    let (level, _) = level.as_chunks::<4>();
-    longest_match(
-        W::addresses(starts),
-        answers,
-        level,
-        table.shift,
-        table.rows as usize,
-        address,
-    )
+fn row_at<W: Family>(bytes: &[u8], table: &CFileTable, address: W) -> Option<usize> {
+    let first = part_at(bytes, table.first, 4 * table.entries as usize)?;
+    let words = part_at(bytes, table.words, 4 * table.words_len as usize)?;
+    let (first, _) = first.as_chunks::<4>();
+    let (words, _) = words.as_chunks::<4>();
+    let row = find(&first, &words, table.steps, address)?;
+    if row >= table.rows as usize {
+        return None;
+    }
+    Some(row)
 }
 
 /// Where the value of a row begins and how many bytes it has, if what tells it and the values lie inside of the bytes.
@@ -302,18 +319,18 @@ fn nothing() -> CFound {
 #[inline(always)]
 fn has_in(bytes: &[u8], file: &CFile, asked: &CValue) -> u8 {
     if let Some(address) = ipv4_address(asked) {
-        return has_at(bytes, &file.ipv4, 4, address);
+        return has_at(bytes, &file.ipv4, address);
     }
     if let Some(address) = ipv6_address(asked) {
-        return has_at(bytes, &file.ipv6, 16, address);
+        return has_at(bytes, &file.ipv6, address);
     }
     0
 }
 
 /// 1 where an address is in one of the networks of a table, and 0 where not.
 #[inline(always)]
-fn has_at<W: Family>(bytes: &[u8], table: &CFileTable, size: usize, address: W) -> u8 {
-    match row_at(bytes, table, size, address) {
+fn has_at<W: Family>(bytes: &[u8], table: &CFileTable, address: W) -> u8 {
+    match row_at(bytes, table, address) {
         Some(_) => 1,
         None => 0,
     }

@@ -230,7 +230,7 @@ fn put_rows<W: Family>(
 
 /// The number of what is wrong with arrays.
 #[inline]
-pub fn fault_code(fault: &Fault) -> u32 {
+fn fault_code(fault: &Fault) -> u32 {
     match fault {
         Fault::TooMany => TOO_MANY,
         Fault::Shift => SHIFT,

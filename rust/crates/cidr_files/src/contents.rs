@@ -14,18 +14,16 @@ pub struct Rows<'a, W> {
     pub values: &'a [u8],
 }
 
-/// A table: its rows, and the arrays of their networks.
+/// A table: its rows, and the look-up table of their networks.
 pub struct Contents<'a, W> {
     /// The rows.
     pub rows: &'a Rows<'a, W>,
-    /// The first addresses of the ranges.
-    pub starts: &'a [W],
-    /// The answers of these, as `build` of `cidr_arrays` writes them.
-    pub answers: &'a [u32],
-    /// The first level, as `fill_level` of `cidr_arrays` writes it.
-    pub level: &'a [u32],
-    /// Its shift.
-    pub shift: u32,
+    /// The entries of the blocks of addresses, as `build` of `cidr_lookup` returns them.
+    pub first: &'a [u32],
+    /// The words of the nodes, from the same.
+    pub words: &'a [u32],
+    /// How many steps there are behind the first bits.
+    pub steps: u32,
 }
 
 /// Their counts.
@@ -33,9 +31,9 @@ pub struct Contents<'a, W> {
 pub(crate) fn counts_of<W>(contents: &Contents<'_, W>) -> Counts {
     Counts {
         rows: contents.rows.keys.len() as u32,
-        ranges: contents.starts.len() as u32,
-        entries: contents.level.len() as u32,
-        shift: contents.shift,
+        entries: contents.first.len() as u32,
+        words: contents.words.len() as u32,
+        steps: contents.steps,
         values: contents.rows.values.len() as u32,
     }
 }

@@ -1,7 +1,7 @@
 //! The families of addresses, as files have them.
 
 use cidr_support::vec::Vec;
-use cidr_arrays::Word;
+use cidr_lookup::Address;
 use cidr_support::alloc::AllocError;
 
 /// The bytes of an IPv4 address in a file: its number, the least significant byte first, which is not network byte
@@ -13,7 +13,7 @@ pub type Ipv4Bytes = [u8; 4];
 pub type Ipv6Bytes = [[u8; 8]; 2];
 
 /// A family of addresses, as files have them: [`Ipv4Bytes`] or [`Ipv6Bytes`].
-pub trait Family: Sized + Word {
+pub trait Family: Sized + Address {
     /// The addresses that bytes are, 4 or 16 bytes each, where they lie: nothing is copied. Bytes at the end that are too
     /// few for one are left out.
     ///

@@ -20,7 +20,6 @@
 #![forbid(unsafe_code)]
 #![allow(unused_imports, unused_variables, dead_code, unstable_name_collisions)]
 
-mod arrays;
 mod building;
 mod checking;
 mod contents;

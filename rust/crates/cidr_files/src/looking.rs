@@ -2,7 +2,6 @@
 
 use crate::family::Family;
 use crate::layout::Part;
-use cidr_arrays::{Index, longest_match};
 
 /// What a look-up finds: a row, and where its value lies among the values.
 #[derive(Clone, Copy)]
@@ -21,7 +20,7 @@ pub struct Found {
 /// Whatever the bytes are, it reads nothing outside of them, and the row, counted from 0, is one of them. It is the
 /// longest match, and the value that of its row, in parts that [`check`](crate::check) accepted.
 ///
-/// It takes one search among the ranges that the first level leaves, O(log r) for r of them, and allocates nothing.
+/// It takes one step for each six bits that are needed to tell the match, as `find` of `cidr_lookup`, and allocates nothing.
 ///
 /// ```
 /// # use cidr_arrays::{Key, Word};
@@ -109,12 +108,14 @@ pub fn has<W: Family>(part: &Part<'_>, address: W) -> bool {
 /// The row of the longest network that an address is in.
 #[inline(always)]
 fn row_of<W: Family>(part: &Part<'_>, address: W) -> Option<usize> {
-    let starts = W::addresses(part.starts);
-    let (answers, _) = part.answers.as_chunks::<4>();
-    let (level, _) = part.level.as_chunks::<4>();
+    let (first, _) = part.first.as_chunks::<4>();
+    let (words, _) = part.words.as_chunks::<4>();
     let addresses = W::addresses(part.addresses);
-    let rows = addresses.len().min(part.lengths.len());
-    longest_match(starts, answers, level, part.shift, rows, address)
+    let row = cidr_lookup::find(&first, &words, part.steps, address)?;
+    if row >= addresses.len().min(part.lengths.len()) {
+        return None;
+    }
+    Some(row)
 }
 
 /// Where the value of a row begins and ends, or twice 0 where the offsets are wrong.

@@ -7,13 +7,16 @@ use crate::layout::{Counts, Part, Table};
 pub(crate) const MAGIC: u32 = 0x4449_4389;
 
 /// The version that is read and written.
-pub(crate) const VERSION: u32 = 1;
+pub(crate) const VERSION: u32 = 2;
+
+/// The version of the files of earlier releases.
+const OLD_VERSION: u32 = 1;
 
 /// The size of the header.
 const HEADER: usize = 64;
 
 /// The tables of a file, in parts that are not yet checked: a few reads, however long it is, and no allocation. The
-/// error is the first of `Magic`, `Version`, and `Short` or `Long`.
+/// error is the first of `Magic`, `Old` or `Version`, and `Short` or `Long`.
 ///
 /// ```
 /// # use cidr_arrays::{Key, Word};
@@ -31,6 +34,9 @@ pub fn open(bytes: &[u8]) -> Result<Table<'_>, Fault> {
         return Err(Fault::Magic);
     }
     let version = word_at(bytes, 1);
+    if version == OLD_VERSION {
+        return Err(Fault::Old);
+    }
     if version != VERSION {
         return Err(Fault::Version(version));
     }
@@ -74,23 +80,20 @@ pub fn counts(bytes: &[u8]) -> (Counts, Counts) {
 /// The parts of a table whose addresses have so many bytes, and what lies behind them; `None` where the bytes are too few.
 fn part_of<'a>(bytes: &'a [u8], size: usize, counts: &Counts) -> Option<(Part<'a>, &'a [u8])> {
     let rows = counts.rows as usize;
-    let ranges = counts.ranges as usize;
-    let (starts, rest) = cut(bytes, size * ranges)?;
-    let (answers, rest) = cut(rest, 4 * ranges)?;
-    let (level, rest) = cut(rest, 4 * counts.entries as usize)?;
+    let (first, rest) = cut(bytes, 4 * counts.entries as usize)?;
+    let (words, rest) = cut(rest, 4 * counts.words as usize)?;
     let (addresses, rest) = cut(rest, size * rows)?;
     let (lengths, rest) = cut(rest, rows)?;
     let (offsets, rest) = cut(rest, 4 * (rows + 1))?;
     let (values, rest) = cut(rest, counts.values as usize)?;
     let part = Part {
-        starts,
-        answers,
-        level,
+        first,
+        words,
         addresses,
         lengths,
         offsets,
         values,
-        shift: counts.shift,
+        steps: counts.steps,
     };
     Some((part, rest))
 }
@@ -110,9 +113,9 @@ fn cut(bytes: &[u8], size: usize) -> Option<(&[u8], &[u8])> {
 fn counts_at(bytes: &[u8], index: usize) -> Counts {
     Counts {
         rows: word_at(bytes, index),
-        ranges: word_at(bytes, index + 1),
-        entries: word_at(bytes, index + 2),
-        shift: word_at(bytes, index + 3),
+        entries: word_at(bytes, index + 1),
+        words: word_at(bytes, index + 2),
+        steps: word_at(bytes, index + 3),
         values: word_at(bytes, index + 4),
     }
 }

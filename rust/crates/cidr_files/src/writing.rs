@@ -8,12 +8,12 @@ use crate::opening::{MAGIC, VERSION};
 use cidr_arrays::Key;
 use cidr_support::alloc::{AllocError, Global};
 
-/// The bytes of a file of two tables whose arrays the caller has; of rows alone, take `written`. It takes a pass over
+/// The bytes of a file of two tables whose words the caller has; of rows alone, take `written`. It takes a pass over
 /// the bytes and allocates them. The error is that an allocation fails.
 ///
-/// The caller has to ensure that each table is one: that its arrays are those of its keys, as `build` and `fill_level`
-/// of `cidr_arrays` write them, that its values lie one behind the other, and that there are fewer than 2^31 keys,
-/// fewer than 2^32 ranges, entries and bytes of values, and a shift below 32, or 128 in IPv6.
+/// The caller has to ensure that each table is one: that its words are those of its keys, as `build` of `cidr_lookup`
+/// returns them, that its values lie one behind the other, and that there are fewer than 2^31 keys, entries and words,
+/// and fewer than 2^32 bytes of values.
 ///
 /// ```
 /// # use cidr_arrays::{Key, Word};
@@ -53,15 +53,15 @@ fn put_head(out: &mut Vec<u8>, ipv4: &Counts, ipv6: &Counts) -> Result<(), Alloc
         0,
         0,
         ipv4.rows,
-        ipv4.ranges,
         ipv4.entries,
-        ipv4.shift,
+        ipv4.words,
+        ipv4.steps,
         ipv4.values,
         0,
         ipv6.rows,
-        ipv6.ranges,
         ipv6.entries,
-        ipv6.shift,
+        ipv6.words,
+        ipv6.steps,
         ipv6.values,
         0,
     ];
@@ -70,22 +70,14 @@ fn put_head(out: &mut Vec<u8>, ipv4: &Counts, ipv6: &Counts) -> Result<(), Alloc
 }
 
 /// Writes the parts of a table.
+#[inline]
 fn put_contents<W: Family>(out: &mut Vec<u8>, contents: &Contents<'_, W>) -> Result<(), AllocError> {
-    put_address_part(out, contents.starts)?;
-    put_word_part(out, contents.answers)?;
-    put_word_part(out, contents.level)?;
+    put_word_part(out, contents.first)?;
+    put_word_part(out, contents.words)?;
     put_key_part(out, contents.rows.keys)?;
     put_length_part(out, contents.rows.keys)?;
     put_word_part(out, contents.rows.offsets)?;
     put_part(out, contents.rows.values)?;
-    Ok(())
-}
-
-/// Writes a part of addresses.
-#[inline]
-fn put_address_part<W: Family>(out: &mut Vec<u8>, addresses: &[W]) -> Result<(), AllocError> {
-    put_addresses(out, addresses)?;
-    fill(out)?;
     Ok(())
 }
 
@@ -118,15 +110,6 @@ fn put_length_part<W: Family>(out: &mut Vec<u8>, keys: &[Key<W>]) -> Result<(), 
 fn put_part(out: &mut Vec<u8>, part: &[u8]) -> Result<(), AllocError> {
     out.extend_from_slice(part)?;
     fill(out)?;
-    Ok(())
-}
-
-/// Writes the bytes of addresses.
-#[inline]
-fn put_addresses<W: Family>(out: &mut Vec<u8>, addresses: &[W]) -> Result<(), AllocError> {
-    for i in 0..addresses.len() {
-        W::put(addresses[i].number(), out)?;
-    }
     Ok(())
 }
 

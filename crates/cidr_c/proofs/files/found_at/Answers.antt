@@ -11,34 +11,34 @@ use Rattle.cidr_c.proofs.Founds.{nothing_there, row_there}
 use Rattle.cidr_c.proofs.files.found_at.Goals as goal
 
 pub returns-then-table-eq0 : goal.returns-then-table-eq0
-returns-then-table-eq0 g c =
+returns-then-table-eq0 g c = λ size.
     let w = g.W.Word.width in
-    let networks = stored_networks g.W.Family.numbers (parts_at c.args.size c.args.table.now c.args.bytes.now) in
-    nothing_there w g.W.Family.numbers c.args.size c.args.table.now c.args.bytes.now (g.W.Word.value c.args.address) c.nothing.result c.nothing.ensures
+    let networks = stored_networks g.W.Family.numbers (parts_at size c.args.table.now c.args.bytes.now) in
+    nothing_there w g.W.Address.padding g.W.Family.numbers size c.args.table.now c.args.bytes.now (g.W.Word.value c.args.address) c.nothing.result c.nothing.ensures
     (λ inside good. subst (λ r. IsLongestMatch (prefix_bits w) (bits w (g.W.Word.value c.args.address)) networks r)
-    (sym (row_of_none c.end_at-end.result (omega (arith, c.end_at-end.ensures.within)))) (c.end_at-end.ensures.longest inside good))
+    (sym (row_of_none c.end_at-end.result (omega (arith, c.end_at-end.ensures.within)))) (c.end_at-end.ensures.longest size inside good))
 
 pub returns : goal.returns
-returns g c =
+returns g c = λ size.
     let w = g.W.Word.width in
+    let padding = g.W.Address.padding in
     let numbers = g.W.Family.numbers in
-    let size = c.args.size in
     let table = c.args.table.now in
     let bytes = c.args.bytes.now in
     let address = g.W.Word.value c.args.address in
     let end = c.end_at-end.result in
     let networks = stored_networks numbers (parts_at size table bytes) in
     let place = c.place_at.result in
-    let longest = c.end_at-end.ensures.longest in
+    let longest = c.end_at-end.ensures.longest size in
     elim (cases_lt 0 end) [
       | inl some ↦
-          subst (λ (f : CFound). IsFoundInParts w numbers size table bytes address f) (sym (c.found_of.ensures.some some))
-          (row_there w numbers size table bytes address (end - 1) place.0 place.1 (omega (arith, c.end_at-end.ensures.within)) (omega (arith, c.end_at-end.ensures.within))
+          subst (λ (f : CFound). IsFoundInParts w padding numbers size table bytes address f) (sym (c.found_of.ensures.some some))
+          (row_there w padding numbers size table bytes address (end - 1) place.0 place.1 (omega (arith, c.end_at-end.ensures.within)) (omega (arith, c.end_at-end.ensures.within))
           c.place_at.ensures.inside
           (λ inside good. subst (λ r. IsLongestMatch (prefix_bits w) (bits w address) networks r) (sym (row_of_some end some)) (longest inside good))
           (λ inside good within. c.place_at.ensures.value some size inside (length networks) within good))
       | inr none ↦
           let zero : end ≡ 0 = omega arith in
-          nothing_there w numbers size table bytes address c.found_of.result (c.found_of.ensures.none zero)
+          nothing_there w padding numbers size table bytes address c.found_of.result (c.found_of.ensures.none zero)
           (λ inside good. subst (λ r. IsLongestMatch (prefix_bits w) (bits w address) networks r) (sym (row_of_none end zero)) (longest inside good))
     ]

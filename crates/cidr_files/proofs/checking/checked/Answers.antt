@@ -11,8 +11,8 @@ returns-in-Err-clause-refused c =
     let bytes = c.args.bytes.now in
     let fault = c.in-Err.fault in (
       c.in_ok-table.ensures.laid_out,
-      subst (λ (ps : List (List ℕ)). IsTableFault 32 words ps (ipv4_counts bytes).shift fault) cut.ipv4
-          (subst (λ (n : ℕ). IsTableFault 32 words (parts_in t.ipv4) n fault) cut.ipv4_shift c.in-Err.ensures.refused),
+      subst (λ (ps : List (List ℕ)). IsTableFault 32 4 words ps (ipv4_counts bytes).steps fault) cut.ipv4
+          (subst (λ (n : ℕ). IsTableFault 32 4 words (parts_in t.ipv4) n fault) cut.ipv4_steps c.in-Err.ensures.refused),
     )
 
 pub returns-in-Err-check-clause-refused : goal.returns-in-Err-check-clause-refused
@@ -22,8 +22,8 @@ returns-in-Err-check-clause-refused c =
     let bytes = c.args.bytes.now in
     let fault = c.in-Err-check.fault in (
       c.in_ok-table.ensures.laid_out,
-      subst (λ (ps : List (List ℕ)). IsStoredTable 32 words ps (ipv4_counts bytes).shift) cut.ipv4
-          (subst (λ (n : ℕ). IsStoredTable 32 words (parts_in t.ipv4) n) cut.ipv4_shift c.in_default.ensures.table),
-      subst (λ (ps : List (List ℕ)). IsTableFault 128 wide_words ps (ipv6_counts bytes).shift fault) cut.ipv6
-          (subst (λ (n : ℕ). IsTableFault 128 wide_words (parts_in t.ipv6) n fault) cut.ipv6_shift c.in-Err-check.ensures.refused),
+      subst (λ (ps : List (List ℕ)). IsStoredTable 32 4 words ps (ipv4_counts bytes).steps) cut.ipv4
+          (subst (λ (n : ℕ). IsStoredTable 32 4 words (parts_in t.ipv4) n) cut.ipv4_steps c.in_default.ensures.table),
+      subst (λ (ps : List (List ℕ)). IsTableFault 128 0 wide_words ps (ipv6_counts bytes).steps fault) cut.ipv6
+          (subst (λ (n : ℕ). IsTableFault 128 0 wide_words (parts_in t.ipv6) n fault) cut.ipv6_steps c.in-Err-check.ensures.refused),
     )

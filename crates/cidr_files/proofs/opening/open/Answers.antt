@@ -11,10 +11,10 @@ returns-clause-cut c =
     let ipv6 = c.in-Some-part_of.ensures in
     record {
       ipv4 = ipv4.parts ∙ ap₂ (λ (k : Counts) (bs : List ℕ). parts_by_size (sizes_of 4 k) bs) c.counts_at.ensures rest;
-      ipv4_shift = ipv4.shift ∙ ap (λ (k : Counts). k.shift) c.counts_at.ensures;
+      ipv4_steps = ipv4.steps ∙ ap (λ (k : Counts). k.steps) c.counts_at.ensures;
       ipv6 =
           ipv6.parts
           ∙ ap₂ (λ (k : Counts) (bs : List ℕ). parts_by_size (sizes_of 16 k) bs) c.counts_at-2.ensures
           (ipv4.rest ∙ ap₂ (λ (k : Counts) (bs : List ℕ). bytes_behind (sizes_of 4 k) bs) c.counts_at.ensures rest);
-      ipv6_shift = ipv6.shift ∙ ap (λ (k : Counts). k.shift) c.counts_at-2.ensures;
+      ipv6_steps = ipv6.steps ∙ ap (λ (k : Counts). k.steps) c.counts_at-2.ensures;
     }

@@ -9,10 +9,10 @@ use Rattle.cidr_files.proofs.Files.{is_file, lengths_below}
 use Rattle.cidr_files.proofs.writing.file_of.Goals as goal
 
 pub put_contents-requires-clause-lengths : goal.put_contents-requires-clause-lengths
-put_contents-requires-clause-lengths c = lengths_below 32 (from_le_bytes w32) c.args.ipv4.now c.requires.ipv4 (omega arith)
+put_contents-requires-clause-lengths c = lengths_below 32 4 (from_le_bytes w32) c.args.ipv4.now c.requires.ipv4 (omega arith)
 
 pub put_contents-requires-2-clause-lengths : goal.put_contents-requires-2-clause-lengths
-put_contents-requires-2-clause-lengths c = lengths_below 128 wide_word c.args.ipv6.now c.requires.ipv6 (omega arith)
+put_contents-requires-2-clause-lengths c = lengths_below 128 0 wide_word c.args.ipv6.now c.requires.ipv6 (omega arith)
 
 pub returns : goal.returns
 returns c =
@@ -33,4 +33,4 @@ returns c =
     let is : o3 ≡ head ++ (p4 ++ p6) =
     third ∙ (ap (λ (xs : List ℕ). xs ++ p6) second ∙ (append_assoc o1 p4 p6 ∙ ap (λ (xs : List ℕ). xs ++ (p4 ++ p6)) first)) in
     let all = is_file (from_le_bytes w32) wide_word a b c.requires.ipv4 c.requires.ipv6 o3 is in
-    record { file = all.0; small = all.1; zeros = all.4; ipv4 = all.2; ipv6 = all.3 }
+    record { file = all.0; small = all.1; zeros = all.4; ipv4 = all.2; ipv6 = all.3; ipv4_steps = all.5; ipv6_steps = all.6; all = is }

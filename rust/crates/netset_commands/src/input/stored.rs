@@ -14,6 +14,7 @@ use cidr_lists::formats::LineFormat;
 use cidr_lists::forms::check_value;
 use cidr_lists::lists::Lists;
 use cidr_lists::sets::Sets;
+use cidr_lookup::TableError;
 use cidr_support::alloc::{AllocError, Global};
 
 /// The tables of a file of look-ups, which were checked.
@@ -118,20 +119,43 @@ fn push_networks<W: Family, C: OfFile<W>>(
     Ok(())
 }
 
-/// What is told of what is wrong with a table, or nothing where there was no memory to see.
+/// What is told of what is wrong with keys, or nothing where there was no memory to see.
+#[inline]
+fn keys_error_of(error: &TableError) -> Option<FileError> {
+    match error {
+        TableError::NoMemory => None,
+        TableError::TooMany | TableError::Refused(_) | TableError::TooLarge => {
+            Some(FileError::Changed)
+        }
+    }
+}
+
+/// The same of words.
+#[inline]
+fn words_error_of(fault: &cidr_lookup::Fault) -> Option<FileError> {
+    match fault {
+        cidr_lookup::Fault::Keys(error) => keys_error_of(error),
+        cidr_lookup::Fault::Steps
+        | cidr_lookup::Fault::TooLong
+        | cidr_lookup::Fault::First(_)
+        | cidr_lookup::Fault::Word(_) => Some(FileError::Changed),
+    }
+}
+
+/// The same of a table.
 #[inline]
 fn table_error_of(fault: &TableFault) -> Option<FileError> {
     match fault {
-        TableFault::NoMemory => None,
-        TableFault::Arrays(_) | TableFault::Offsets => Some(FileError::Changed),
+        TableFault::Words(fault) => words_error_of(fault),
+        TableFault::Offsets => Some(FileError::Changed),
     }
 }
 
 /// The same of a file.
-#[inline]
 fn file_error_of(fault: &Fault) -> Option<FileError> {
     match fault {
         Fault::Magic => Some(FileError::Unlike),
+        Fault::Old => Some(FileError::Old),
         Fault::Version(_) => Some(FileError::Version),
         Fault::Short => Some(FileError::Short),
         Fault::Long => Some(FileError::Long),

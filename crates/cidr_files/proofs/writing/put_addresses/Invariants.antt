@@ -1,6 +1,0 @@
-use Rattle.std.proofs.Common.{◌≡◌, ◌++◌, map, take}
-use Rattle.cidr_files.specs.Written.{spelled}
-use Rattle.cidr_files.proofs.writing.put_addresses.Given as goal
-
-abbrev pub invariant-loop-i : goal.invariant-loop-i
-invariant-loop-i g l = l.out.items ≡ l.fn.out.items ++ spelled g.W.Family.bytes_of (map g.W.Word.value (take l.i l.addresses))
