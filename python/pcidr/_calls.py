@@ -339,6 +339,9 @@ CALLS: dict[str, tuple[Any, list[Any]]] = {
     "best_free": (c_uint32, [c_void_p, c_size_t, c_uint8, POINTER(Value)]),
     "contains_each": (c_uint32, [c_void_p, c_size_t, c_void_p, c_size_t, c_void_p, c_size_t]),
     "longest_match_each": (c_uint32, [c_void_p, c_size_t, c_void_p, c_size_t, c_void_p, c_size_t]),
+    "nearest_each": (c_uint32, [c_void_p, c_size_t, c_void_p, c_size_t]),
+    "sort_order": (c_uint32, [c_void_p, c_size_t, c_void_p, c_size_t, POINTER(c_size_t)]),
+    "table_order": (c_uint32, [c_void_p, c_size_t, c_void_p, c_size_t, POINTER(c_size_t)]),
     "covering": (c_uint32, [c_void_p, c_size_t, POINTER(Value), c_void_p, c_size_t, POINTER(c_size_t)]),
     "covered": (c_uint32, [c_void_p, c_size_t, POINTER(Value), c_void_p, c_size_t, POINTER(c_size_t)]),
     "permits": (c_uint32, [c_void_p, c_size_t, POINTER(Value)]),
@@ -543,6 +546,9 @@ class Calls:
     best_free: Callable[[Any, int, int, Any], int]
     contains_each: Callable[[Any, int, Any, int, Any, int], int]
     longest_match_each: Callable[[Any, int, Any, int, Any, int], int]
+    nearest_each: Callable[[Any, int, Any, int], int]
+    sort_order: Callable[[Any, int, Any, int, Any], int]
+    table_order: Callable[[Any, int, Any, int, Any], int]
     covering: Callable[[Any, int, Any, Any, int, Any], int]
     covered: Callable[[Any, int, Any, Any, int, Any], int]
     permits: Callable[[Any, int, Any], int]

@@ -645,6 +645,18 @@ uint32_t pcidr_contains_each(const pcidr_value *networks, size_t networks_len, c
 uint32_t pcidr_longest_match_each(const pcidr_value *networks, size_t networks_len, const pcidr_value *asked,
                                   size_t asked_len, size_t *out, size_t out_len);
 
+/* For each network of a list the index of the smallest other one that contains it, and PCIDR_NO_INDEX where none does, at
+ * the same index of `out`. Equal networks do not contain each other here; of a network that repeats the last index counts.
+ * Errors as above. Allocates, and makes a table. */
+uint32_t pcidr_nearest_each(const pcidr_value *networks, size_t networks_len, size_t *out, size_t out_len);
+
+/* The indexes of the networks of a list in ascending order, and of equal ones in that of the list (sort); or the same of
+ * each network once, where it repeats of the last one (table), which is the order that `pcidr_file_write` takes: the first
+ * `count` of `out`. What is behind them stays. Errors: NO_MEMORY, NO_VALUE, NO_ROOM, and with that `count` is how many they
+ * are; then `out` is as it was. Allocates, and sorts the list: O(n log n). */
+uint32_t pcidr_sort_order(const pcidr_value *networks, size_t networks_len, size_t *out, size_t out_len, size_t *count);
+uint32_t pcidr_table_order(const pcidr_value *networks, size_t networks_len, size_t *out, size_t out_len, size_t *count);
+
 /* The indexes of the networks of a list that contain a network or an address, or of those that lie in a network: the first
  * `count` of `out`, ascending. In a list that ascends as `pcidr_order` sorts it the networks that contain it come with the
  * shortest first, and those that lie in it are one behind the other. What is behind them in `out` stays. Errors: NO_MEMORY,

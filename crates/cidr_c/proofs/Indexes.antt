@@ -7,12 +7,14 @@ use Rattle.std.proofs.lemmas.List.{take_more, length-take-le}
 use Rattle.cidr.specs.either.IpNetwork.{any_bits}
 use Rattle.cidr.specs.model.Network.{BeginsWith}
 use Rattle.cidr.specs.declared.cidr.any.AnyIpCidr.{AnyIpCidr}
+use Rattle.cidr.proofs.BothEnds.{contains_got}
 use Rattle.cidr_table.specs.model.Loading.{placed}
 use Rattle.cidr_table.proofs.LastPlaces.{placed_push}
 use Rattle.cidr_table.proofs.LastRows.{EndsAt, last_row}
 use Rattle.cidr_table.proofs.MapLaws.{contains_cases, contains_nothing}
 use Rattle.cidr_c.specs.calls.Lookups.{AreLongestIndexes, AreIndexed, IsLongestIndex, IsRowIndex}
 use Rattle.cidr_c.specs.calls.Batches.{AreNetworkValues}
+use Rattle.cidr_c.specs.calls.Ordering.{AreNearestIndexes, IsAround, IsNearestIndex, IsNearestRowIndex}
 use Rattle.cidr_c.specs.model.Values.{network_in}
 use Rattle.cidr_c.specs.declared.values.CValue.{CValue}
 use Rattle.cidr_c.proofs.Answering.{AreFirst, all}
@@ -91,6 +93,54 @@ matched values asked rows old out n fine last past first behind = record {
       (λ i v lt found.
       let had = first i v lt found in
       (had.0, had.1, had.2, longest_index (map network_in values) rows (network_in v) had.1 last had.3));
+  value = λ z. absurd (omega (arith, z));
+  room = λ z. absurd (omega (arith, z));
+  codes = inl refl;
+  behind = behind;
+  stays = λ h. elim h [ inl z ↦ absurd (omega (arith, z)) | inr z ↦ absurd (omega (arith, z)) ];
+  refused = λ none. absurd (none fine);
+}
+
+pub nearest_index : (ns : List AnyIpCidr) (rows : List (AnyIpCidr × ℕ)) (network : AnyIpCidr) (index : ℕ) → AreIndexed ns rows
+    → IsNearestRowIndex rows network index → IsNearestIndex ns network index
+nearest_index ns rows network index last (inl found) =
+    let row = found.0 in
+    let stands = (last row).0 found.1 in
+    let at = row_placed 0 ns row stands.place stands.here in
+    let place : stands.place ≡ index = omega (arith, at.0, found.4) in
+    let here : slice_get ns index ≡ Some row.0 = subst (λ (k : ℕ). slice_get ns k ≡ Some row.0) place at.1 in
+    inl (
+      row.0,
+      here,
+      found.2,
+      λ i other there around. elim (cases_lt (length (any_bits row.0)) (length (any_bits other))) [
+        | inl lt ↦ absurd (no_end (placed 0 ns) other
+            (λ (r : AnyIpCidr × ℕ) e same.
+            let most = found.3 r ((last r).1 (last_row (placed 0 ns) r e)) (subst (IsAround network) (sym same) around) in
+            omega (arith, lt, most, ap (λ k. length (any_bits k)) same))
+            (subst (λ l. Contains l other) (sym (keys_placed 0 ns)) (contains_got ns i other there)))
+        | inr ge ↦ ge
+      ],
+      λ other lt e.
+          stands.last other (omega (arith, place, lt)) (subst (λ l. slice_get l other ≡ Some row.0) (sym (keys_placed 0 ns)) e),
+    )
+nearest_index ns rows network index last (inr none) = inr (
+  none.0,
+  λ i other there around. no_end (placed 0 ns) other
+      (λ (r : AnyIpCidr × ℕ) e same.
+      none.1 r ((last r).1 (last_row (placed 0 ns) r e)) (subst (IsAround network) (sym same) around))
+      (subst (λ l. Contains l other) (sym (keys_placed 0 ns)) (contains_got ns i other there)),
+)
+
+pub nearest : (values : List CValue) (rows : List (AnyIpCidr × ℕ)) (old out : List ℕ) (n : ℕ) → AreNetworkValues values
+    → AreIndexed (map network_in values) rows → length values ≤ n → AreFirst (IsNearestRowIndex rows) n values out
+    → drop (length values) out ≡ drop (length values) old → AreNearestIndexes values old out 0
+nearest values rows old out n fine last past first behind = record {
+  networks = λ _. fine;
+  answers = λ _. all (IsNearestIndex (map network_in values)) n values out past
+      (λ i v lt found.
+      let had = first i v lt found in
+      (had.0, had.1, had.2, nearest_index (map network_in values) rows (network_in v) had.1 last had.3));
   value = λ z. absurd (omega (arith, z));
   room = λ z. absurd (omega (arith, z));
   codes = inl refl;

@@ -20,6 +20,7 @@ pub mod MaskTexts
 pub mod NetworkBlocks
 pub mod NetworkLists
 pub mod Networks
+pub mod Ordered
 pub mod Orders
 pub mod Places
 pub mod Readings

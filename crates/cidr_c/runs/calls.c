@@ -488,6 +488,23 @@ static void covering(void) {
     WANT(pcidr_covered(networks, 5, &address, indexes, 4, &count) == PCIDR_NO_VALUE && count == 1 && indexes[0] == 4);
 }
 
+/* The order of a list that repeats a network, and of each the nearest one around it. */
+static void ordering(void) {
+    const size_t sorted[7] = {5, 2, 0, 3, 4, 6, 1}, once[6] = {5, 2, 3, 4, 6, 1}, around[7] = {2, 5, 5, 2, 3, SIZE_MAX, 5};
+    const pcidr_value networks[7] = {value("10.1.0.0/16"), value("::/0"), value("10.0.0.0/8"), value("10.1.0.0/16"),
+                                     value("10.1.2.0/24"), value("any"), value("192.0.2.1")};
+    size_t count = 1, indexes[8] = {9, 9, 9, 9, 9, 9, 9, 9};
+    WANT(pcidr_sort_order(networks, 7, indexes, 6, &count) == PCIDR_NO_ROOM && count == 7 && indexes[0] == 9);
+    WANT(pcidr_table_order(networks, 7, indexes, 5, &count) == PCIDR_NO_ROOM && count == 6 && indexes[0] == 9);
+    WANT(pcidr_nearest_each(networks, 7, indexes, 6) == PCIDR_NO_ROOM && indexes[0] == 9);
+    WANT(pcidr_sort_order(networks, 7, indexes, 8, &count) == PCIDR_OK && count == 7);
+    WANT(memcmp(indexes, sorted, sizeof sorted) == 0);
+    WANT(pcidr_table_order(networks, 7, indexes, 8, &count) == PCIDR_OK && count == 6);
+    WANT(memcmp(indexes, once, sizeof once) == 0 && indexes[6] == 1);
+    WANT(pcidr_nearest_each(networks, 7, indexes, 8) == PCIDR_OK && memcmp(indexes, around, sizeof around) == 0);
+    WANT(indexes[7] == 9);
+}
+
 /* The smallest table was made by hand. */
 static void forwarding(void) {
     pcidr_row rows[5], other[5], room[5];
@@ -559,6 +576,7 @@ int main(void) {
     words();
     addresses_of_sets();
     covering();
+    ordering();
     forwarding();
     access_lists();
     return failures != 0;

@@ -74,6 +74,9 @@ static uint32_t count_ipv6(void) { return pcidr_count_ipv6(ascending_ipv6, COUNT
 static uint32_t nth_ipv6(void) { return pcidr_nth_ipv6(ascending_ipv6, COUNT, 0, 3, out); }
 static uint32_t covering(void) { return pcidr_covering(networks, COUNT, &networks[0], matches, COUNT, &count); }
 static uint32_t covered(void) { return pcidr_covered(networks, COUNT, &networks[0], matches, COUNT, &count); }
+static uint32_t nearest_each(void) { return pcidr_nearest_each(networks, COUNT, matches, COUNT); }
+static uint32_t sort_order(void) { return pcidr_sort_order(networks, COUNT, matches, COUNT, &count); }
+static uint32_t table_order(void) { return pcidr_table_order(networks, COUNT, matches, COUNT, &count); }
 
 static pcidr_row rows[COUNT], fewer[COUNT];
 static uint32_t smallest(void) { return pcidr_smallest(rows, COUNT, fewer, COUNT, &count); }
@@ -143,7 +146,7 @@ int main(void) {
         cover, make_union, intersection, difference, symmetric_difference, union_in_place, intersection_in_place,
         difference_in_place, contains_each, longest_match_each, summarize, first_free, best_free, permitted, shadowed,
         deciding, complement, is_subset, is_disjoint, make_ranges, count_ipv4, count_ipv6, nth_ipv4, nth_ipv6, covering,
-        covered, smallest, forwards_same, read_list, build_table, check_table, build_table_ipv6, check_table_ipv6,
+        covered, nearest_each, sort_order, table_order, smallest, forwards_same, read_list, build_table, check_table, build_table_ipv6, check_table_ipv6,
         write_file, write_set, check_file};
     for (size_t i = 0; i < sizeof calls / sizeof *calls; i++) {
         uint32_t code = PCIDR_NO_MEMORY;

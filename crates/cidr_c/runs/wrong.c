@@ -103,6 +103,9 @@ static void null_arguments(void) {
     WANT(pcidr_longest_match_each(&wide, 1, NULL, 0, NULL, 0) == PCIDR_OK);
     WANT(pcidr_longest_match_each(NULL, 0, &wide, 1, &count, 1) == PCIDR_OK && count == PCIDR_NO_INDEX);
     WANT(pcidr_longest_match_each(&wide, 1, &address, 1, NULL, 0) == PCIDR_NO_ROOM);
+    WANT(pcidr_nearest_each(NULL, 0, NULL, 0) == PCIDR_OK && pcidr_nearest_each(&wide, 1, NULL, 0) == PCIDR_NO_ROOM);
+    WANT(pcidr_sort_order(NULL, 0, NULL, 0, &count) == PCIDR_OK && count == 0);
+    WANT(pcidr_table_order(&wide, 1, NULL, 0, &count) == PCIDR_NO_ROOM && count == 1);
     count = 77;
 }
 
@@ -247,6 +250,9 @@ static void no_value(pcidr_value bad) {
     WANT(pcidr_longest_match_each(&wide, 1, both, 2, indexes, 2) == PCIDR_NO_VALUE);
     WANT(pcidr_covering(both, 2, &address, indexes, 2, &count) == PCIDR_NO_VALUE && is_left());
     WANT(pcidr_covered(&wide, 1, &bad, indexes, 2, &count) == PCIDR_NO_VALUE && is_left());
+    WANT(pcidr_nearest_each(both, 2, indexes, 2) == PCIDR_NO_VALUE);
+    WANT(pcidr_sort_order(both, 2, indexes, 2, &count) == PCIDR_NO_VALUE && is_left());
+    WANT(pcidr_table_order(both, 2, indexes, 2, &count) == PCIDR_NO_VALUE && is_left());
 }
 
 /* The same in each place of the calls around networks, of masks and of purposes. */

@@ -23,6 +23,7 @@ mod lookups;
 mod mask_texts;
 mod masks;
 mod names;
+mod ordering;
 mod parts;
 mod pools;
 mod printing;

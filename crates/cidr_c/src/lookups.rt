@@ -87,14 +87,24 @@ pub extern "C" fn pcidr_longest_match_each(
 }
 
 /// The table of networks, each with its last index, or the number of the error.
-fn table_of(alloc: Global, values: &[CValue]) -> Result<LpmTable<AnyIpCidr, usize>, u32>
+pub fn table_of(alloc: Global, values: &[CValue]) -> Result<LpmTable<AnyIpCidr, usize>, u32>
     ensures { MatchResult result
         (λ table. AreNetworkValues values.now × AreIndexed (map network_in values.now) table.rows)
         (λ code. ((code ≡ no_value) × ¬ (AreNetworkValues values.now)) ⊎ (code ≡ no_memory)) }
 {
+    let rows = rows_of(alloc, values)?;
+    Ok(LpmTable::from_rows(rows))
+}
+
+/// The networks that values are, each with its index, or the number of the error.
+pub fn rows_of(alloc: Global, values: &[CValue]) -> Result<Vec<(AnyIpCidr, usize)>, u32>
+    ensures { MatchResult result
+        (λ rows. AreNetworkValues values.now × (rows.items ≡ placed 0 (map network_in values.now)))
+        (λ code. ((code ≡ no_value) × ¬ (AreNetworkValues values.now)) ⊎ (code ≡ no_memory)) }
+{
     let networks = networks_of(alloc, values)?;
     match with_indexes(alloc, networks.as_slice()) {
-        Ok(rows) => Ok(LpmTable::from_rows(rows)),
+        Ok(rows) => Ok(rows),
         Err(_) => Err(NO_MEMORY),
     }
 }
@@ -114,7 +124,7 @@ fn with_indexes(
 }
 
 /// The index of the longest match, or `usize::MAX` where there is none.
-fn index_of(ready: &Lookups<'_, AnyIpCidr, usize>, asked: &AnyIpCidr) -> usize
+pub fn index_of(ready: &Lookups<'_, AnyIpCidr, usize>, asked: &AnyIpCidr) -> usize
     ensures { IsRowIndex ready.now asked.now result }
 {
     match ready.lookup(asked) {

@@ -303,6 +303,21 @@ pub unsafe extern "C" fn pcidr_read_reverse_name(text: *const u8, text_len: usiz
 }
 
 #[no_mangle]
+pub unsafe extern "C" fn pcidr_sort_order(networks: *const CValue, networks_len: usize, out: *mut usize, out_len: usize, count: *mut usize) -> u32 {
+    crate::ordering::pcidr_sort_order(Global, slice(networks, networks_len), slice_mut(out, out_len), &mut *count)
+}
+
+#[no_mangle]
+pub unsafe extern "C" fn pcidr_table_order(networks: *const CValue, networks_len: usize, out: *mut usize, out_len: usize, count: *mut usize) -> u32 {
+    crate::ordering::pcidr_table_order(Global, slice(networks, networks_len), slice_mut(out, out_len), &mut *count)
+}
+
+#[no_mangle]
+pub unsafe extern "C" fn pcidr_nearest_each(networks: *const CValue, networks_len: usize, out: *mut usize, out_len: usize) -> u32 {
+    crate::ordering::pcidr_nearest_each(Global, slice(networks, networks_len), slice_mut(out, out_len))
+}
+
+#[no_mangle]
 pub unsafe extern "C" fn pcidr_first_by_value(host: CValue, out: *mut CValue) -> u32 {
     crate::parts::pcidr_first_by_value(host, &mut *out)
 }

@@ -73,10 +73,17 @@ pub fn pcidr_longest_match_each(
 
 /// The table of networks, each with its last index, or the number of the error.
 #[inline]
-fn table_of(alloc: Global, values: &[CValue]) -> Result<LpmTable<AnyIpCidr, usize>, u32> {
+pub fn table_of(alloc: Global, values: &[CValue]) -> Result<LpmTable<AnyIpCidr, usize>, u32> {
+    let rows = rows_of(alloc, values)?;
+    Ok(LpmTable::from_rows(rows))
+}
+
+/// The networks that values are, each with its index, or the number of the error.
+#[inline]
+pub fn rows_of(alloc: Global, values: &[CValue]) -> Result<Vec<(AnyIpCidr, usize)>, u32> {
     let networks = networks_of(alloc, values)?;
     match with_indexes(alloc, networks.as_slice()) {
-        Ok(rows) => Ok(LpmTable::from_rows(rows)),
+        Ok(rows) => Ok(rows),
         Err(_) => Err(NO_MEMORY),
     }
 }
@@ -96,7 +103,7 @@ fn with_indexes(
 
 /// The index of the longest match, or `usize::MAX` where there is none.
 #[inline]
-fn index_of(ready: &Lookups<'_, AnyIpCidr, usize>, asked: &AnyIpCidr) -> usize {
+pub fn index_of(ready: &Lookups<'_, AnyIpCidr, usize>, asked: &AnyIpCidr) -> usize {
     match ready.lookup(asked) {
         Some(row) => row.1,
         None => usize::MAX,
