@@ -439,7 +439,13 @@ function bound(c, module) {
             }
         }
     }
-    const indexes = (given) => Array.from(new BigUint64Array(given.buffer, 0, given.length / 8), Number);
+    /** Indexes of 64 bits, each of which has its lower half only, or stands for none. */
+    const indexesOf = (given) => {
+        const halves = new Int32Array(given.buffer, 0, given.length / 4), to = new Int32Array(given.length / 8);
+        for (let i = 0; i < to.length; i++) to[i] = halves[2 * i];
+        return to;
+    };
+    const indexes = (given) => Array.from(indexesOf(given));
     const listOf = (given, kind = NetworkList) => {
         made.bytes = given;
         return new kind(made);
@@ -459,11 +465,9 @@ function bound(c, module) {
         static fromText(string, how = {}) { return textOf(string, how); }
         static fromValues(given) {
             if (!(given instanceof Uint8Array) || given.length % WIDE) throw new TypeError("not the bytes of values");
-            const own = given.slice();
-            for (let at = 0; at < own.length; at += WIDE) {
-                bytes.set(own.subarray(at, at + WIDE), one);
-                if (c.pcidr_check(one) !== 1) check(NO_VALUE);
-            }
+            const own = given.slice(), n = own.length / WIDE;
+            // (whether nothing has them is asked, which looks at each)
+            lent([own, new Uint8Array(n)], (at, answers) => check(c.pcidr_contains_each(at, 0n, at, big(n), answers, big(n))));
             return listOf(own);
         }
         static readEach(strings) {
@@ -503,21 +507,43 @@ function bound(c, module) {
             for (let i = 0; i < this.length; i++) yield this.at(i);
         }
         order() {
-            return lent([this.#bytes], (at) => Uint32Array.from({ length: this.length }, (_, i) => i)
-                .sort((a, b) => c.pcidr_compare(at + a * WIDE, at + b * WIDE) - 1 || a - b));
+            return this.#ordered(c.pcidr_sort_order);
+        }
+        tableOrder() {
+            return this.#ordered(c.pcidr_table_order);
+        }
+        #ordered(call) {
+            return lent([this.#bytes], (at) => answer(this.length, (room, n) => call(at, big(this.length), room, n, count), 8,
+                (given) => new Uint32Array(indexesOf(given).buffer)));
         }
         pick(chosen) {
-            const to = new Uint8Array(chosen.length * WIDE);
-            for (let i = 0; i < chosen.length; i++) to.set(this.#bytes.subarray(chosen[i] * WIDE, chosen[i] * WIDE + WIDE), i * WIDE);
-            return listOf(to);
+            const from = new Uint32Array(this.#bytes.buffer), to = new Uint32Array(6 * chosen.length);
+            for (let i = 0; i < chosen.length; i++) {
+                if (!(Number.isInteger(chosen[i]) && chosen[i] >= 0 && 6 * chosen[i] < from.length)) throw new RangeError(`not an index of the list: ${chosen[i]}`);
+                for (let k = 0; k < 6; k++) to[6 * i + k] = from[6 * chosen[i] + k];
+            }
+            return listOf(new Uint8Array(to.buffer));
+        }
+        slice(begin = 0, end = this.length) {
+            const [from, to] = [begin, end].map((n) => (n < 0 ? Math.max(0, this.length + n) : Math.min(n, this.length)));
+            return listOf(this.#bytes.slice(WIDE * from, WIDE * Math.max(from, to)));
+        }
+        nearestEach() {
+            const n = this.length;
+            return lent([this.#bytes, new Uint8Array(8 * n)], (at, places) => {
+                check(c.pcidr_nearest_each(at, big(n), places, big(n)));
+                return indexesOf(bytes.slice(places, places + 8 * n));
+            });
         }
         longestMatchEach(others) {
             const given = bytesOf(listed(others)), n = given.length / WIDE;
             return lent([this.#bytes, given, new Uint8Array(8 * n)], (at, to, places) => {
                 check(c.pcidr_longest_match_each(at, big(this.length), to, big(n), places, big(n)));
-                return Int32Array.from(new BigInt64Array(bytes.slice(places, places + 8 * n).buffer), Number);
+                return indexesOf(bytes.slice(places, places + 8 * n));
             });
         }
+        firstFree(prefixlen) { return free(c.pcidr_first_free, this, prefixlen); }
+        bestFree(prefixlen) { return free(c.pcidr_best_free, this, prefixlen); }
         covering(given) { return this.#around(given, c.pcidr_covering); }
         covered(given) { return this.#around(given, c.pcidr_covered); }
         #around(given, call) {
@@ -553,7 +579,7 @@ function bound(c, module) {
         symmetricDifference(other) { return combined(c.pcidr_symmetric_difference, this, other); }
         complement(within = "any") {
             const outer = network(within);
-            return lent([bytesOf(this)], (at) => answer(this.length + 128, (room, n) => {
+            return lent([bytesOf(this)], (at) => answer(4 * this.length + 128, (room, n) => {
                 put(outer, one);
                 return c.pcidr_complement(at, big(this.length), one, room, n, count);
             }, WIDE, setOf));
@@ -586,8 +612,6 @@ function bound(c, module) {
             const ends = lent([bytesOf(this)], (at) => answer(this.length, (room, n) => c.pcidr_ranges(at, big(this.length), room, n, count), 2 * WIDE));
             return Array.from({ length: ends.length / 2 }, (_, i) => [ends.at(2 * i).networkAddress, ends.at(2 * i + 1).networkAddress]);
         }
-        firstFree(prefixlen) { return free(c.pcidr_first_free, this, prefixlen); }
-        bestFree(prefixlen) { return free(c.pcidr_best_free, this, prefixlen); }
     }
     function combined(call, set, other) {
         const these = bytesOf(set), those = bytesOf(listed(other)), n = these.length / WIDE, m = those.length / WIDE;
@@ -600,11 +624,9 @@ function bound(c, module) {
             return words[count >>> 2] === 1;
         });
     }
-    function free(call, set, prefixlen) {
+    function free(call, list, prefixlen) {
         narrow(prefixlen, 8);
-        return lent([bytesOf(set)], (at) => {
-            return found(call(at, big(set.length), prefixlen, out), Network);
-        });
+        return lent([bytesOf(list)], (at) => found(call(at, big(list.length), prefixlen, out), Network));
     }
     const listed = (given) => (given instanceof NetworkList ? given : new NetworkList(given));
     /** The values of networks, addresses and strings. */
@@ -677,29 +699,27 @@ function bound(c, module) {
     }
 
     class Table {
-        #rows; // from the string of each network to its row
+        #rows = null; // from the string of each network to its row; made when it is asked for
         #networks;
         #values;
         #held;
         constructor(rows = []) {
-            const latest = new Map();
-            for (const [given, value] of rows) {
-                const key = network(given);
-                latest.set(key.toString(), [key, value]);
-            }
-            const all = [...latest.values()], list = new NetworkList(all.map(([key]) => key)), order = list.order();
+            const all = [...rows], list = new NetworkList(all.map(([given]) => given)), order = list.tableOrder();
             this.#networks = list.pick(order);
             this.#values = Array.from(order, (i) => all[i][1]);
             this.#held = new Held(lent([bytesOf(this.#networks)], (at) =>
-                answer(64 * list.length + 1024, (room, n) => c.pcidr_set_write(at, big(list.length), room, n, count), 1, (content) => content)));
-            this.#rows = new Map(Array.from(order, (i, row) => [all[i][0].toString(), row]));
+                answer(64 * order.length + 1024, (room, n) => c.pcidr_set_write(at, big(order.length), room, n, count), 1, (content) => content)));
             Object.freeze(this);
         }
         #row(i) { return i < 0 ? null : Object.freeze([this.#networks.at(i), this.#values[i]]); }
         close() { this.#held.close(); }
         get size() { return this.#values.length; }
-        get(given) { return this.#values[this.#rows.get(network(given).toString())]; }
-        has(given) { return this.#rows.has(network(given).toString()); }
+        #place(given) {
+            this.#rows ??= new Map(this.#networks.toStrings().map((key, row) => [key, row]));
+            return this.#rows.get(network(given).toString());
+        }
+        get(given) { return this.#values[this.#place(given)]; }
+        has(given) { return this.#place(given) !== undefined; }
         lookup(given) {
             const value = network(given);
             return this.#row(value.prefixlen === value.maxPrefixlen && value.version ? this.#held.row(value) : this.#networks.longestMatchEach([value])[0]);

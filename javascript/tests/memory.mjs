@@ -37,7 +37,7 @@ function run(pages) {
     for (const call of [() => new NetworkSet(list).length, () => new NetworkSet(list).union(list).length, () => small.difference(list).length,
         () => new NetworkSet(list).ranges().length, () => new NetworkSet(list).numAddresses(4), () => new NetworkSet(list).hasEach(list).length,
         () => new Table(strings.map((network) => [network, network])).lookup("10.0.0.1")[1], () => list.longestMatchEach(list)[7],
-        () => NetworkList.fromText(text).length, () => list.toText().length, () => list.order().length, () => list.covered("10.0.0.0/8").length,
+        () => NetworkList.fromText(text).length, () => list.toText().length, () => list.order().length, () => list.tableOrder().length, () => list.nearestEach()[0], () => list.covered("10.0.0.0/8").length,
         () => new Table(strings.map((network) => [network, network])).toFile().length, () => new StoredTable(file).size, () => permitted(rules).length,
         () => deciding(rules, "10.0.0.0/8").length, () => summarizeAddressRange("10.0.0.1", "12.0.0.0").length, () => small.complement().length]) {
         try {

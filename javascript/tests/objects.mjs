@@ -152,6 +152,11 @@ assert.equal(each.errors[1].error.message, '"10.0.0.1/8": host bits set; the net
 assert.equal(NetworkList.readEach([]).networks.length, 0);
 const unsorted = new NetworkList(["10.1.0.0/16", "::1", "10.0.0.0/8", "any", "10.0.0.0/8"]);
 assert.deepEqual([...unsorted.order()], [3, 2, 4, 0, 1]);
+assert.deepEqual([[...unsorted.tableOrder()], [...unsorted.nearestEach()]], [[3, 4, 0, 1], [4, 3, 3, -1, 3]]);
+assert.deepEqual([unsorted.slice(1, 3).length, unsorted.slice(-1).toStrings(), unsorted.slice(3, 1).length, unsorted.slice(0, 99).length], [2, unsorted.toStrings().slice(-1), 0, 5]);
+assert.throws(() => unsorted.pick([5]), RangeError);
+assert.throws(() => unsorted.pick([0.5]), RangeError);
+assert.throws(() => NetworkList.fromValues(Uint8Array.from({ length: 48 }, (_, i) => (i === 40 ? 33 : 0))), errors.NoValueError);
 assert.deepEqual([...unsorted.longestMatchEach(["10.1.2.3", "10.2.0.0", "192.0.2.1", "::1"])], [0, 4, 3, 1]);
 assert.deepEqual([unsorted.covering("10.1.2.3"), unsorted.covered("10.0.0.0/8")], [[0, 2, 3, 4], [0, 2, 4]]);
 const table = new Table([["10.0.0.0/8", "core"], ["10.1.2.0/24", "lab"], ["10.1.0.0/16", "edge"], ["2001:db8::/32", "six"], ["10.0.0.0/8", "core"]]);
