@@ -47,9 +47,15 @@ function header(line) {
     return null;
 }
 
+/** The first line of a text that is no comment, and what is before it. */
+const firstLine = (text) => /^(?:[^\S\n]*(?:[#;].*)?\n)*(.*)/.exec(text);
+
+/** Whether a text is CSV with a header. */
+export const isTable = (text) => header(firstLine(text)[1].trim()) !== null;
+
 /** The text of a plan: of CSV with a header its rows as plain lines, and else the text as it is. */
 export function plainText(text) {
-    const first = /^(?:[^\S\n]*(?:[#;].*)?\n)*(.*)/.exec(text), columns = header(first[1].trim());
+    const first = firstLine(text), columns = header(first[1].trim());
     if (!columns) return text;
     return text.slice(first[0].length + 1).split("\n").filter((line) => /\S/.test(line) && line[0] !== "#").map((line) => {
         const found = fields(line.trimEnd(), columns.separator), name = columns.name >= 0 ? found[columns.name] ?? "" : "";
@@ -99,92 +105,191 @@ export function rowsOf(text) {
     return { strings, begins, ends, lines };
 }
 
-/** What a text says, as arrays that can be sent to another thread: the rows in the order of their networks, and of each the nearest row
- * around it, how many are around it, whether it has rows inside, whether the one before it is of the same network, and where its name
- * lies in the text; of CSV with `text`, which stands for it. `told` is called with the part that is done. */
-export function readPlan({ NetworkList, NetworkSet, PcidrError, summarizeAddressRange }, given, told = () => {}) {
-    const text = plainText(given), { strings, begins, ends, lines } = rowsOf(text), faults = [];
-    told(0.15);
-    const read = NetworkList.readEach(strings), words = new Uint32Array(read.networks.toValues().buffer), from = [], kept = [], ranges = [];
-    let wrong = 0;
-    const fault = (index, message) => wrong++ < FAULTS && faults.push({ line: lines[index], message });
-    for (let i = 0; i < read.indexes.length; i++) {
-        if ((words[6 * i + 4] & 255) === 255) {
-            fault(read.indexes[i], '"any": the network of all addresses is no row of a plan');
-            continue;
-        }
-        kept.push(i);
-        from.push(read.indexes[i]);
+/** Reads a plan, and then what changes in it: it keeps the rows in the order of their lines, so that of a change only the lines that are new
+ * are read. What it returns are arrays that can be sent to another thread. */
+export class Reader {
+    #pcidr;
+    #groups = new Map(); // rows of one first word have one colour
+    #rows = null;
+    #faults = []; // in the order of their lines
+
+    constructor(pcidr) {
+        this.#pcidr = pcidr;
     }
-    for (const { index, error } of read.errors) {
-        const [first, last, more] = strings[index].split("-");
-        try {
-            if (last === undefined || more !== undefined) throw error;
-            const made = summarizeAddressRange(first, last);
-            if (made.length === 0) throw new PcidrError(29, `"${strings[index]}": the first address of the range is above the last one`);
-            ranges.push(made);
-            for (let i = 0; i < made.length; i++) from.push(index);
-        } catch (refused) {
-            fault(index, refused.message);
-        }
+
+    /** A whole text, and what is free in a network. `told` is called with the part that is done. */
+    read(given, view, told = () => {}) {
+        const text = plainText(given);
+        this.#groups.clear();
+        ({ rows: this.#rows, faults: this.#faults } = this.#parsed(text, told));
+        const plan = this.#plan(view, told);
+        if (text !== given) plan.text = text; // changes are made to plain lines
+        return plan;
     }
-    faults.sort((one, other) => one.line - other.line);
-    let list = kept.length === read.indexes.length ? read.networks : read.networks.pick(kept);
-    if (ranges.length) list = joined(NetworkList, [list, ...ranges]);
-    told(0.3);
-    const order = list.order(), sorted = list.pick(order);
-    told(0.6);
-    const count = order.length, outer = new Int32Array(count).fill(-1), depth = new Uint16Array(count), leaf = new Uint8Array(count).fill(1), twice = new Uint8Array(count);
-    // the rows around each row are a stack, since in this order they come outermost first
-    const open = [];
-    let inside = 0, repeated = 0, i = 0;
-    for (const network of sorted) {
-        while (open.length && !open[open.length - 1].network.contains(network)) open.pop();
-        const around = open[open.length - 1];
-        if (around) {
-            outer[i] = around.row;
-            depth[i] = open.length;
-            inside++;
-            if (around.network.equals(network)) {
-                twice[i] = 1;
-                repeated++;
-            } else {
-                // of those that repeat all have rows inside
-                for (let row = around.row; ; row = outer[row]) {
-                    leaf[row] = 0;
-                    if (!twice[row]) break;
-                }
+
+    /** Changes, one after the other: of each, how many lines from `line` on, which have the characters from `begin` up to `end`, become those
+     * of `text`. */
+    change(edits, view) {
+        for (const { line, count, begin, end, text } of edits) {
+            const { rows, faults } = this.#parsed(text), old = this.#rows, lines = linesOf(text), first = notBelow(old.lines, line), last = notBelow(old.lines, line + count);
+            const put = (array, added, by, after) => moved(moved(spliced(array, first, last, added), by, first, first + added.length), after, first + added.length);
+            this.#rows = {
+                values: spliced(old.values, 24 * first, 24 * last, rows.values),
+                lines: put(old.lines, rows.lines, line, lines - count),
+                begins: put(old.begins, rows.begins, begin, text.length - (end - begin)),
+                ends: put(old.ends, rows.ends, begin, text.length - (end - begin)),
+                colours: spliced(old.colours, first, last, rows.colours),
+            };
+            this.#faults = [
+                ...this.#faults.filter((fault) => fault.line < line),
+                ...faults.map((fault) => ({ ...fault, line: fault.line + line })),
+                ...this.#faults.filter((fault) => fault.line >= line + count).map((fault) => ({ ...fault, line: fault.line + lines - count })),
+            ];
+        }
+        return this.#plan(view, () => {});
+    }
+
+    /** The rows of some lines, and what is wrong with the others. */
+    #parsed(text, told = () => {}) {
+        const { NetworkList, PcidrError, summarizeAddressRange } = this.#pcidr, { strings, begins, ends, lines } = rowsOf(text), faults = [];
+        told(0.15);
+        const read = NetworkList.readEach(strings), values = read.networks.toValues(), at = new Int32Array(strings.length).fill(-1), ranges = new Map();
+        read.indexes.forEach((index, i) => {
+            if (values[24 * i + 16] === 255) faults.push({ line: lines[index], message: '"any": the network of all addresses is no row of a plan' });
+            else at[index] = i;
+        });
+        for (const { index, error } of read.errors) {
+            const [first, last, more] = strings[index].split("-");
+            try {
+                if (last === undefined || more !== undefined) throw error;
+                const made = summarizeAddressRange(first, last);
+                if (made.length === 0) throw new PcidrError(29, `"${strings[index]}": the first address of the range is above the last one`);
+                ranges.set(index, made.toValues());
+            } catch (refused) {
+                faults.push({ line: lines[index], message: refused.message });
             }
         }
-        open.push({ network, row: i++ });
+        faults.sort((one, other) => one.line - other.line);
+        told(0.5);
+        let count = 0;
+        for (let index = 0; index < strings.length; index++) count += at[index] >= 0 ? 1 : (ranges.get(index)?.length ?? 0) / 24;
+        const rows = { values: new Uint8Array(24 * count), lines: new Uint32Array(count), begins: new Uint32Array(count), ends: new Uint32Array(count), colours: new Uint8Array(count) };
+        let row = 0;
+        for (let index = 0; index < strings.length; index++) {
+            const some = at[index] >= 0 ? values.subarray(24 * at[index], 24 * at[index] + 24) : ranges.get(index);
+            if (some === undefined) continue;
+            let end = begins[index];
+            for (let code; end < ends[index] && !isBlank((code = text.charCodeAt(end))) && code !== COMMA; ) end++;
+            const word = text.slice(begins[index], end);
+            if (!this.#groups.has(word)) this.#groups.set(word, this.#groups.size);
+            rows.values.set(some, 24 * row);
+            for (const next = row + some.length / 24; row < next; row++) {
+                rows.lines[row] = lines[index];
+                rows.begins[row] = begins[index];
+                rows.ends[row] = ends[index];
+                rows.colours[row] = this.#groups.get(word) % 8;
+            }
+        }
+        return { rows, faults };
     }
-    told(0.75);
-    const cover = new NetworkSet(sorted), leaves = new NetworkSet(sorted.pick(order.map((_, row) => row).filter((row) => leaf[row])));
-    told(0.9);
-    const groups = new Map(), colours = new Uint8Array(count), lineOf = new Uint32Array(count), nameBegins = new Uint32Array(count), nameEnds = new Uint32Array(count);
-    for (let row = 0; row < count; row++) {
-        const at = from[order[row]];
-        lineOf[row] = lines[at];
-        nameBegins[row] = begins[at];
-        nameEnds[row] = ends[at];
-        // rows of one first word have one colour
-        let end = begins[at];
-        for (let code; end < ends[at] && !isBlank((code = text.charCodeAt(end))) && code !== COMMA; ) end++;
-        const word = text.slice(begins[at], end);
-        let group = groups.get(word);
-        if (group === undefined) groups.set(word, (group = groups.size));
-        colours[row] = group % 8;
+
+    /** The rows in the order of their networks, and of each the nearest row around it, how many are around it, whether it has rows inside,
+     * whether the one before it is of the same network, and where its name lies in the text; all merged, and what is free in a network. */
+    #plan(view, told) {
+        const { NetworkList, NetworkSet } = this.#pcidr, rows = this.#rows, list = NetworkList.fromValues(rows.values);
+        told(0.6);
+        const order = list.order(), sorted = list.pick(order), count = order.length, picked = (array) => {
+            const made = new array.constructor(count);
+            for (let i = 0; i < count; i++) made[i] = array[order[i]];
+            return made;
+        };
+        const nearest = sorted.nearestEach(), twice = new Uint8Array(count).fill(1);
+        twice[0] = 0;
+        // what a table of them would take is the last one of each network
+        for (const row of sorted.tableOrder()) if (row + 1 < count) twice[row + 1] = 0;
+        told(0.8);
+        const outer = new Int32Array(count), depth = new Uint16Array(count), leaf = new Uint8Array(count).fill(1);
+        let inside = 0, repeated = 0;
+        for (let row = 0; row < count; row++) {
+            outer[row] = twice[row] ? row - 1 : nearest[row];
+            if (outer[row] < 0) continue;
+            inside++;
+            repeated += twice[row];
+            depth[row] = depth[outer[row]] + 1;
+            // of those that repeat all have rows inside
+            for (let around = outer[row]; !twice[row] && leaf[around]; around--) {
+                leaf[around] = 0;
+                if (!twice[around]) break;
+            }
+        }
+        const innermost = new Uint32Array(count);
+        let some = 0;
+        for (let row = 0; row < count; row++) if (leaf[row]) innermost[some++] = row;
+        const leaves = new NetworkSet(sorted.pick(innermost.subarray(0, some)));
+        return {
+            values: sorted.toValues(), cover: new NetworkSet(sorted).toValues(), leaves: leaves.toValues(), gaps: (view ? leaves.complement(view) : new NetworkList()).toValues(), nameBegins: picked(rows.begins), nameEnds: picked(rows.ends), lines: picked(rows.lines), colours: picked(rows.colours),
+            outer, depth, leaf, twice, inside, repeated, wrong: this.#faults.length, faults: this.#faults.slice(0, FAULTS),
+        };
     }
-    return { values: sorted.toValues(), cover: cover.toValues(), leaves: leaves.toValues(), nameBegins, nameEnds, lines: lineOf, outer, depth, leaf, twice, colours, faults, wrong, inside, repeated, text: text === given ? undefined : text };
 }
 
-/** Lists one behind the other. */
-function joined(NetworkList, lists) {
-    const parts = lists.map((list) => list.toValues()), to = new Uint8Array(parts.reduce((sum, part) => sum + part.length, 0));
-    let at = 0;
-    for (const part of parts) {
-        to.set(part, at);
-        at += part.length;
+/** How many lines a text has, whether or not its last one ends. */
+export function linesOf(text) {
+    let count = 0, at = -1;
+    while ((at = text.indexOf("\n", at + 1)) >= 0) count++;
+    return text === "" || text.endsWith("\n") ? count : count + 1;
+}
+
+/** A text after changes, one after the other. */
+export const applied = (text, edits) => edits.reduce((made, { begin, end, text }) => made.slice(0, begin) + text + made.slice(end), text);
+
+/** How one text of whole lines became another one, as a change of the fewest lines; null where they are the same. */
+export function lineChange(old, text) {
+    if (old === text) return null;
+    const most = Math.min(old.length, text.length);
+    let same = 0, tail = 0;
+    while (same < most && old.charCodeAt(same) === text.charCodeAt(same)) same++;
+    const begin = same === 0 ? 0 : old.lastIndexOf("\n", same - 1) + 1;
+    while (tail < most - begin && old.charCodeAt(old.length - 1 - tail) === text.charCodeAt(text.length - 1 - tail)) tail++;
+    // what is behind begins with a line in both
+    const feed = old.indexOf("\n", old.length - tail);
+    tail = feed < 0 ? 0 : old.length - feed - 1;
+    return { line: linesOf(old.slice(0, begin)), begin, end: old.length - tail, text: text.slice(begin, text.length - tail) };
+}
+
+/** Of `count` places, of which a test holds up to some place and not from there on, the first where it does not. */
+function firstNot(count, test, low = 0) {
+    for (let high = count; low < high; ) {
+        const middle = (low + high) >> 1;
+        if (test(middle)) low = middle + 1;
+        else high = middle;
     }
-    return NetworkList.fromValues(to);
+    return low;
+}
+
+/** The index of the first number that is not below `n`, of numbers that ascend. */
+const notBelow = (numbers, n) => firstNot(numbers.length, (i) => numbers[i] < n);
+
+/** Of networks that ascend, the index of the last one that comes before a network or is the same, or -1. */
+export const lastUpTo = (list, network) => firstNot(list.length, (i) => list.at(i).compare(network) <= 0) - 1;
+
+/** Of networks that ascend, those that lie in a network: the index of the first one, and the one behind the last. */
+export function within(list, network) {
+    const begin = firstNot(list.length, (i) => list.at(i).compare(network) < 0);
+    return [begin, firstNot(list.length, (i) => network.contains(list.at(i)), begin)];
+}
+
+/** Adds a number to elements of an array. */
+function moved(array, by, begin, end = array.length) {
+    for (let i = begin; i < end; i++) array[i] += by;
+    return array;
+}
+
+/** An array with others in the place of some elements. */
+function spliced(array, begin, end, added) {
+    const made = new array.constructor(array.length - (end - begin) + added.length);
+    made.set(array.subarray(0, begin));
+    made.set(added, begin);
+    made.set(array.subarray(end), begin + added.length);
+    return made;
 }

@@ -1,18 +1,18 @@
 // plan.js: the page. What networks are, contain, leave free and become comes from the library; here are text, drawing and keys.
 import { load, PcidrError } from "pcidr";
-import { bitOf, boxes, hilbert } from "curve.js";
-import { readPlan } from "compute.js";
+import { boxes, hilbert, placed, upToLength } from "curve.js";
+import { Reader, applied, isTable, lastUpTo, lineChange, linesOf, within } from "compute.js";
 
 /** The module as bytes: make_page.py writes it into the page. */
 const moduleBytes = () => Uint8Array.from(atob(MODULE), (letter) => letter.charCodeAt(0));
 
 if (typeof document === "undefined") {
     // The same script in a Worker: it reads texts, while the page can be used.
-    let pcidr;
+    let reader;
     onmessage = async ({ data }) => {
-        pcidr ??= { ...(await load(moduleBytes())), PcidrError };
+        reader ??= new Reader({ ...(await load(moduleBytes())), PcidrError });
         try {
-            const plan = readPlan(pcidr, data, (part) => postMessage({ part }));
+            const plan = data.edits ? reader.change(data.edits, data.view) : reader.read(data.text, data.view, (part) => postMessage({ part }));
             postMessage({ plan }, Object.values(plan).filter(ArrayBuffer.isView).map((array) => array.buffer));
         } catch (error) {
             postMessage({ error: error.message });
@@ -24,7 +24,7 @@ if (typeof document === "undefined") {
 }
 
 async function page(pcidr, script) {
-    const { Network, Address, Host, NetworkList, NetworkSet, Table } = pcidr;
+    const { Network, Address, Host, NetworkList, NetworkSet } = pcidr;
     const $ = (id) => document.getElementById(id);
     const root = document.documentElement;
     const EXAMPLE = `10.20.0.0/16 campus
@@ -57,10 +57,10 @@ async function page(pcidr, script) {
     const AT_ONCE = 50000; // a shorter text is read without a Worker
     let plan = null; // what the text says
     let view = null; // the network that the map shows
-    let chosen = null; // the network that is chosen, and whether as one that is free
+    let chosen = null; // the network that is chosen, whether as what is free, and its row
     let tab = "plan";
-    let text = ""; // of the plan
-    let past = [], future = []; // texts
+    let text = "", lineCount = 0; // of the plan
+    let past = [], future = []; // of each change those that take it back, or make it again
     let theme = null;
 
     const say = (message, isBad = false) => {
@@ -78,9 +78,17 @@ async function page(pcidr, script) {
     // ---- the text, of which the box has some lines, since browsers take seconds to lay out 100,000
 
     const LINES = 2000;
-    let part = { line: 0, begin: 0, end: 0 }; // what the box shows: the number of its first line, and where it lies in the text
-    function setText(next, line = part.line) {
-        text = next;
+    let part = { line: 0, count: 0, begin: 0, end: 0 }; // what the box shows: the number of its first line, how many they are, and where they lie in the text
+    function showPart() {
+        const { line, begin, end } = part, shown = text.slice(begin, end);
+        if ($("text").value !== shown) $("text").value = shown;
+        $("pages").hidden = begin === 0 && end === text.length;
+        $("page").textContent = `from line ${many(line + 1)}`;
+        $("before").disabled = begin === 0;
+        $("after").disabled = end === text.length;
+    }
+    /** Shows the lines from this one on. */
+    function turnTo(line) {
         let begin = 0, at = 0;
         for (; at < line; at++) {
             const feed = text.indexOf("\n", begin);
@@ -89,47 +97,73 @@ async function page(pcidr, script) {
         }
         let end = begin - 1, count = 0;
         while (count < LINES && (end = text.indexOf("\n", end + 1)) >= 0) count++;
-        if (end < 0) end = text.length;
-        part = { line: at, begin, end };
-        if ($("text").value !== text.slice(begin, end)) $("text").value = text.slice(begin, end);
-        $("pages").hidden = begin === 0 && end === text.length;
-        $("page").textContent = `from line ${many(at + 1)}`;
-        $("before").disabled = begin === 0;
-        $("after").disabled = end === text.length;
+        part = { line: at, count, begin, end: end < 0 ? text.length : end };
+        showPart();
     }
-    /** The text with what the box has now. */
-    const edited = () => text.slice(0, part.begin) + $("text").value + text.slice(part.end);
-    const turnTo = (line) => setText(text, Math.max(0, line));
+    /** Makes changes to the text, one after the other, and returns those that take them back. A change is of whole lines: from the number `line`
+     * on, the characters from `begin` up to `end` become others. */
+    function edit(edits) {
+        const back = [];
+        let isKept = true; // whether the box shows the same lines
+        for (const one of edits) {
+            const gone = text.slice(one.begin, one.end), by = one.text.length - gone.length;
+            one.count = linesOf(gone);
+            const more = linesOf(one.text) - one.count;
+            back.unshift({ line: one.line, begin: one.begin, end: one.begin + one.text.length, text: gone });
+            text = text.slice(0, one.begin) + one.text + text.slice(one.end);
+            lineCount += more;
+            if (one.begin >= part.begin && one.end <= part.end + 1) part = { ...part, count: part.count + more, end: part.end + by };
+            else if (one.end <= part.begin) part = { ...part, line: part.line + more, begin: part.begin + by, end: part.end + by };
+            else if (one.begin < part.end) isKept = false;
+        }
+        if (isKept && part.count <= 2 * LINES && part.end >= part.begin && part.end <= text.length) showPart();
+        else turnTo(part.line);
+        return back;
+    }
+    /** Another text as a change, with the ends of lines that the box gives. */
+    const whole = (next) => [{ line: 0, begin: 0, end: text.length, text: next.replace(/\r\n?/g, "\n") }];
+    /** What was written into the box, as a change; none where nothing was. */
+    function written() {
+        const isLast = part.end === text.length, found = lineChange(text.slice(part.begin, part.end) + (isLast ? "" : "\n"), $("text").value + (isLast ? "" : "\n"));
+        return found && [{ line: part.line + found.line, begin: part.begin + found.begin, end: part.begin + found.end, text: found.text }];
+    }
 
     let worker = null, url = null, turn = 0, isReading = false;
+    let reader = null, knower = null; // which of both readers has read the text before: "here" or "worker"
     /** Ends what a Worker still reads. One that has ended its work is kept for the next text. */
     function stop() {
         if (isReading) {
             worker.terminate();
-            worker = null;
+            worker = knower = null;
         }
         isReading = false;
         $("work").hidden = true;
     }
-    /** Reads the text, and shows what it says, with a network chosen or as it was. */
-    function compute(network = null) {
-        const mine = ++turn;
+    /** Reads the text, or what changes of it, and shows what it says, with a network chosen or as it was. */
+    function compute(network = null, edits = null) {
+        const mine = ++turn, where = text.length < AT_ONCE ? "here" : "worker";
         stop();
         if (text.length > LARGEST) {
+            knower = null;
             say(`the text has more than ${LARGEST >> 20} MiB, and was not read`, true);
             root.dataset.state = "ready";
             return;
         }
         root.dataset.state = "busy";
-        const begin = performance.now();
+        const begin = performance.now(), shown = view && String(view), isWhole = edits === null || knower !== where || isTable(text);
         const done = (made) => {
             if (mine !== turn) return;
             isReading = false;
+            knower = where;
             $("work").hidden = true;
             take(made, performance.now() - begin, network);
             root.dataset.state = "ready";
         };
-        if (text.length < AT_ONCE) return done(readPlan(pcidr, text));
+        const here = () => {
+            reader ??= new Reader(pcidr);
+            done(isWhole || where !== "here" ? reader.read(text, shown) : reader.change(edits, shown));
+        };
+        if (where === "here") return here();
         url ??= URL.createObjectURL(new Blob([script], { type: "text/javascript" }));
         $("progress").value = 0;
         $("work").hidden = false;
@@ -144,20 +178,30 @@ async function page(pcidr, script) {
         worker.onerror = (event) => {
             event.preventDefault();
             worker = null; // the browser lets the page have none
-            if (mine === turn) done(readPlan(pcidr, text));
+            isReading = false;
+            if (mine === turn) here();
         };
-        worker.postMessage(text);
+        worker.postMessage(isWhole ? { text, view: shown } : { edits, view: shown });
     }
     function cancel(why = "cancelled: the map is of the text before") {
         turn++;
         stop();
+        knower = null;
         say(why, true);
         root.dataset.state = "ready";
     }
+    let storing = 0;
     function take(made, took, network) {
         const list = NetworkList.fromValues(made.values);
-        if (made.text !== undefined) setText(made.text); // changes are made to plain lines
-        plan = { ...made, text, list, count: list.length, words: new Uint32Array(made.values.buffer), cover: NetworkSet.fromValues(made.cover), leaves: NetworkSet.fromValues(made.leaves), table: null, around: new Map() };
+        if (made.text !== undefined) {
+            // changes are made to plain lines; that which gave the text another form is taken back with it
+            const before = past.length ? applied(text, past.pop()) : null;
+            edit(whole(made.text));
+            if (before !== null) past.push([{ line: 0, begin: 0, end: text.length, text: before }]);
+        }
+        const [cover, leaves, gaps] = [made.cover, made.leaves, made.gaps].map((values) => NetworkList.fromValues(values));
+        plan = { ...made, text, list, count: list.length, words: new Uint32Array(made.values.buffer), cover, leaves, gaps: new Map() };
+        if (view) plan.gaps.set(String(view), { list: gaps, words: new Uint32Array(made.gaps.buffer) });
         plan.roots = rootsOf(plan.cover);
         if (!view || !plan.roots.some((root) => root.contains(view))) view = plan.roots[0] ?? new Network("0.0.0.0/0");
         say(`${many(plan.count)} networks, ${many(plan.cover.length)} merged, ${many(plan.inside)} inside others, ${many(plan.repeated)} twice; ${took.toFixed(0)} ms`, plan.wrong > 0);
@@ -169,8 +213,9 @@ async function page(pcidr, script) {
             return item;
         }));
         if (plan.wrong > plan.faults.length) $("faults").append(`and ${many(plan.wrong - plan.faults.length)} more`);
-        if (text.length < 2e6) store("plan", text);
-        if (network ?? chosen) choose(network ?? chosen.network, !network && chosen.isFree);
+        clearTimeout(storing);
+        storing = setTimeout(() => text.length < 2e6 && store("plan", text), 300);
+        if (network ?? chosen) choose(network ?? chosen.network, !network && chosen.isGap);
         else show();
     }
     // The merged networks ascend, so that what contains the first and the last of a family contains all between.
@@ -185,7 +230,7 @@ async function page(pcidr, script) {
         return [...around(0, four), ...around(four, cover.length)].filter((root) => root.version !== null);
     }
     function selectLine(line) {
-        if (line < part.line || line >= part.line + LINES) turnTo(line - 100);
+        if (line < part.line || line > part.line + part.count) turnTo(Math.max(0, line - 100));
         const shown = $("text").value;
         let at = 0;
         for (let i = part.line; i < line; i++) at = shown.indexOf("\n", at) + 1;
@@ -197,81 +242,105 @@ async function page(pcidr, script) {
 
     // ---- changes, each of which can be undone
 
-    function change(next, network = null) {
-        past = [...past.slice(-99), text];
+    function change(edits, network = null) {
+        past = [...past.slice(-99), edit(edits)];
         future = [];
-        put(next, network);
+        changed(network, edits);
     }
-    function put(next, network = null) {
-        if (next !== edited() || next !== text) setText(next);
+    function changed(network, edits) {
         $("undo").disabled = past.length === 0;
         $("redo").disabled = future.length === 0;
-        compute(network);
+        compute(network, edits);
     }
-    const undo = () => {
-        if (past.length === 0) return;
-        future.push(text);
-        put(past.pop());
-    };
-    const redo = () => {
-        if (future.length === 0) return;
-        past.push(text);
-        put(future.pop());
-    };
+    /** Takes what was last written into the box as a change, before another one. */
+    function settle() {
+        clearTimeout(waiting);
+        const edits = written();
+        if (edits) change(edits);
+        else if (!isReading) root.dataset.state = "ready";
+    }
+    function retake(from, to) {
+        settle();
+        if (from().length === 0) return;
+        const edits = from().pop();
+        to().push(edit(edits));
+        changed(null, edits);
+    }
+    const undo = () => retake(() => past, () => future);
+    const redo = () => retake(() => future, () => past);
     const nameOf = (row) => plan.text.slice(plan.nameBegins[row], plan.nameEnds[row]);
     const shown = (row) => `${plan.list.at(row)} ${nameOf(row)}`.trimEnd();
-    /** The text with rows replaced by lines; of a line with a range the other networks stay. */
-    function replaced(rows, lines) {
-        const gone = new Map(rows.map((row) => [plan.lines[row], []])), first = Math.min(...gone.keys());
-        for (let row = 0; row < plan.count; row++) {
-            if (gone.has(plan.lines[row]) && !rows.includes(row)) gone.get(plan.lines[row]).push(shown(row));
-        }
-        return text.split("\n").flatMap((line, i) => (gone.has(i) ? [...gone.get(i), ...(i === first ? lines : [])] : [line])).join("\n");
+    /** Where the line of a row lies in the text. */
+    function lineOf(row) {
+        const end = text.indexOf("\n", plan.nameBegins[row]);
+        return { line: plan.lines[row], begin: text.lastIndexOf("\n", plan.nameBegins[row] - 1) + 1, end: end < 0 ? text.length : end + 1 };
     }
-    const added = (line) => `${text}${text === "" || text.endsWith("\n") ? "" : "\n"}${line}\n`;
-    /** The rows around a network, and its own; kept, since each is a pass over all rows. */
+    /** Puts lines in the place of those of rows; of a line with a range the other networks stay. */
+    function replace(rows, put, network) {
+        const gone = new Map(rows.map((row) => [plan.lines[row], { row, made: [] }])), first = Math.min(...gone.keys());
+        for (let row = 0; row < plan.count; row++) {
+            if (gone.has(plan.lines[row]) && !rows.includes(row)) gone.get(plan.lines[row]).made.push(shown(row));
+        }
+        gone.get(first).made.push(...put);
+        const edits = [...gone.values()].map(({ row, made }) => ({ ...lineOf(row), text: made.map((line) => `${line}\n`).join("") }));
+        change(edits.sort((one, other) => other.line - one.line), network);
+    }
+    /** Puts a line behind the others. */
+    function append(line, network) {
+        const begin = text.endsWith("\n") ? text.length : text.lastIndexOf("\n") + 1, last = text.slice(begin);
+        change([{ line: last === "" ? lineCount : lineCount - 1, begin, end: text.length, text: `${last}${last === "" ? "" : "\n"}${line}\n` }], network);
+    }
+    /** Whether what is shown is of the text, so that it can be changed. */
+    function isCurrent() {
+        if (plan?.text === text) return true;
+        say(plan ? "the map is not of this text: change the text, or undo" : "the plan is still read", true);
+        return false;
+    }
+    /** The rows around a network, and its own, the outermost first: of the last row up to it, and those around that, the ones that contain it. */
     function rowsAround(network) {
-        const key = network.toString();
-        if (plan.around.size > 1000) plan.around.clear();
-        if (!plan.around.has(key)) plan.around.set(key, plan.list.covering(network));
-        return plan.around.get(key);
+        let row = lastUpTo(plan.list, network);
+        while (row >= 0 && !plan.list.at(row).contains(network)) row = plan.outer[row];
+        const rows = [];
+        for (; row >= 0; row = plan.outer[row]) rows.unshift(row);
+        return rows;
     }
     const rowsAt = (network) => rowsAround(network).filter((row) => plan.list.at(row).equals(network));
     function split() {
-        if (!chosen) return;
+        if (!chosen || !isCurrent()) return;
         const halves = chosen.network.halves(), rows = rowsAt(chosen.network);
         if (!halves) return say("an address has no halves", true);
         if (chosen.isFree || rows.length === 0) return choose(halves[0], true);
-        change(replaced(rows, halves.map((half) => `${half} ${nameOf(rows[0])}`.trimEnd())), halves[0]);
+        replace(rows, halves.map((half) => `${half} ${nameOf(rows[0])}`.trimEnd()), halves[0]);
     }
     function join() {
-        if (!chosen) return;
+        if (!chosen || !isCurrent()) return;
         const sibling = chosen.network.sibling(), parent = chosen.network.supernet(), rows = rowsAt(chosen.network);
         if (!parent) return say("there is nothing around it", true);
         if (chosen.isFree || rows.length === 0) return choose(parent, true);
         const others = rowsAt(sibling);
         if (others.length === 0) return say(`${sibling}, its other half, is not in the plan`, true);
-        change(replaced([...rows, ...others], [`${parent} ${nameOf(rows[0])}`.trimEnd()]), parent);
+        replace([...rows, ...others], [`${parent} ${nameOf(rows[0])}`.trimEnd()], parent);
     }
     function takeFree() {
+        if (!isCurrent()) return;
         const length = Number($("length").value);
         let network = null;
         try {
             network = freeHere().bestFree(length);
         } catch { /* no whole number */ }
         if (!network) return say(`no free network of length /${$("length").value} in ${view}`, true);
-        change(added(`${network} new`), network);
+        append(`${network} new`, network);
     }
-    const add = () => chosen && rowsAt(chosen.network).length === 0 && change(added(`${chosen.network} new`), chosen.network);
+    const add = () => chosen && isCurrent() && rowsAt(chosen.network).length === 0 && append(`${chosen.network} new`, chosen.network);
     function rename() {
         const rows = chosen ? rowsAt(chosen.network) : [];
-        if (rows.length === 0) return;
+        if (rows.length === 0 || !isCurrent()) return;
         const input = document.createElement("input");
         input.id = "rename";
         input.value = nameOf(rows[0]);
         input.setAttribute("aria-label", `The name of ${chosen.network}`);
         input.onkeydown = (event) => {
-            if (event.key === "Enter") change(replaced([rows[0]], [`${chosen.network} ${input.value.replace(/[#;\n]/g, " ").trim()}`.trimEnd()]), chosen.network);
+            if (event.key === "Enter") replace([rows[0]], [`${chosen.network} ${input.value.replace(/[#;\n]/g, " ").trim()}`.trimEnd()], chosen.network);
             else if (event.key === "Escape") detail();
             else return;
             event.preventDefault();
@@ -284,54 +353,47 @@ async function page(pcidr, script) {
 
     // ---- the map
 
-    const freeHere = () => {
-        if (plan.free?.view !== view) plan.free = { view, set: plan.leaves.complement(view) };
-        return plan.free.set;
-    };
-    const place = () => ($("hilbert").checked ? hilbert : boxes)($("canvas").clientWidth, $("canvas").clientHeight);
-    /** Where the networks of a list lie on the map: four numbers for each of the chosen rows. */
-    function placed(words, rows) {
-        const put = place(), from = view.prefixlen, to = new Float32Array(4 * rows.length);
-        let at = 0, isFour = true;
-        const bit = (i) => bitOf(words, at, isFour, i);
-        for (let i = 0; i < rows.length; i++) {
-            at = 6 * rows[i];
-            const tag = words[at + 4] & 255;
-            isFour = tag < 64;
-            to.set(put(bit, from, isFour ? tag : tag - 64), 4 * i);
+    /** What is free in a network, as networks and as their words: what no row without rows inside has. */
+    function gapsOf(network) {
+        const key = network.toString();
+        if (!plan.gaps.has(key)) {
+            const list = new NetworkSet(plan.leaves).complement(network);
+            if (plan.gaps.size > 8) plan.gaps.clear();
+            plan.gaps.set(key, { list, words: wordsOf(list) });
         }
-        return to;
+        return plan.gaps.get(key);
     }
-    const placeOf = (network) => placed(new Uint32Array(new NetworkList([network]).toValues().buffer), [0]);
+    const freeHere = () => gapsOf(view).list;
+    const wordsOf = (list) => new Uint32Array(list.toValues().buffer);
+    const curve = () => ($("hilbert").checked ? hilbert : boxes)($("canvas").clientWidth, $("canvas").clientHeight);
     const MONO = '12px ui-monospace, "DejaVu Sans Mono", monospace';
-    let drawn = null; // the map without what is chosen, and what it is of
+    let drawn = null; // the map, and what it is of
     function draw() {
-        const canvas = $("canvas"), pen = canvas.getContext("2d", { willReadFrequently: true });
-        const key = [view, theme, $("hilbert").checked, canvas.clientWidth, canvas.clientHeight, devicePixelRatio].join(" ");
-        if (drawn?.plan !== plan || drawn.key !== key) {
-            const parts = drawMap(canvas, pen);
-            drawn = { plan, key, ...parts, kept: pen.getImageData(0, 0, canvas.width, canvas.height) };
-        } else {
-            pen.putImageData(drawn.kept, 0, 0);
-        }
-        if (chosen && view.contains(chosen.network)) {
-            const row = drawn.rows.findIndex((row) => !chosen.isFree && row === chosen.row);
-            const [x, y, a, b] = row >= 0 ? drawn.boxes.subarray(4 * row, 4 * row + 4) : placeOf(chosen.network);
-            const css = getComputedStyle(root);
-            pen.setLineDash([]);
-            for (const [width, colour] of [[5, "--bg"], [3, "--accent"]]) {
-                pen.lineWidth = width;
-                pen.strokeStyle = css.getPropertyValue(colour);
-                pen.strokeRect(x + 1, y + 1, Math.max(4, a - 2), Math.max(4, b - 2));
-            }
+        const canvas = $("canvas"), key = [view, theme, $("hilbert").checked, canvas.clientWidth, canvas.clientHeight, devicePixelRatio].join(" ");
+        if (drawn?.plan !== plan || drawn.key !== key) drawn = { plan, key, ...drawMap(canvas, canvas.getContext("2d", { willReadFrequently: true })) };
+        mark();
+    }
+    /** What is chosen has a frame, on a canvas above the map. */
+    function mark() {
+        const canvas = $("mark"), scale = devicePixelRatio || 1, pen = canvas.getContext("2d"), css = getComputedStyle(root);
+        canvas.width = $("canvas").width;
+        canvas.height = $("canvas").height;
+        if (!chosen || !view.contains(chosen.network)) return;
+        const i = chosen.isFree || chosen.row === undefined ? -1 : chosen.row - drawn.begin;
+        const [x, y, a, b] = i >= 0 ? drawn.boxes.subarray(4 * i, 4 * i + 4) : placed(curve(), wordsOf(new NetworkList([chosen.network])), view.prefixlen, [0]);
+        pen.setTransform(scale, 0, 0, scale, 0, 0);
+        for (const [width, colour] of [[5, "--bg"], [3, "--accent"]]) {
+            pen.lineWidth = width;
+            pen.strokeStyle = css.getPropertyValue(colour);
+            pen.strokeRect(x + 1, y + 1, Math.max(4, a - 2), Math.max(4, b - 2));
         }
     }
     const SMALL = 14; // what is smaller has no text, and is drawn by pixels
     function drawMap(canvas, pen) {
         const scale = devicePixelRatio || 1, style = getComputedStyle(root), css = (name) => style.getPropertyValue(name).trim();
         const width = canvas.clientWidth, height = canvas.clientHeight;
-        canvas.width = Math.max(1, width * scale);
-        canvas.height = Math.max(1, height * scale);
+        canvas.width = Math.max(1, Math.round(width * scale));
+        canvas.height = Math.max(1, Math.round(height * scale));
         pen.setTransform(scale, 0, 0, scale, 0, 0);
         pen.fillStyle = css("--bg");
         pen.fillRect(0, 0, width, height);
@@ -347,7 +409,10 @@ async function page(pcidr, script) {
             dot.stroke();
         }
         const hatch = pen.createPattern(tile, "repeat"), edge = css("--edge"), bad = css("--bad"), dim = css("--dim"), panel = css("--panel");
-        const rows = plan.list.covered(view), boxes = placed(plan.words, rows), free = freeHere();
+        const [begin, end] = within(plan.list, view), boxes = placed(curve(), plan.words, view.prefixlen, upToLength(plan.words, 128, begin, end));
+        // what is free in less than a pixel is not drawn: a row stands beside it
+        const { list: free, words: freeWords } = gapsOf(view), finest = view.prefixlen + Math.ceil(Math.log2(canvas.width * canvas.height));
+        const shownFree = upToLength(freeWords, finest, 0, free.length), freeBoxes = placed(curve(), freeWords, view.prefixlen, shownFree);
         const around = rowsAround(view), base = around.length ? plan.depth[around[around.length - 1]] : 0;
         const box = (x, y, a, b, fill, isDashed) => {
             pen.fillStyle = fill;
@@ -368,13 +433,11 @@ async function page(pcidr, script) {
             pen.fillStyle = colour;
             lines.forEach((line, i) => pen.fillText(line, x + 5, y + 13 + 15 * i));
         };
-        const small = [], large = [];
-        for (let i = 0; i < rows.length; i++) {
-            const row = rows[i], inset = plan.twice[row] ? 0 : Math.min(4, Math.max(0, plan.depth[row] - base) * 2), at = 4 * i;
-            if (boxes[at + 2] < SMALL || boxes[at + 3] < SMALL) {
-                small.push(i);
-                continue;
-            }
+        const large = [];
+        for (let row = begin; row < end; row++) {
+            const at = 4 * (row - begin);
+            if (boxes[at + 2] < SMALL || boxes[at + 3] < SMALL) continue;
+            const inset = plan.twice[row] ? 0 : Math.min(4, Math.max(0, plan.depth[row] - base) * 2);
             if (inset && boxes[at + 2] > 24 && boxes[at + 3] > 24) {
                 boxes[at] += inset;
                 boxes[at + 1] += inset;
@@ -389,14 +452,12 @@ async function page(pcidr, script) {
                 pen.strokeStyle = bad;
                 pen.strokeRect(x + 2, y + 2, a - 4, b - 4);
             }
-            large.push(i);
+            large.push(row);
         }
         // what no row without rows inside has: hatched over the colour of the row around it
-        const freeWords = new Uint32Array(free.toValues().buffer), all = Array.from({ length: free.length }, (_, i) => i), freeBoxes = placed(freeWords, all);
-        const shownFree = all.filter((i) => freeBoxes[4 * i + 2] >= SMALL && freeBoxes[4 * i + 3] >= SMALL);
-        const owners = shownFree.length ? plan.list.longestMatchEach(free.pick(shownFree)) : [];
-        shownFree.forEach((i, k) => {
-            const owner = owners[k], network = free.at(i), at = 4 * i;
+        for (let i = 0, at = 0; at < freeBoxes.length; i++, at += 4) {
+            if (freeBoxes[at + 2] < SMALL || freeBoxes[at + 3] < SMALL) continue;
+            const network = free.at(shownFree[i]), owner = rowsAround(network).pop() ?? -1;
             let [x, y, a, b] = freeBoxes.subarray(at, at + 4);
             if (owner >= 0 && a > 12 && b > 12) {
                 x += 3;
@@ -408,39 +469,45 @@ async function page(pcidr, script) {
             box(x, y, a, b, hatch, true);
             pen.globalAlpha = 1;
             write(x, y, a, b, network, owner >= 0 ? `free in ${nameOf(owner)}` : "free", dim);
-        });
-        for (const i of large) {
-            const row = rows[i];
-            if (plan.leaf[row] && !plan.twice[row + 1]) write(...boxes.subarray(4 * i, 4 * i + 4), plan.list.at(row), nameOf(row), ON[plan.colours[row]]);
         }
-        if (small.length || free.length > shownFree.length) {
-            const image = pen.getImageData(0, 0, canvas.width, canvas.height), pixels = new Uint32Array(image.data.buffer);
+        for (const row of large) {
+            const at = 4 * (row - begin);
+            if (plan.leaf[row] && !plan.twice[row + 1]) write(...boxes.subarray(at, at + 4), plan.list.at(row), nameOf(row), ON[plan.colours[row]]);
+        }
+        if (large.length < end - begin || free.length) {
+            const image = pen.getImageData(0, 0, canvas.width, canvas.height), pixels = new Uint32Array(image.data.buffer), columns = canvas.width;
+            /** Fills a small box: of one that is smaller than a pixel, the pixel. */
             const fill = (boxes, at, colour) => {
-                const left = Math.max(0, Math.floor(boxes[at] * scale)), top = Math.max(0, Math.floor(boxes[at + 1] * scale));
-                const right = Math.min(canvas.width, Math.max(left + 1, Math.round((boxes[at] + boxes[at + 2]) * scale)));
+                if (boxes[at + 2] >= SMALL && boxes[at + 3] >= SMALL) return;
+                const left = Math.floor(boxes[at] * scale), top = Math.floor(boxes[at + 1] * scale);
+                if (boxes[at + 2] * scale < 1 && boxes[at + 3] * scale < 1) {
+                    pixels[top * columns + left] = colour;
+                    return;
+                }
+                const right = Math.min(columns, Math.max(left + 1, Math.round((boxes[at] + boxes[at + 2]) * scale)));
                 const bottom = Math.min(canvas.height, Math.max(top + 1, Math.round((boxes[at + 1] + boxes[at + 3]) * scale)));
                 const hasEdge = right - left > 3 && bottom - top > 3;
                 for (let y = top; y < bottom; y++) {
-                    const begin = y * canvas.width;
-                    pixels.fill(hasEdge && y === bottom - 1 ? line : colour, begin + left, begin + right);
+                    const begin = y * columns, shade = hasEdge && y === bottom - 1 ? line : colour;
+                    for (let x = left; x < right; x++) pixels[begin + x] = shade;
                     if (hasEdge) pixels[begin + right - 1] = line;
                 }
             };
             const packed = (colour) => (0xff000000 | (parseInt(colour.slice(5, 7), 16) << 16) | (parseInt(colour.slice(3, 5), 16) << 8) | parseInt(colour.slice(1, 3), 16)) >>> 0;
             const colours = COLOURS.map(packed), paper = packed(css("--paper")), line = packed(edge);
-            for (const i of all) if (freeBoxes[4 * i + 2] < SMALL || freeBoxes[4 * i + 3] < SMALL) fill(freeBoxes, 4 * i, paper);
-            for (const i of small) fill(boxes, 4 * i, colours[plan.colours[rows[i]]]);
+            for (let at = 0; at < freeBoxes.length; at += 4) fill(freeBoxes, at, paper);
+            for (let row = begin; row < end; row++) fill(boxes, 4 * (row - begin), colours[plan.colours[row]]);
             pen.putImageData(image, 0, 0);
         }
-        return { rows, boxes, free, freeBoxes };
+        return { begin, boxes, free: free.pick(shownFree), freeBoxes };
     }
     /** What lies at a place of the map: the innermost row, or what is free. */
     function under(event) {
         if (!drawn) return null;
         const at = $("canvas").getBoundingClientRect(), x = event.clientX - at.left, y = event.clientY - at.top;
-        const within = (boxes, i) => x >= boxes[4 * i] && x < boxes[4 * i] + boxes[4 * i + 2] && y >= boxes[4 * i + 1] && y < boxes[4 * i + 1] + boxes[4 * i + 3];
-        for (let i = 0; i < drawn.free.length; i++) if (within(drawn.freeBoxes, i)) return { network: drawn.free.at(i), isFree: true };
-        for (let i = drawn.rows.length - 1; i >= 0; i--) if (within(drawn.boxes, i)) return { network: plan.list.at(drawn.rows[i]), row: drawn.rows[i] };
+        const hits = (boxes, i) => x >= boxes[4 * i] && x < boxes[4 * i] + boxes[4 * i + 2] && y >= boxes[4 * i + 1] && y < boxes[4 * i + 1] + boxes[4 * i + 3];
+        for (let i = 0; i < drawn.freeBoxes.length / 4; i++) if (hits(drawn.freeBoxes, i)) return { network: drawn.free.at(i), isFree: true };
+        for (let i = drawn.boxes.length / 4 - 1; i >= 0; i--) if (hits(drawn.boxes, i)) return { network: plan.list.at(drawn.begin + i), row: drawn.begin + i };
         return null;
     }
 
@@ -448,13 +515,20 @@ async function page(pcidr, script) {
 
     function choose(network, isFree = false) {
         const rows = isFree ? [] : rowsAt(network);
-        chosen = { network, isFree: isFree || rows.length === 0, row: rows[0] };
+        chosen = { network, isGap: isFree, isFree: isFree || rows.length === 0, row: rows[0] };
         if (!view.contains(network)) view = plan.roots.find((root) => root.contains(network)) ?? network;
         show();
+    }
+    /** How many addresses of a network are in use: in a row without rows inside. */
+    function usedIn(network) {
+        const last = lastUpTo(plan.leaves, network), [begin, end] = within(plan.leaves, network);
+        if (last >= 0 && plan.leaves.at(last).contains(network)) return network.numAddresses;
+        return begin < end ? NetworkSet.fromValues(plan.leaves.slice(begin, end).toValues()).numAddresses(network.version) : 0n;
     }
     const paragraph = (text) => Object.assign(document.createElement("p"), { textContent: text });
     function detail() {
         if (!chosen) {
+            $("told").textContent = "";
             $("detail").replaceChildren(paragraph("Choose a network: on the map, in a list, or by looking an address up."));
             return;
         }
@@ -473,13 +547,12 @@ async function page(pcidr, script) {
         const special = first.specialEntry, kinds = kindsOf(network);
         if (special) item("purpose", `${PURPOSES[special.purpose]} (RFC ${special.rfc})`);
         else if (kinds) item("purpose", kinds);
-        const around = rowsAround(network).filter((row) => !rows.includes(row));
+        const covering = rowsAround(network), around = covering.filter((row) => !rows.includes(row));
         if (around.length) item("inside", around.map(shown).join(", "));
-        const isUsed = rowsAround(network).some((row) => plan.leaf[row]), within = isUsed ? rows : plan.list.covered(network);
-        const used = new NetworkSet(plan.list.pick(within.filter((row) => plan.leaf[row])));
-        if (within.length > rows.length) {
-            item("rows inside", many(within.length - rows.length));
-            item("in use", `${(Number((used.numAddresses(network.version) * 10000n) / network.numAddresses) / 100).toFixed(2)} %`);
+        const isUsed = covering.some((row) => plan.leaf[row]), [begin, end] = within(plan.list, network), inside = end - begin - rows.length, used = usedIn(network);
+        if (!isUsed && inside > 0) {
+            item("rows inside", many(inside));
+            item("in use", `${(Number((used * 10000n) / network.numAddresses) / 100).toFixed(2)} %`);
         }
         const title = document.createElement("h2"), list = document.createElement("dl"), buttons = document.createElement("div");
         title.textContent = network.withPrefixlen;
@@ -497,8 +570,10 @@ async function page(pcidr, script) {
             button("Show line", "In the text", () => selectLine(plan.lines[rows[0]]));
         }
         const names = rows.map((row) => nameOf(row)).filter(Boolean).join("; "), isPool = rows.some((row) => !plan.leaf[row]);
-        const state = isUsed || (used.length && used.has(network)) ? "in use" : used.length ? "in use in part" : "free";
-        $("detail").replaceChildren(title, paragraph(rows.length ? `${names || "in the plan"}${isPool ? ", with rows inside" : ""}` : state), list, buttons);
+        const state = rows.length ? `${names || "in the plan"}${isPool ? ", with rows inside" : ""}` : used === network.numAddresses ? "in use" : used > 0n ? "in use in part" : "free";
+        $("detail").replaceChildren(title, paragraph(state), list, buttons);
+        const told = `${network.withPrefixlen}: ${state}, ${network.numAddresses === 1n ? "1 address" : `${sizeOf(network) || `2^${network.maxPrefixlen - network.prefixlen}`} addresses`}`;
+        if ($("told").textContent !== told) $("told").textContent = told;
     }
     function zoom(network) {
         if (network.numAddresses === 1n) return;
@@ -516,32 +591,34 @@ async function page(pcidr, script) {
     const LINE = 20, MOST = 10000;
     const kindsOf = (network) => [["private", network.isPrivate], ["documentation", network.isDocumentation], ["multicast", network.isMulticast], ["loopback", network.isLoopback], ["link local", network.isLinkLocal]]
         .filter(([, holds]) => holds).map(([kind]) => kind).join(", ");
+    const allRows = () => Array.from({ length: plan.count }, (_, i) => i);
+    /** Rows that a test picks, once they are looked at. */
+    const picked = (key, test) => (plan[key] ??= tab === key ? allRows().filter(test) : null) ?? [];
     const ofRows = (rows, more) => ({ length: rows.length, at: (i) => plan.list.at(rows[i]), label: (i) => [plan.list.at(rows[i]).toString(), ...more(rows[i])], isFree: false });
-    const allRows = () => (plan.all ??= Array.from({ length: plan.count }, (_, i) => i));
+    const ofNetworks = (list, isFree) => ({ length: list.length, at: (i) => list.at(i), label: (i) => [String(list.at(i)), sizeOf(list.at(i)), ""], isFree });
     const LISTS = {
         plan: { name: () => "Plan", items: () => ({ length: plan.count, at: (i) => plan.list.at(i), label: (i) => [`${"  ".repeat(plan.depth[i])}${plan.list.at(i)}`, nameOf(i), plan.twice[i] ? "twice" : ""] }) },
-        free: { name: () => "Free here", items: () => ({ length: freeHere().length, at: (i) => freeHere().at(i), label: (i) => [String(freeHere().at(i)), sizeOf(freeHere().at(i)), ""], isFree: true }) },
+        free: { name: () => "Free here", items: () => ofNetworks(freeHere(), true) },
         fit: { name: () => `Free /${$("length").value}`, items: () => ofLength() },
-        merged: { name: () => "Merged", items: () => ({ length: plan.cover.length, at: (i) => plan.cover.at(i), label: (i) => [String(plan.cover.at(i)), sizeOf(plan.cover.at(i)), ""] }) },
-        overlaps: { name: () => "Overlaps", items: () => ofRows((plan.over ??= allRows().filter((row) => plan.outer[row] >= 0)), (row) => [`${nameOf(row)} in ${shown(plan.outer[row])}`, plan.twice[row] ? "twice" : ""]) },
-        kinds: { name: () => "Special", items: () => ofRows((plan.kinds ??= tab === "kinds" ? allRows().filter((row) => kindsOf(plan.list.at(row))) : null) ?? [], (row) => [`${kindsOf(plan.list.at(row))}: ${nameOf(row)}`, ""]) },
+        merged: { name: () => "Merged", items: () => ofNetworks(plan.cover, false) },
+        overlaps: { name: () => "Overlaps", items: () => ({ count: plan.inside, ...ofRows(picked("overlaps", (row) => plan.outer[row] >= 0), (row) => [`${nameOf(row)} in ${shown(plan.outer[row])}`, plan.twice[row] ? "twice" : ""]) }) },
+        kinds: { name: () => "Special", items: () => ofRows(picked("kinds", (row) => kindsOf(plan.list.at(row))), (row) => [`${kindsOf(plan.list.at(row))}: ${nameOf(row)}`, ""]) },
     };
     const sizeOf = (network) => (network.numAddresses > 10n ** 15n ? "" : many(network.numAddresses));
     /** The free networks of the asked length: how many, and, where they are looked at, of many the first ones. */
     function ofLength() {
-        const length = Number($("length").value), key = `${view} ${length}`, isShown = tab === "fit";
+        const length = Number($("length").value), key = `${view} ${length}`, isShown = tab === "fit", isLength = Number.isInteger(length) && length >= 0 && length <= view.maxPrefixlen;
         if (plan.fit?.key !== key || (isShown && !plan.fit.found)) {
-            let count = 0n, found = isShown ? [] : null;
-            if (Number.isInteger(length) && length >= 0 && length <= view.maxPrefixlen) {
-                for (const network of freeHere()) {
-                    if (network.prefixlen > length) continue;
-                    count += 1n << BigInt(length - network.prefixlen);
-                    if (!found || found.length >= MOST) continue;
-                    if (network.prefixlen === length) found.push(network);
-                    else for (const each of network.subnets(length)) if (found.push(each) >= MOST) break;
-                }
+            const counts = new Uint32Array(256), { list, words } = gapsOf(view), most = list.length, found = isShown ? [] : null;
+            for (let at = 4; at < words.length; at += 6) counts[words[at] & 255]++; // by their tags
+            plan.fit = { key, found, count: 0n };
+            const first = view.version === 4 ? 0 : 64;
+            for (let n = 0; isLength && n <= length; n++) plan.fit.count += BigInt(counts[first + n]) << BigInt(length - n);
+            for (let i = 0; isLength && found && i < most && found.length < MOST; i++) {
+                const network = list.at(i);
+                if (network.prefixlen === length) found.push(network);
+                else if (network.prefixlen < length) for (const each of network.subnets(length)) if (found.push(each) >= MOST) break;
             }
-            plan.fit = { key, found, count };
         }
         const { found, count } = plan.fit;
         return { length: found?.length ?? 0, count, at: (i) => found[i], label: (i) => [String(found[i]), "", ""], isFree: true };
@@ -635,18 +712,17 @@ async function page(pcidr, script) {
 
     function find() {
         const asked = $("asked").value.trim();
-        if (asked === "") return;
+        if (asked === "" || !plan) return;
         try {
             const network = asked.includes("/") ? new Host(asked).network : new Network(String(new Address(asked)));
-            plan.table ??= new Table(Array.from(plan.list, (network, row) => [network, row]));
-            const found = plan.table.lookup(network);
-            if (found) {
-                say(`${asked} is in ${shown(found[1])}`);
-                choose(found[0]);
+            const row = rowsAround(network).pop();
+            if (row !== undefined) {
+                say(`${asked} is in ${shown(row)}`);
+                choose(plan.list.at(row));
             } else {
                 say(`${asked} is in no row`, true);
-                const root = plan.roots.find((root) => root.contains(network)), gaps = root ? plan.leaves.complement(root) : new NetworkSet(), [gap] = gaps.longestMatchEach([network]);
-                choose(gap >= 0 ? gaps.at(gap) : network, true);
+                const root = plan.roots.find((root) => root.contains(network)), gaps = root && gapsOf(root).list, gap = root ? lastUpTo(gaps, network) : -1;
+                choose(gap >= 0 && gaps.at(gap).contains(network) ? gaps.at(gap) : network, true);
             }
         } catch (error) {
             say(error.message, true);
@@ -654,15 +730,15 @@ async function page(pcidr, script) {
     }
     const quoted = (field) => (/[",\n]/.test(field) ? `"${field.replaceAll('"', '""')}"` : field);
     function exported() {
-        const merged = plan.cover, rows = allRows();
+        const merged = plan.cover, rows = allRows(), networks = plan.list.toStrings();
         switch ($("form").value) {
             case "merged": return merged.toText();
             case "free": return freeHere().toText();
-            case "plan": return rows.map((row) => `${shown(row)}\n`).join("");
-            case "json": return `${JSON.stringify({ merged, free: { within: view, networks: freeHere() }, rows: rows.map((row) => ({ network: plan.list.at(row), name: nameOf(row) })) }, null, 1)}\n`;
+            case "plan": return rows.map((row) => `${`${networks[row]} ${nameOf(row)}`.trimEnd()}\n`).join("");
+            case "json": return `${JSON.stringify({ merged, free: { within: view, networks: freeHere() }, rows: rows.map((row) => ({ network: networks[row], name: nameOf(row) })) }, null, 1)}\n`;
             case "csv": return `network,name,first,last,addresses\n${rows.map((row) => {
                 const network = plan.list.at(row);
-                return `${network},${quoted(nameOf(row))},${network.networkAddress},${network.broadcastAddress},${network.numAddresses}\n`;
+                return `${networks[row]},${quoted(nameOf(row))},${network.networkAddress},${network.broadcastAddress},${network.numAddresses}\n`;
             }).join("")}`;
             case "nft": return [4, 6].map((version) => [version, merged.toStrings().filter((text, i) => merged.at(i).version === version)]).filter(([, list]) => list.length)
                 .map(([version, list]) => `set plan_ipv${version} {\n\ttype ipv${version}_addr\n\tflags interval\n\telements = { ${list.join(",\n\t\t")} }\n}\n`).join("");
@@ -693,17 +769,22 @@ async function page(pcidr, script) {
     $("text").oninput = () => {
         clearTimeout(waiting);
         root.dataset.state = "busy";
-        waiting = setTimeout(() => (edited() === text ? (root.dataset.state = "ready") : change(edited())), 150);
+        waiting = setTimeout(settle, 150);
     };
     $("text").onpaste = (event) => {
         const given = event.clipboardData.getData("text/plain");
         if (given.length < AT_ONCE) return;
         event.preventDefault();
-        const { value, selectionStart, selectionEnd } = $("text");
-        change(text.slice(0, part.begin) + value.slice(0, selectionStart) + given + value.slice(selectionEnd) + text.slice(part.end));
+        settle();
+        const begin = part.begin + $("text").selectionStart, end = part.begin + $("text").selectionEnd;
+        change(whole(text.slice(0, begin) + given + text.slice(end)));
     };
-    $("before").onclick = () => turnTo(part.line - LINES);
-    $("after").onclick = () => turnTo(part.line + LINES);
+    const turnBy = (count) => {
+        settle();
+        turnTo(Math.max(0, part.line + count));
+    };
+    $("before").onclick = () => turnBy(-LINES);
+    $("after").onclick = () => turnBy(LINES);
     $("new").onclick = () => fresh("");
     let asking = 0;
     $("find").onsubmit = (event) => {
@@ -768,9 +849,10 @@ async function page(pcidr, script) {
         store("theme", theme);
     };
     const fresh = (next) => {
+        settle();
         view = chosen = null;
         part.line = 0;
-        change(next);
+        change(whole(next));
     };
     $("undo").onclick = undo;
     $("redo").onclick = redo;
@@ -778,8 +860,9 @@ async function page(pcidr, script) {
     $("take").onclick = takeFree;
     $("cancel").onclick = () => cancel();
     $("link").onclick = link;
-    $("hilbert").onchange = draw;
+    $("hilbert").onchange = () => plan && draw();
     $("length").oninput = () => {
+        if (!plan) return;
         tabs();
         if (tab === "fit") lines();
     };
@@ -792,8 +875,9 @@ async function page(pcidr, script) {
         else fresh(await file.text());
         $("file").value = "";
     };
-    $("copy").onclick = () => navigator.clipboard.writeText(exported()).then(() => say("copied"), () => say("the browser does not let the page copy: save it", true));
+    $("copy").onclick = () => plan && navigator.clipboard.writeText(exported()).then(() => say("copied"), () => say("the browser does not let the page copy: save it", true));
     $("save").onclick = () => {
+        if (!plan) return;
         const form = $("form").value, anchor = document.createElement("a");
         anchor.href = URL.createObjectURL(new Blob([exported()], { type: "text/plain" }));
         anchor.download = `plan.${{ json: "json", nft: "nft", csv: "csv" }[form] ?? "txt"}`;
@@ -806,6 +890,6 @@ async function page(pcidr, script) {
         if (given !== null) fresh(given);
     });
     setTheme(stored("theme") ?? (matchMedia("(prefers-color-scheme: dark)").matches ? "dark" : "light"));
-    setText((await linked()) ?? stored("plan") ?? EXAMPLE);
+    edit(whole((await linked()) ?? stored("plan") ?? EXAMPLE));
     compute();
 }
