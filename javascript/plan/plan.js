@@ -51,8 +51,8 @@ async function page(pcidr, script) {
 2001:db8:20:8000::/50 residences
 `;
     const PURPOSES = ["this network", "unspecified", "private use", "unique local", "shared address space", "loopback", "link local", "protocol assignments", "service continuity", "dummy address", "port control anycast", "TURN anycast", "service registration anycast", "NAT64 discovery", "documentation", "AS112", "direct AS112", "multicast tunneling", "6to4 relay", "6a44 relay", "6to4", "benchmarking", "reserved", "limited broadcast", "IPv4-mapped", "translation", "discard only", "Teredo", "deprecated ORCHID", "ORCHIDv2", "drone remote ID", "segment routing", "this host"];
-    const COLOURS = ["#56b4e9", "#e69f00", "#009e73", "#f0e442", "#cc79a7", "#0072b2", "#d55e00", "#999999"]; // of Okabe and Ito
-    const ON = COLOURS.map((colour) => (colour === "#0072b2" ? "#fff" : "#000")); // of texts: each with a contrast above 4.5
+    const COLOURS = ["#56b4e9", "#e69f00", "#009e73", "#f0e442", "#cc79a7", "#0072b2", "#d55e00", "#444444"]; // of Okabe and Ito, but for the last one
+    const ON = COLOURS.map((colour) => (/^#0072b2|^#444444/.test(colour) ? "#fff" : "#000")); // of texts: each with a contrast above 4.5
     const LARGEST = 16 * 2 ** 20; // of a plan's text; a larger one is refused
     const AT_ONCE = 50000; // a shorter text is read without a Worker
     let plan = null; // what the text says

@@ -74,6 +74,10 @@ class Browser:
     def size(self, width, height):
         self.ask("POST", f"{self.session}/window/rect", {"width": width, "height": height})
 
+    def ask_tools(self, command, **parameters):
+        """A command of the browser's tools for developers."""
+        return self.ask("POST", f"{self.session}/goog/cdp/execute", {"cmd": command, "params": parameters})
+
     def log(self):
         return [entry["message"] for entry in self.ask("POST", f"{self.session}/se/log", {"type": "browser"})]
 
