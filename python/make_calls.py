@@ -1,6 +1,6 @@
 #!/usr/bin/env python3
-"""make_calls.py [--check]: writes pcidr/_calls.py, the stubs of the calls, from the header of the library for C. With
---check it writes nothing, and prints each line that only that file has, and each that it lacks."""
+"""make_calls.py [--check]: writes pcidr/_calls.py, the stubs of the calls, and pcidr/_purposes.py from the header of the
+library for C. With --check it writes nothing, and prints each line that only those files have, and each that they lack."""
 from __future__ import annotations
 
 import re
@@ -9,7 +9,7 @@ from pathlib import Path
 
 HERE = Path(__file__).resolve().parent
 HEADER = HERE.parent / "crates" / "cidr_c" / "include" / "pcidr.h"
-MADE = HERE / "pcidr" / "_calls.py"
+MADE = HERE / "pcidr"
 SCALARS = {f"uint{bits}_t": f"c_uint{bits}" for bits in (8, 16, 32, 64)} | {"size_t": "c_size_t"}
 KINDS = SCALARS | {"void": "c_void_p"}
 HINTS = dict.fromkeys(SCALARS, "int") | {"void": "int | None"}
@@ -18,10 +18,20 @@ HEAD = '''\
 """The numbers, structs and calls of `pcidr.h`, which `make_calls.py` writes from it."""
 from __future__ import annotations
 
-from collections.abc import Callable
 from ctypes import POINTER, Structure, c_char_p, c_size_t, c_uint8, c_uint16, c_uint32, c_uint64, c_void_p
+
+TYPE_CHECKING = False
+if TYPE_CHECKING:
+    from collections.abc import Callable
+    from typing import Any
+'''
+
+
+HEAD_OF_ENUMS = '''\
+"""Enums of `pcidr.h`, which `make_calls.py` writes from it."""
+from __future__ import annotations
+
 from enum import IntEnum
-from typing import Any
 '''
 
 
@@ -51,10 +61,11 @@ def enums(header: str) -> list[list[str]]:
     for body in re.findall(r"^enum \{(.*?)\};", header, re.M | re.S):
         found = re.findall(r"PCIDR_(\w+) = (\d+)", body)
         word = "" if found[0][0] == "OK" else found[0][0].split("_")[0]
-        name = word.capitalize() if word else "Code"
+        name = f"{word.capitalize()}(IntEnum)" if word else "Code"
         about = f"`PCIDR_{word}_..`." if word else "What calls return: `OK`, or the error."
         lines = [f"    {each.removeprefix(f'{word}_')} = {number}" for each, number in found]
-        made.append([f"class {name}(IntEnum):", f'    """{about}"""', "", *lines])
+        public = ['    __module__ = "pcidr"'] if word else []
+        made.append([f"class {name}:", f'    """{about}"""', "", *public, *lines])
     return made
 
 
@@ -96,21 +107,29 @@ def calls(header: str) -> dict[str, tuple[str, list[str]]]:
 def wrapped(line: str, parts: list[str]) -> list[str]:
     """A line that ends in a list, which is one line or has one for each part."""
     whole = f"{line}[{', '.join(parts)}]),"
-    return [whole] if len(whole) <= 120 else [f"{line}[", *(f"        {part}," for part in parts), "    ]),"]
+    return [whole] if len(whole) <= 120 else [f"{line}[", *(f"            {part}," for part in parts), "        ]),"]
 
 
-def stubs(header: str) -> str:
-    """The whole file."""
+def stubs(header: str) -> dict[str, str]:
+    """The files, by name."""
     bare, made = without_comments(header), calls(without_comments(header))
-    table = ["# of each call the result and the parameters", "CALLS: dict[str, tuple[Any, list[Any]]] = {"]
+    table = ["def signatures() -> dict[str, tuple[Any, list[Any]]]:"]
+    table += ['    """Of each call the result and the parameters."""', "    return {"]
     for name, (result, parameters) in made.items():
-        table += wrapped(f'    "{name}": ({result}, ', parameters)
+        table += wrapped(f'        "{name}": ({result}, ', parameters)
     typed = ["class Calls:", '    """The calls, without the `_by_value` behind some names."""', ""]
+    typed.append("    if TYPE_CHECKING:")
     for name, (_, parameters) in made.items():
         given = ", ".join("int" if kind in SCALARS.values() else "Any" for kind in parameters)
-        typed.append(f"    {name.removesuffix('_by_value')}: Callable[[{given}], int]")
-    parts = [*enums(bare), *structs(bare), [*table, "}"], typed]
-    return "\n\n\n".join(["\n".join([HEAD, *numbers(bare)]), *("\n".join(part) for part in parts)]) + "\n"
+        typed.append(f"        {name.removesuffix('_by_value')}: Callable[[{given}], int]")
+    codes, *others = enums(bare)
+    parts = [[HEAD, *numbers(bare)], codes, *structs(bare), [*table, "    }"], typed]
+    return {"_calls.py": together(parts), "_purposes.py": together([[HEAD_OF_ENUMS.rstrip("\n")], *others])}
+
+
+def together(parts: list[list[str]]) -> str:
+    """Parts of a file, each of some lines."""
+    return "\n\n\n".join("\n".join(part) for part in parts) + "\n"
 
 
 def joined(stubs: str) -> list[str]:
@@ -121,13 +140,16 @@ def joined(stubs: str) -> list[str]:
 def main() -> None:
     made = stubs(HEADER.read_text(encoding="utf-8"))
     if sys.argv[1:] != ["--check"]:
-        MADE.write_text(made, encoding="utf-8")
+        for name, text in made.items():
+            (MADE / name).write_text(text, encoding="utf-8")
         return
-    theirs, ours = joined(made), joined(MADE.read_text(encoding="utf-8"))
-    wrong = [f"pcidr.h has no such line: {line.strip()}" for line in ours if line not in theirs]
-    wrong += [f"there is no such line: {line.strip()}" for line in theirs if line not in ours]
+    wrong = []
+    for name, text in made.items():
+        theirs, ours = joined(text), joined((MADE / name).read_text(encoding="utf-8"))
+        wrong += [f"pcidr/{name}: pcidr.h has no such line: {line.strip()}" for line in ours if line not in theirs]
+        wrong += [f"pcidr/{name}: there is no such line: {line.strip()}" for line in theirs if line not in ours]
     for line in wrong:
-        print(f"pcidr/_calls.py: {line}")
+        print(line)
     sys.exit(1 if wrong else 0)
 
 

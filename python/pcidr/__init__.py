@@ -10,24 +10,27 @@ What the library is given and returns is proved to be right; that this module pa
 """
 from __future__ import annotations
 
-from pcidr._calls import Purpose
-from pcidr._sets import (
-    MutableNetworkSet,
-    NetworkSet,
-    collapse_addresses,
-    contains_each,
-    deciding,
-    merge,
-    parse_networks,
-    permits,
-    permitted,
-    print_networks,
-    shadowed,
-    spanning_cidr,
-    summarize_address_range,
-)
-from pcidr._tables import Matches, StoredTable, Table
 from pcidr._values import Address, Host, Network, SpecialEntry, text_fault
+
+TYPE_CHECKING = False
+if TYPE_CHECKING:
+    from pcidr._purposes import Purpose
+    from pcidr._sets import (
+        MutableNetworkSet,
+        NetworkSet,
+        collapse_addresses,
+        contains_each,
+        deciding,
+        merge,
+        parse_networks,
+        permits,
+        permitted,
+        print_networks,
+        shadowed,
+        spanning_cidr,
+        summarize_address_range,
+    )
+    from pcidr._tables import Matches, StoredTable, Table
 
 __version__ = "0.3.0"
 
@@ -55,3 +58,19 @@ __all__ = [
     "summarize_address_range",
     "text_fault",
 ]
+
+# What else there is, by the module that has it, which is loaded when somebody asks for it.
+_LATER = {"Purpose": "_purposes", "Matches": "_tables", "StoredTable": "_tables", "Table": "_tables"}
+
+
+if not TYPE_CHECKING:
+
+    def __getattr__(name):
+        if name not in __all__:
+            raise AttributeError(f"module {__name__!r} has no attribute {name!r}")
+        module = __import__(f"pcidr.{_LATER.get(name, '_sets')}", fromlist=[name])
+        found = globals()[name] = getattr(module, name)
+        return found
+
+    def __dir__():
+        return sorted({*globals(), *__all__})

@@ -1,10 +1,12 @@
 """The numbers, structs and calls of `pcidr.h`, which `make_calls.py` writes from it."""
 from __future__ import annotations
 
-from collections.abc import Callable
 from ctypes import POINTER, Structure, c_char_p, c_size_t, c_uint8, c_uint16, c_uint32, c_uint64, c_void_p
-from enum import IntEnum
-from typing import Any
+
+TYPE_CHECKING = False
+if TYPE_CHECKING:
+    from collections.abc import Callable
+    from typing import Any
 
 VERSION = 0x000300
 TEXT_ROOM = 44
@@ -22,7 +24,7 @@ NO_INDEX = 0xFFFFFFFFFFFFFFFF
 NO_ROW = 0xFFFFFFFF
 
 
-class Code(IntEnum):
+class Code:
     """What calls return: `OK`, or the error."""
 
     OK = 0
@@ -55,44 +57,6 @@ class Code(IntEnum):
     LINE_TOO_LONG = 27
     TWO_FAMILIES = 28
     REVERSED = 29
-
-
-class Purpose(IntEnum):
-    """`PCIDR_PURPOSE_..`."""
-
-    THIS_NETWORK = 0
-    UNSPECIFIED = 1
-    PRIVATE_USE = 2
-    UNIQUE_LOCAL = 3
-    SHARED_ADDRESS_SPACE = 4
-    LOOPBACK = 5
-    LINK_LOCAL = 6
-    PROTOCOL_ASSIGNMENTS = 7
-    SERVICE_CONTINUITY = 8
-    DUMMY = 9
-    PORT_CONTROL_ANYCAST = 10
-    TURN_ANYCAST = 11
-    SERVICE_REGISTRATION_ANYCAST = 12
-    NAT64_DISCOVERY = 13
-    DOCUMENTATION = 14
-    AS112 = 15
-    DIRECT_AS112 = 16
-    MULTICAST_TUNNELING = 17
-    SIX_TO_FOUR_RELAY = 18
-    SIX_A44_RELAY = 19
-    SIX_TO_FOUR = 20
-    BENCHMARKING = 21
-    RESERVED = 22
-    LIMITED_BROADCAST = 23
-    IPV4_MAPPED = 24
-    TRANSLATION = 25
-    DISCARD_ONLY = 26
-    TEREDO = 27
-    DEPRECATED_ORCHID = 28
-    ORCHID_V2 = 29
-    DRONE_REMOTE_ID = 30
-    SEGMENT_ROUTING = 31
-    THIS_HOST = 32
 
 
 class Value(Structure):
@@ -232,345 +196,361 @@ class Found(Structure):
     _fields_ = [("value", c_size_t), ("value_len", c_uint32), ("row", c_uint32)]
 
 
-# of each call the result and the parameters
-CALLS: dict[str, tuple[Any, list[Any]]] = {
-    "version": (c_uint32, []),
-    "read_address": (c_uint32, [c_char_p, c_size_t, POINTER(Value)]),
-    "read_loose_address": (c_uint32, [c_char_p, c_size_t, POINTER(Value)]),
-    "read_host": (c_uint32, [c_char_p, c_size_t, POINTER(Value)]),
-    "read_network": (c_uint32, [c_char_p, c_size_t, POINTER(Value)]),
-    "read_short_network": (c_uint32, [c_char_p, c_size_t, POINTER(Value)]),
-    "read_masked_network": (c_uint32, [c_char_p, c_size_t, POINTER(Value)]),
-    "read_reverse_name": (c_uint32, [c_char_p, c_size_t, POINTER(Value)]),
-    "read_lines": (c_uint32, [c_char_p, c_size_t, c_void_p, c_size_t, POINTER(c_size_t)]),
-    "read_list": (c_uint32, [
-        c_char_p,
-        c_size_t,
-        c_uint32,
-        c_void_p,
-        c_size_t,
-        POINTER(c_size_t),
-        POINTER(c_uint64),
-        c_char_p,
-        c_size_t,
-    ]),
-    "print_address": (c_size_t, [POINTER(Value), c_char_p, c_size_t]),
-    "print_host": (c_size_t, [POINTER(Value), c_char_p, c_size_t]),
-    "print_host_with_length": (c_size_t, [POINTER(Value), c_char_p, c_size_t]),
-    "print_network": (c_size_t, [POINTER(Value), c_char_p, c_size_t]),
-    "print_network_with_length": (c_size_t, [POINTER(Value), c_char_p, c_size_t]),
-    "print_exploded_address": (c_size_t, [POINTER(Value), c_char_p, c_size_t]),
-    "print_exploded_host": (c_size_t, [POINTER(Value), c_char_p, c_size_t]),
-    "print_with_mask": (c_size_t, [POINTER(Value), c_char_p, c_size_t]),
-    "print_with_host_mask": (c_size_t, [POINTER(Value), c_char_p, c_size_t]),
-    "print_host_with_mask": (c_size_t, [POINTER(Value), c_char_p, c_size_t]),
-    "print_host_with_host_mask": (c_size_t, [POINTER(Value), c_char_p, c_size_t]),
-    "print_reverse_name": (c_size_t, [POINTER(Value), c_char_p, c_size_t]),
-    "print_reverse_zone": (c_size_t, [POINTER(Value), c_size_t, c_char_p, c_size_t]),
-    "print_lines": (c_uint32, [c_void_p, c_size_t, c_char_p, c_size_t, POINTER(c_size_t)]),
-    "message": (c_size_t, [c_uint32, c_char_p, c_size_t]),
-    "text_fault": (c_size_t, [c_char_p, c_size_t, c_char_p, c_size_t]),
-    "network_to_bytes": (c_size_t, [POINTER(Value), c_void_p, c_size_t]),
-    "host_to_bytes": (c_size_t, [POINTER(Value), c_void_p, c_size_t]),
-    "network_from_bytes": (c_uint32, [c_void_p, c_size_t, POINTER(Value), POINTER(c_size_t)]),
-    "host_from_bytes": (c_uint32, [c_void_p, c_size_t, POINTER(Value), POINTER(c_size_t)]),
-    "first_by_value": (c_uint32, [Value, POINTER(Value)]),
-    "last_by_value": (c_uint32, [Value, POINTER(Value)]),
-    "mask_by_value": (c_uint32, [Value, POINTER(Value)]),
-    "address_by_value": (c_uint32, [Value, POINTER(Value)]),
-    "network_by_value": (c_uint32, [Value, POINTER(Value)]),
-    "step_up_by_value": (c_uint32, [Value, c_uint64, c_uint64, POINTER(Value)]),
-    "step_down_by_value": (c_uint32, [Value, c_uint64, c_uint64, POINTER(Value)]),
-    "at_by_value": (c_uint32, [Value, c_uint64, c_uint64, POINTER(Value)]),
-    "host_mask_by_value": (c_uint32, [Value, POINTER(Value)]),
-    "first_usable_by_value": (c_uint32, [Value, POINTER(Value)]),
-    "last_usable_by_value": (c_uint32, [Value, POINTER(Value)]),
-    "nth_by_value": (c_uint32, [Value, c_uint64, c_uint64, POINTER(Value)]),
-    "supernet_by_value": (c_uint32, [Value, c_uint8, POINTER(Value)]),
-    "parent_by_value": (c_uint32, [Value, POINTER(Value)]),
-    "network_halves_by_value": (c_uint32, [Value, POINTER(Value), POINTER(Value)]),
-    "subnet_by_value": (c_uint32, [Value, c_uint8, c_uint64, c_uint64, POINTER(Value)]),
-    "sibling_by_value": (c_uint32, [Value, POINTER(Value)]),
-    "next_network_by_value": (c_uint32, [Value, POINTER(Value)]),
-    "previous_network_by_value": (c_uint32, [Value, POINTER(Value)]),
-    "ipv6_mapped_by_value": (c_uint32, [Value, POINTER(Value)]),
-    "ipv4_mapped_by_value": (c_uint32, [Value, POINTER(Value)]),
-    "ipv4_6to4_by_value": (c_uint32, [Value, POINTER(Value)]),
-    "ipv4_nat64_by_value": (c_uint32, [Value, POINTER(Value)]),
-    "usable_count": (c_uint32, [POINTER(Value), POINTER(c_size_t)]),
-    "address_count": (c_uint32, [POINTER(Value), POINTER(Halves)]),
-    "position": (c_uint32, [POINTER(Value), POINTER(Value), POINTER(Halves)]),
-    "subnets": (c_uint32, [POINTER(Value), c_uint8, c_uint64, c_uint64, c_void_p, c_size_t, POINTER(c_size_t)]),
-    "mask_length": (c_uint32, [POINTER(Value), POINTER(c_uint8)]),
-    "host_mask_length": (c_uint32, [POINTER(Value), POINTER(c_uint8)]),
-    "special_entry": (c_uint32, [POINTER(Value), POINTER(Special)]),
-    "is_global": (c_uint32, [POINTER(Value)]),
-    "is_private": (c_uint32, [POINTER(Value)]),
-    "is_loopback": (c_uint32, [POINTER(Value)]),
-    "is_link_local": (c_uint32, [POINTER(Value)]),
-    "is_documentation": (c_uint32, [POINTER(Value)]),
-    "is_unspecified": (c_uint32, [POINTER(Value)]),
-    "is_multicast": (c_uint32, [POINTER(Value)]),
-    "check": (c_uint32, [POINTER(Value)]),
-    "contains": (c_uint32, [POINTER(Value), POINTER(Value)]),
-    "overlaps": (c_uint32, [POINTER(Value), POINTER(Value)]),
-    "is_sibling_of": (c_uint32, [POINTER(Value), POINTER(Value)]),
-    "spanning": (c_uint32, [POINTER(Value), POINTER(Value), POINTER(Value)]),
-    "compare": (c_uint32, [POINTER(Value), POINTER(Value)]),
-    "compare_hosts": (c_uint32, [POINTER(Value), POINTER(Value)]),
-    "cover": (c_uint32, [c_void_p, c_size_t, POINTER(c_size_t)]),
-    "union": (c_uint32, [c_void_p, c_size_t, c_void_p, c_size_t, c_void_p, c_size_t, POINTER(c_size_t)]),
-    "intersection": (c_uint32, [c_void_p, c_size_t, c_void_p, c_size_t, c_void_p, c_size_t, POINTER(c_size_t)]),
-    "difference": (c_uint32, [c_void_p, c_size_t, c_void_p, c_size_t, c_void_p, c_size_t, POINTER(c_size_t)]),
-    "symmetric_difference": (c_uint32, [c_void_p, c_size_t, c_void_p, c_size_t, c_void_p, c_size_t, POINTER(c_size_t)]),
-    "union_in_place": (c_uint32, [c_void_p, c_size_t, POINTER(c_size_t), c_void_p, c_size_t]),
-    "intersection_in_place": (c_uint32, [c_void_p, c_size_t, POINTER(c_size_t), c_void_p, c_size_t]),
-    "difference_in_place": (c_uint32, [c_void_p, c_size_t, POINTER(c_size_t), c_void_p, c_size_t]),
-    "complement": (c_uint32, [c_void_p, c_size_t, POINTER(Value), c_void_p, c_size_t, POINTER(c_size_t)]),
-    "is_subset": (c_uint32, [c_void_p, c_size_t, c_void_p, c_size_t, POINTER(c_uint32)]),
-    "is_disjoint": (c_uint32, [c_void_p, c_size_t, c_void_p, c_size_t, POINTER(c_uint32)]),
-    "summarize": (c_uint32, [POINTER(Value), POINTER(Value), c_void_p, c_size_t, POINTER(c_size_t)]),
-    "ranges": (c_uint32, [c_void_p, c_size_t, c_void_p, c_size_t, POINTER(c_size_t)]),
-    "count_ipv4": (c_uint32, [c_void_p, c_size_t, POINTER(Halves)]),
-    "count_ipv6": (c_uint32, [c_void_p, c_size_t, POINTER(Halves)]),
-    "nth_ipv4": (c_uint32, [c_void_p, c_size_t, c_uint64, c_uint64, POINTER(Value)]),
-    "nth_ipv6": (c_uint32, [c_void_p, c_size_t, c_uint64, c_uint64, POINTER(Value)]),
-    "first_free": (c_uint32, [c_void_p, c_size_t, c_uint8, POINTER(Value)]),
-    "best_free": (c_uint32, [c_void_p, c_size_t, c_uint8, POINTER(Value)]),
-    "contains_each": (c_uint32, [c_void_p, c_size_t, c_void_p, c_size_t, c_void_p, c_size_t]),
-    "longest_match_each": (c_uint32, [c_void_p, c_size_t, c_void_p, c_size_t, c_void_p, c_size_t]),
-    "nearest_each": (c_uint32, [c_void_p, c_size_t, c_void_p, c_size_t]),
-    "sort_order": (c_uint32, [c_void_p, c_size_t, c_void_p, c_size_t, POINTER(c_size_t)]),
-    "table_order": (c_uint32, [c_void_p, c_size_t, c_void_p, c_size_t, POINTER(c_size_t)]),
-    "covering": (c_uint32, [c_void_p, c_size_t, POINTER(Value), c_void_p, c_size_t, POINTER(c_size_t)]),
-    "covered": (c_uint32, [c_void_p, c_size_t, POINTER(Value), c_void_p, c_size_t, POINTER(c_size_t)]),
-    "permits": (c_uint32, [c_void_p, c_size_t, POINTER(Value)]),
-    "permitted": (c_uint32, [c_void_p, c_size_t, c_void_p, c_size_t, POINTER(c_size_t)]),
-    "shadowed": (c_uint32, [c_void_p, c_size_t, c_void_p, c_size_t, POINTER(c_size_t)]),
-    "deciding": (c_uint32, [c_void_p, c_size_t, POINTER(Value), c_void_p, c_size_t, POINTER(c_size_t)]),
-    "smallest": (c_uint32, [c_void_p, c_size_t, c_void_p, c_size_t, POINTER(c_size_t)]),
-    "forwards_same": (c_uint32, [c_void_p, c_size_t, c_void_p, c_size_t, POINTER(c_uint32)]),
-    "table_room": (c_size_t, [c_uint32]),
-    "ipv4_table_build": (c_uint32, [
-        c_void_p,
-        c_size_t,
-        c_void_p,
-        c_size_t,
-        c_void_p,
-        c_size_t,
-        c_void_p,
-        c_size_t,
-        c_uint32,
-        POINTER(c_size_t),
-    ]),
-    "ipv6_table_build": (c_uint32, [
-        c_void_p,
-        c_size_t,
-        c_void_p,
-        c_size_t,
-        c_void_p,
-        c_size_t,
-        c_void_p,
-        c_size_t,
-        c_uint32,
-        POINTER(c_size_t),
-    ]),
-    "ipv4_table_check": (c_uint32, [
-        c_void_p,
-        c_size_t,
-        c_void_p,
-        c_size_t,
-        c_void_p,
-        c_size_t,
-        c_void_p,
-        c_size_t,
-        c_uint32,
-    ]),
-    "ipv6_table_check": (c_uint32, [
-        c_void_p,
-        c_size_t,
-        c_void_p,
-        c_size_t,
-        c_void_p,
-        c_size_t,
-        c_void_p,
-        c_size_t,
-        c_uint32,
-    ]),
-    "ipv4_table_lookup": (c_uint32, [c_void_p, c_size_t, c_void_p, c_size_t, POINTER(Table), POINTER(Value)]),
-    "ipv6_table_lookup": (c_uint32, [c_void_p, c_size_t, c_void_p, c_size_t, POINTER(Table), POINTER(Value)]),
-    "ipv4_table_lookup_each": (c_uint32, [
-        c_void_p,
-        c_size_t,
-        c_void_p,
-        c_size_t,
-        c_void_p,
-        c_size_t,
-        c_uint32,
-        c_uint32,
-        c_void_p,
-        c_size_t,
-        c_void_p,
-        c_size_t,
-    ]),
-    "ipv6_table_lookup_each": (c_uint32, [
-        c_void_p,
-        c_size_t,
-        c_void_p,
-        c_size_t,
-        c_void_p,
-        c_size_t,
-        c_uint32,
-        c_uint32,
-        c_void_p,
-        c_size_t,
-        c_void_p,
-        c_size_t,
-    ]),
-    "file_open": (c_uint32, [c_void_p, c_size_t, POINTER(File)]),
-    "file_check": (c_uint32, [c_void_p, c_size_t]),
-    "file_lookup": (c_uint32, [c_void_p, c_size_t, POINTER(File), POINTER(Value), POINTER(Found)]),
-    "file_lookup_each": (c_uint32, [c_void_p, c_size_t, POINTER(File), c_void_p, c_size_t, c_void_p, c_size_t]),
-    "set_has": (c_uint32, [c_void_p, c_size_t, POINTER(File), POINTER(Value)]),
-    "set_has_each": (c_uint32, [c_void_p, c_size_t, POINTER(File), c_void_p, c_size_t, c_void_p, c_size_t]),
-    "file_write": (c_uint32, [
-        c_void_p,
-        c_size_t,
-        c_void_p,
-        c_size_t,
-        c_void_p,
-        c_size_t,
-        c_void_p,
-        c_size_t,
-        POINTER(c_size_t),
-    ]),
-    "set_write": (c_uint32, [c_void_p, c_size_t, c_void_p, c_size_t, POINTER(c_size_t)]),
-}
+def signatures() -> dict[str, tuple[Any, list[Any]]]:
+    """Of each call the result and the parameters."""
+    return {
+        "version": (c_uint32, []),
+        "read_address": (c_uint32, [c_char_p, c_size_t, POINTER(Value)]),
+        "read_loose_address": (c_uint32, [c_char_p, c_size_t, POINTER(Value)]),
+        "read_host": (c_uint32, [c_char_p, c_size_t, POINTER(Value)]),
+        "read_network": (c_uint32, [c_char_p, c_size_t, POINTER(Value)]),
+        "read_short_network": (c_uint32, [c_char_p, c_size_t, POINTER(Value)]),
+        "read_masked_network": (c_uint32, [c_char_p, c_size_t, POINTER(Value)]),
+        "read_reverse_name": (c_uint32, [c_char_p, c_size_t, POINTER(Value)]),
+        "read_lines": (c_uint32, [c_char_p, c_size_t, c_void_p, c_size_t, POINTER(c_size_t)]),
+        "read_list": (c_uint32, [
+            c_char_p,
+            c_size_t,
+            c_uint32,
+            c_void_p,
+            c_size_t,
+            POINTER(c_size_t),
+            POINTER(c_uint64),
+            c_char_p,
+            c_size_t,
+        ]),
+        "print_address": (c_size_t, [POINTER(Value), c_char_p, c_size_t]),
+        "print_host": (c_size_t, [POINTER(Value), c_char_p, c_size_t]),
+        "print_host_with_length": (c_size_t, [POINTER(Value), c_char_p, c_size_t]),
+        "print_network": (c_size_t, [POINTER(Value), c_char_p, c_size_t]),
+        "print_network_with_length": (c_size_t, [POINTER(Value), c_char_p, c_size_t]),
+        "print_exploded_address": (c_size_t, [POINTER(Value), c_char_p, c_size_t]),
+        "print_exploded_host": (c_size_t, [POINTER(Value), c_char_p, c_size_t]),
+        "print_with_mask": (c_size_t, [POINTER(Value), c_char_p, c_size_t]),
+        "print_with_host_mask": (c_size_t, [POINTER(Value), c_char_p, c_size_t]),
+        "print_host_with_mask": (c_size_t, [POINTER(Value), c_char_p, c_size_t]),
+        "print_host_with_host_mask": (c_size_t, [POINTER(Value), c_char_p, c_size_t]),
+        "print_reverse_name": (c_size_t, [POINTER(Value), c_char_p, c_size_t]),
+        "print_reverse_zone": (c_size_t, [POINTER(Value), c_size_t, c_char_p, c_size_t]),
+        "print_lines": (c_uint32, [c_void_p, c_size_t, c_char_p, c_size_t, POINTER(c_size_t)]),
+        "message": (c_size_t, [c_uint32, c_char_p, c_size_t]),
+        "text_fault": (c_size_t, [c_char_p, c_size_t, c_char_p, c_size_t]),
+        "network_to_bytes": (c_size_t, [POINTER(Value), c_void_p, c_size_t]),
+        "host_to_bytes": (c_size_t, [POINTER(Value), c_void_p, c_size_t]),
+        "network_from_bytes": (c_uint32, [c_void_p, c_size_t, POINTER(Value), POINTER(c_size_t)]),
+        "host_from_bytes": (c_uint32, [c_void_p, c_size_t, POINTER(Value), POINTER(c_size_t)]),
+        "first_by_value": (c_uint32, [Value, POINTER(Value)]),
+        "last_by_value": (c_uint32, [Value, POINTER(Value)]),
+        "mask_by_value": (c_uint32, [Value, POINTER(Value)]),
+        "address_by_value": (c_uint32, [Value, POINTER(Value)]),
+        "network_by_value": (c_uint32, [Value, POINTER(Value)]),
+        "step_up_by_value": (c_uint32, [Value, c_uint64, c_uint64, POINTER(Value)]),
+        "step_down_by_value": (c_uint32, [Value, c_uint64, c_uint64, POINTER(Value)]),
+        "at_by_value": (c_uint32, [Value, c_uint64, c_uint64, POINTER(Value)]),
+        "host_mask_by_value": (c_uint32, [Value, POINTER(Value)]),
+        "first_usable_by_value": (c_uint32, [Value, POINTER(Value)]),
+        "last_usable_by_value": (c_uint32, [Value, POINTER(Value)]),
+        "nth_by_value": (c_uint32, [Value, c_uint64, c_uint64, POINTER(Value)]),
+        "supernet_by_value": (c_uint32, [Value, c_uint8, POINTER(Value)]),
+        "parent_by_value": (c_uint32, [Value, POINTER(Value)]),
+        "network_halves_by_value": (c_uint32, [Value, POINTER(Value), POINTER(Value)]),
+        "subnet_by_value": (c_uint32, [Value, c_uint8, c_uint64, c_uint64, POINTER(Value)]),
+        "sibling_by_value": (c_uint32, [Value, POINTER(Value)]),
+        "next_network_by_value": (c_uint32, [Value, POINTER(Value)]),
+        "previous_network_by_value": (c_uint32, [Value, POINTER(Value)]),
+        "ipv6_mapped_by_value": (c_uint32, [Value, POINTER(Value)]),
+        "ipv4_mapped_by_value": (c_uint32, [Value, POINTER(Value)]),
+        "ipv4_6to4_by_value": (c_uint32, [Value, POINTER(Value)]),
+        "ipv4_nat64_by_value": (c_uint32, [Value, POINTER(Value)]),
+        "usable_count": (c_uint32, [POINTER(Value), POINTER(c_size_t)]),
+        "address_count": (c_uint32, [POINTER(Value), POINTER(Halves)]),
+        "position": (c_uint32, [POINTER(Value), POINTER(Value), POINTER(Halves)]),
+        "subnets": (c_uint32, [POINTER(Value), c_uint8, c_uint64, c_uint64, c_void_p, c_size_t, POINTER(c_size_t)]),
+        "mask_length": (c_uint32, [POINTER(Value), POINTER(c_uint8)]),
+        "host_mask_length": (c_uint32, [POINTER(Value), POINTER(c_uint8)]),
+        "special_entry": (c_uint32, [POINTER(Value), POINTER(Special)]),
+        "is_global": (c_uint32, [POINTER(Value)]),
+        "is_private": (c_uint32, [POINTER(Value)]),
+        "is_loopback": (c_uint32, [POINTER(Value)]),
+        "is_link_local": (c_uint32, [POINTER(Value)]),
+        "is_documentation": (c_uint32, [POINTER(Value)]),
+        "is_unspecified": (c_uint32, [POINTER(Value)]),
+        "is_multicast": (c_uint32, [POINTER(Value)]),
+        "check": (c_uint32, [POINTER(Value)]),
+        "contains": (c_uint32, [POINTER(Value), POINTER(Value)]),
+        "overlaps": (c_uint32, [POINTER(Value), POINTER(Value)]),
+        "is_sibling_of": (c_uint32, [POINTER(Value), POINTER(Value)]),
+        "spanning": (c_uint32, [POINTER(Value), POINTER(Value), POINTER(Value)]),
+        "compare": (c_uint32, [POINTER(Value), POINTER(Value)]),
+        "compare_hosts": (c_uint32, [POINTER(Value), POINTER(Value)]),
+        "cover": (c_uint32, [c_void_p, c_size_t, POINTER(c_size_t)]),
+        "union": (c_uint32, [c_void_p, c_size_t, c_void_p, c_size_t, c_void_p, c_size_t, POINTER(c_size_t)]),
+        "intersection": (c_uint32, [c_void_p, c_size_t, c_void_p, c_size_t, c_void_p, c_size_t, POINTER(c_size_t)]),
+        "difference": (c_uint32, [c_void_p, c_size_t, c_void_p, c_size_t, c_void_p, c_size_t, POINTER(c_size_t)]),
+        "symmetric_difference": (c_uint32, [
+            c_void_p,
+            c_size_t,
+            c_void_p,
+            c_size_t,
+            c_void_p,
+            c_size_t,
+            POINTER(c_size_t),
+        ]),
+        "union_in_place": (c_uint32, [c_void_p, c_size_t, POINTER(c_size_t), c_void_p, c_size_t]),
+        "intersection_in_place": (c_uint32, [c_void_p, c_size_t, POINTER(c_size_t), c_void_p, c_size_t]),
+        "difference_in_place": (c_uint32, [c_void_p, c_size_t, POINTER(c_size_t), c_void_p, c_size_t]),
+        "complement": (c_uint32, [c_void_p, c_size_t, POINTER(Value), c_void_p, c_size_t, POINTER(c_size_t)]),
+        "is_subset": (c_uint32, [c_void_p, c_size_t, c_void_p, c_size_t, POINTER(c_uint32)]),
+        "is_disjoint": (c_uint32, [c_void_p, c_size_t, c_void_p, c_size_t, POINTER(c_uint32)]),
+        "summarize": (c_uint32, [POINTER(Value), POINTER(Value), c_void_p, c_size_t, POINTER(c_size_t)]),
+        "ranges": (c_uint32, [c_void_p, c_size_t, c_void_p, c_size_t, POINTER(c_size_t)]),
+        "count_ipv4": (c_uint32, [c_void_p, c_size_t, POINTER(Halves)]),
+        "count_ipv6": (c_uint32, [c_void_p, c_size_t, POINTER(Halves)]),
+        "nth_ipv4": (c_uint32, [c_void_p, c_size_t, c_uint64, c_uint64, POINTER(Value)]),
+        "nth_ipv6": (c_uint32, [c_void_p, c_size_t, c_uint64, c_uint64, POINTER(Value)]),
+        "first_free": (c_uint32, [c_void_p, c_size_t, c_uint8, POINTER(Value)]),
+        "best_free": (c_uint32, [c_void_p, c_size_t, c_uint8, POINTER(Value)]),
+        "contains_each": (c_uint32, [c_void_p, c_size_t, c_void_p, c_size_t, c_void_p, c_size_t]),
+        "longest_match_each": (c_uint32, [c_void_p, c_size_t, c_void_p, c_size_t, c_void_p, c_size_t]),
+        "nearest_each": (c_uint32, [c_void_p, c_size_t, c_void_p, c_size_t]),
+        "sort_order": (c_uint32, [c_void_p, c_size_t, c_void_p, c_size_t, POINTER(c_size_t)]),
+        "table_order": (c_uint32, [c_void_p, c_size_t, c_void_p, c_size_t, POINTER(c_size_t)]),
+        "rows_find": (c_uint32, [c_void_p, c_size_t, POINTER(Value), POINTER(c_size_t)]),
+        "rows_longest": (c_uint32, [c_void_p, c_size_t, POINTER(Value), POINTER(c_size_t)]),
+        "rows_covered": (c_uint32, [c_void_p, c_size_t, POINTER(Value), POINTER(c_size_t), POINTER(c_size_t)]),
+        "covering": (c_uint32, [c_void_p, c_size_t, POINTER(Value), c_void_p, c_size_t, POINTER(c_size_t)]),
+        "covered": (c_uint32, [c_void_p, c_size_t, POINTER(Value), c_void_p, c_size_t, POINTER(c_size_t)]),
+        "permits": (c_uint32, [c_void_p, c_size_t, POINTER(Value)]),
+        "permitted": (c_uint32, [c_void_p, c_size_t, c_void_p, c_size_t, POINTER(c_size_t)]),
+        "shadowed": (c_uint32, [c_void_p, c_size_t, c_void_p, c_size_t, POINTER(c_size_t)]),
+        "deciding": (c_uint32, [c_void_p, c_size_t, POINTER(Value), c_void_p, c_size_t, POINTER(c_size_t)]),
+        "smallest": (c_uint32, [c_void_p, c_size_t, c_void_p, c_size_t, POINTER(c_size_t)]),
+        "forwards_same": (c_uint32, [c_void_p, c_size_t, c_void_p, c_size_t, POINTER(c_uint32)]),
+        "table_room": (c_size_t, [c_uint32]),
+        "ipv4_table_build": (c_uint32, [
+            c_void_p,
+            c_size_t,
+            c_void_p,
+            c_size_t,
+            c_void_p,
+            c_size_t,
+            c_void_p,
+            c_size_t,
+            c_uint32,
+            POINTER(c_size_t),
+        ]),
+        "ipv6_table_build": (c_uint32, [
+            c_void_p,
+            c_size_t,
+            c_void_p,
+            c_size_t,
+            c_void_p,
+            c_size_t,
+            c_void_p,
+            c_size_t,
+            c_uint32,
+            POINTER(c_size_t),
+        ]),
+        "ipv4_table_check": (c_uint32, [
+            c_void_p,
+            c_size_t,
+            c_void_p,
+            c_size_t,
+            c_void_p,
+            c_size_t,
+            c_void_p,
+            c_size_t,
+            c_uint32,
+        ]),
+        "ipv6_table_check": (c_uint32, [
+            c_void_p,
+            c_size_t,
+            c_void_p,
+            c_size_t,
+            c_void_p,
+            c_size_t,
+            c_void_p,
+            c_size_t,
+            c_uint32,
+        ]),
+        "ipv4_table_lookup": (c_uint32, [c_void_p, c_size_t, c_void_p, c_size_t, POINTER(Table), POINTER(Value)]),
+        "ipv6_table_lookup": (c_uint32, [c_void_p, c_size_t, c_void_p, c_size_t, POINTER(Table), POINTER(Value)]),
+        "ipv4_table_lookup_each": (c_uint32, [
+            c_void_p,
+            c_size_t,
+            c_void_p,
+            c_size_t,
+            c_void_p,
+            c_size_t,
+            c_uint32,
+            c_uint32,
+            c_void_p,
+            c_size_t,
+            c_void_p,
+            c_size_t,
+        ]),
+        "ipv6_table_lookup_each": (c_uint32, [
+            c_void_p,
+            c_size_t,
+            c_void_p,
+            c_size_t,
+            c_void_p,
+            c_size_t,
+            c_uint32,
+            c_uint32,
+            c_void_p,
+            c_size_t,
+            c_void_p,
+            c_size_t,
+        ]),
+        "file_open": (c_uint32, [c_void_p, c_size_t, POINTER(File)]),
+        "file_check": (c_uint32, [c_void_p, c_size_t]),
+        "file_lookup": (c_uint32, [c_void_p, c_size_t, POINTER(File), POINTER(Value), POINTER(Found)]),
+        "file_lookup_each": (c_uint32, [c_void_p, c_size_t, POINTER(File), c_void_p, c_size_t, c_void_p, c_size_t]),
+        "set_has": (c_uint32, [c_void_p, c_size_t, POINTER(File), POINTER(Value)]),
+        "set_has_each": (c_uint32, [c_void_p, c_size_t, POINTER(File), c_void_p, c_size_t, c_void_p, c_size_t]),
+        "file_write": (c_uint32, [
+            c_void_p,
+            c_size_t,
+            c_void_p,
+            c_size_t,
+            c_void_p,
+            c_size_t,
+            c_void_p,
+            c_size_t,
+            POINTER(c_size_t),
+        ]),
+        "set_write": (c_uint32, [c_void_p, c_size_t, c_void_p, c_size_t, POINTER(c_size_t)]),
+    }
 
 
 class Calls:
     """The calls, without the `_by_value` behind some names."""
 
-    version: Callable[[], int]
-    read_address: Callable[[Any, int, Any], int]
-    read_loose_address: Callable[[Any, int, Any], int]
-    read_host: Callable[[Any, int, Any], int]
-    read_network: Callable[[Any, int, Any], int]
-    read_short_network: Callable[[Any, int, Any], int]
-    read_masked_network: Callable[[Any, int, Any], int]
-    read_reverse_name: Callable[[Any, int, Any], int]
-    read_lines: Callable[[Any, int, Any, int, Any], int]
-    read_list: Callable[[Any, int, int, Any, int, Any, Any, Any, int], int]
-    print_address: Callable[[Any, Any, int], int]
-    print_host: Callable[[Any, Any, int], int]
-    print_host_with_length: Callable[[Any, Any, int], int]
-    print_network: Callable[[Any, Any, int], int]
-    print_network_with_length: Callable[[Any, Any, int], int]
-    print_exploded_address: Callable[[Any, Any, int], int]
-    print_exploded_host: Callable[[Any, Any, int], int]
-    print_with_mask: Callable[[Any, Any, int], int]
-    print_with_host_mask: Callable[[Any, Any, int], int]
-    print_host_with_mask: Callable[[Any, Any, int], int]
-    print_host_with_host_mask: Callable[[Any, Any, int], int]
-    print_reverse_name: Callable[[Any, Any, int], int]
-    print_reverse_zone: Callable[[Any, int, Any, int], int]
-    print_lines: Callable[[Any, int, Any, int, Any], int]
-    message: Callable[[int, Any, int], int]
-    text_fault: Callable[[Any, int, Any, int], int]
-    network_to_bytes: Callable[[Any, Any, int], int]
-    host_to_bytes: Callable[[Any, Any, int], int]
-    network_from_bytes: Callable[[Any, int, Any, Any], int]
-    host_from_bytes: Callable[[Any, int, Any, Any], int]
-    first: Callable[[Any, Any], int]
-    last: Callable[[Any, Any], int]
-    mask: Callable[[Any, Any], int]
-    address: Callable[[Any, Any], int]
-    network: Callable[[Any, Any], int]
-    step_up: Callable[[Any, int, int, Any], int]
-    step_down: Callable[[Any, int, int, Any], int]
-    at: Callable[[Any, int, int, Any], int]
-    host_mask: Callable[[Any, Any], int]
-    first_usable: Callable[[Any, Any], int]
-    last_usable: Callable[[Any, Any], int]
-    nth: Callable[[Any, int, int, Any], int]
-    supernet: Callable[[Any, int, Any], int]
-    parent: Callable[[Any, Any], int]
-    network_halves: Callable[[Any, Any, Any], int]
-    subnet: Callable[[Any, int, int, int, Any], int]
-    sibling: Callable[[Any, Any], int]
-    next_network: Callable[[Any, Any], int]
-    previous_network: Callable[[Any, Any], int]
-    ipv6_mapped: Callable[[Any, Any], int]
-    ipv4_mapped: Callable[[Any, Any], int]
-    ipv4_6to4: Callable[[Any, Any], int]
-    ipv4_nat64: Callable[[Any, Any], int]
-    usable_count: Callable[[Any, Any], int]
-    address_count: Callable[[Any, Any], int]
-    position: Callable[[Any, Any, Any], int]
-    subnets: Callable[[Any, int, int, int, Any, int, Any], int]
-    mask_length: Callable[[Any, Any], int]
-    host_mask_length: Callable[[Any, Any], int]
-    special_entry: Callable[[Any, Any], int]
-    is_global: Callable[[Any], int]
-    is_private: Callable[[Any], int]
-    is_loopback: Callable[[Any], int]
-    is_link_local: Callable[[Any], int]
-    is_documentation: Callable[[Any], int]
-    is_unspecified: Callable[[Any], int]
-    is_multicast: Callable[[Any], int]
-    check: Callable[[Any], int]
-    contains: Callable[[Any, Any], int]
-    overlaps: Callable[[Any, Any], int]
-    is_sibling_of: Callable[[Any, Any], int]
-    spanning: Callable[[Any, Any, Any], int]
-    compare: Callable[[Any, Any], int]
-    compare_hosts: Callable[[Any, Any], int]
-    cover: Callable[[Any, int, Any], int]
-    union: Callable[[Any, int, Any, int, Any, int, Any], int]
-    intersection: Callable[[Any, int, Any, int, Any, int, Any], int]
-    difference: Callable[[Any, int, Any, int, Any, int, Any], int]
-    symmetric_difference: Callable[[Any, int, Any, int, Any, int, Any], int]
-    union_in_place: Callable[[Any, int, Any, Any, int], int]
-    intersection_in_place: Callable[[Any, int, Any, Any, int], int]
-    difference_in_place: Callable[[Any, int, Any, Any, int], int]
-    complement: Callable[[Any, int, Any, Any, int, Any], int]
-    is_subset: Callable[[Any, int, Any, int, Any], int]
-    is_disjoint: Callable[[Any, int, Any, int, Any], int]
-    summarize: Callable[[Any, Any, Any, int, Any], int]
-    ranges: Callable[[Any, int, Any, int, Any], int]
-    count_ipv4: Callable[[Any, int, Any], int]
-    count_ipv6: Callable[[Any, int, Any], int]
-    nth_ipv4: Callable[[Any, int, int, int, Any], int]
-    nth_ipv6: Callable[[Any, int, int, int, Any], int]
-    first_free: Callable[[Any, int, int, Any], int]
-    best_free: Callable[[Any, int, int, Any], int]
-    contains_each: Callable[[Any, int, Any, int, Any, int], int]
-    longest_match_each: Callable[[Any, int, Any, int, Any, int], int]
-    nearest_each: Callable[[Any, int, Any, int], int]
-    sort_order: Callable[[Any, int, Any, int, Any], int]
-    table_order: Callable[[Any, int, Any, int, Any], int]
-    covering: Callable[[Any, int, Any, Any, int, Any], int]
-    covered: Callable[[Any, int, Any, Any, int, Any], int]
-    permits: Callable[[Any, int, Any], int]
-    permitted: Callable[[Any, int, Any, int, Any], int]
-    shadowed: Callable[[Any, int, Any, int, Any], int]
-    deciding: Callable[[Any, int, Any, Any, int, Any], int]
-    smallest: Callable[[Any, int, Any, int, Any], int]
-    forwards_same: Callable[[Any, int, Any, int, Any], int]
-    table_room: Callable[[int], int]
-    ipv4_table_build: Callable[[Any, int, Any, int, Any, int, Any, int, int, Any], int]
-    ipv6_table_build: Callable[[Any, int, Any, int, Any, int, Any, int, int, Any], int]
-    ipv4_table_check: Callable[[Any, int, Any, int, Any, int, Any, int, int], int]
-    ipv6_table_check: Callable[[Any, int, Any, int, Any, int, Any, int, int], int]
-    ipv4_table_lookup: Callable[[Any, int, Any, int, Any, Any], int]
-    ipv6_table_lookup: Callable[[Any, int, Any, int, Any, Any], int]
-    ipv4_table_lookup_each: Callable[[Any, int, Any, int, Any, int, int, int, Any, int, Any, int], int]
-    ipv6_table_lookup_each: Callable[[Any, int, Any, int, Any, int, int, int, Any, int, Any, int], int]
-    file_open: Callable[[Any, int, Any], int]
-    file_check: Callable[[Any, int], int]
-    file_lookup: Callable[[Any, int, Any, Any, Any], int]
-    file_lookup_each: Callable[[Any, int, Any, Any, int, Any, int], int]
-    set_has: Callable[[Any, int, Any, Any], int]
-    set_has_each: Callable[[Any, int, Any, Any, int, Any, int], int]
-    file_write: Callable[[Any, int, Any, int, Any, int, Any, int, Any], int]
-    set_write: Callable[[Any, int, Any, int, Any], int]
+    if TYPE_CHECKING:
+        version: Callable[[], int]
+        read_address: Callable[[Any, int, Any], int]
+        read_loose_address: Callable[[Any, int, Any], int]
+        read_host: Callable[[Any, int, Any], int]
+        read_network: Callable[[Any, int, Any], int]
+        read_short_network: Callable[[Any, int, Any], int]
+        read_masked_network: Callable[[Any, int, Any], int]
+        read_reverse_name: Callable[[Any, int, Any], int]
+        read_lines: Callable[[Any, int, Any, int, Any], int]
+        read_list: Callable[[Any, int, int, Any, int, Any, Any, Any, int], int]
+        print_address: Callable[[Any, Any, int], int]
+        print_host: Callable[[Any, Any, int], int]
+        print_host_with_length: Callable[[Any, Any, int], int]
+        print_network: Callable[[Any, Any, int], int]
+        print_network_with_length: Callable[[Any, Any, int], int]
+        print_exploded_address: Callable[[Any, Any, int], int]
+        print_exploded_host: Callable[[Any, Any, int], int]
+        print_with_mask: Callable[[Any, Any, int], int]
+        print_with_host_mask: Callable[[Any, Any, int], int]
+        print_host_with_mask: Callable[[Any, Any, int], int]
+        print_host_with_host_mask: Callable[[Any, Any, int], int]
+        print_reverse_name: Callable[[Any, Any, int], int]
+        print_reverse_zone: Callable[[Any, int, Any, int], int]
+        print_lines: Callable[[Any, int, Any, int, Any], int]
+        message: Callable[[int, Any, int], int]
+        text_fault: Callable[[Any, int, Any, int], int]
+        network_to_bytes: Callable[[Any, Any, int], int]
+        host_to_bytes: Callable[[Any, Any, int], int]
+        network_from_bytes: Callable[[Any, int, Any, Any], int]
+        host_from_bytes: Callable[[Any, int, Any, Any], int]
+        first: Callable[[Any, Any], int]
+        last: Callable[[Any, Any], int]
+        mask: Callable[[Any, Any], int]
+        address: Callable[[Any, Any], int]
+        network: Callable[[Any, Any], int]
+        step_up: Callable[[Any, int, int, Any], int]
+        step_down: Callable[[Any, int, int, Any], int]
+        at: Callable[[Any, int, int, Any], int]
+        host_mask: Callable[[Any, Any], int]
+        first_usable: Callable[[Any, Any], int]
+        last_usable: Callable[[Any, Any], int]
+        nth: Callable[[Any, int, int, Any], int]
+        supernet: Callable[[Any, int, Any], int]
+        parent: Callable[[Any, Any], int]
+        network_halves: Callable[[Any, Any, Any], int]
+        subnet: Callable[[Any, int, int, int, Any], int]
+        sibling: Callable[[Any, Any], int]
+        next_network: Callable[[Any, Any], int]
+        previous_network: Callable[[Any, Any], int]
+        ipv6_mapped: Callable[[Any, Any], int]
+        ipv4_mapped: Callable[[Any, Any], int]
+        ipv4_6to4: Callable[[Any, Any], int]
+        ipv4_nat64: Callable[[Any, Any], int]
+        usable_count: Callable[[Any, Any], int]
+        address_count: Callable[[Any, Any], int]
+        position: Callable[[Any, Any, Any], int]
+        subnets: Callable[[Any, int, int, int, Any, int, Any], int]
+        mask_length: Callable[[Any, Any], int]
+        host_mask_length: Callable[[Any, Any], int]
+        special_entry: Callable[[Any, Any], int]
+        is_global: Callable[[Any], int]
+        is_private: Callable[[Any], int]
+        is_loopback: Callable[[Any], int]
+        is_link_local: Callable[[Any], int]
+        is_documentation: Callable[[Any], int]
+        is_unspecified: Callable[[Any], int]
+        is_multicast: Callable[[Any], int]
+        check: Callable[[Any], int]
+        contains: Callable[[Any, Any], int]
+        overlaps: Callable[[Any, Any], int]
+        is_sibling_of: Callable[[Any, Any], int]
+        spanning: Callable[[Any, Any, Any], int]
+        compare: Callable[[Any, Any], int]
+        compare_hosts: Callable[[Any, Any], int]
+        cover: Callable[[Any, int, Any], int]
+        union: Callable[[Any, int, Any, int, Any, int, Any], int]
+        intersection: Callable[[Any, int, Any, int, Any, int, Any], int]
+        difference: Callable[[Any, int, Any, int, Any, int, Any], int]
+        symmetric_difference: Callable[[Any, int, Any, int, Any, int, Any], int]
+        union_in_place: Callable[[Any, int, Any, Any, int], int]
+        intersection_in_place: Callable[[Any, int, Any, Any, int], int]
+        difference_in_place: Callable[[Any, int, Any, Any, int], int]
+        complement: Callable[[Any, int, Any, Any, int, Any], int]
+        is_subset: Callable[[Any, int, Any, int, Any], int]
+        is_disjoint: Callable[[Any, int, Any, int, Any], int]
+        summarize: Callable[[Any, Any, Any, int, Any], int]
+        ranges: Callable[[Any, int, Any, int, Any], int]
+        count_ipv4: Callable[[Any, int, Any], int]
+        count_ipv6: Callable[[Any, int, Any], int]
+        nth_ipv4: Callable[[Any, int, int, int, Any], int]
+        nth_ipv6: Callable[[Any, int, int, int, Any], int]
+        first_free: Callable[[Any, int, int, Any], int]
+        best_free: Callable[[Any, int, int, Any], int]
+        contains_each: Callable[[Any, int, Any, int, Any, int], int]
+        longest_match_each: Callable[[Any, int, Any, int, Any, int], int]
+        nearest_each: Callable[[Any, int, Any, int], int]
+        sort_order: Callable[[Any, int, Any, int, Any], int]
+        table_order: Callable[[Any, int, Any, int, Any], int]
+        rows_find: Callable[[Any, int, Any, Any], int]
+        rows_longest: Callable[[Any, int, Any, Any], int]
+        rows_covered: Callable[[Any, int, Any, Any, Any], int]
+        covering: Callable[[Any, int, Any, Any, int, Any], int]
+        covered: Callable[[Any, int, Any, Any, int, Any], int]
+        permits: Callable[[Any, int, Any], int]
+        permitted: Callable[[Any, int, Any, int, Any], int]
+        shadowed: Callable[[Any, int, Any, int, Any], int]
+        deciding: Callable[[Any, int, Any, Any, int, Any], int]
+        smallest: Callable[[Any, int, Any, int, Any], int]
+        forwards_same: Callable[[Any, int, Any, int, Any], int]
+        table_room: Callable[[int], int]
+        ipv4_table_build: Callable[[Any, int, Any, int, Any, int, Any, int, int, Any], int]
+        ipv6_table_build: Callable[[Any, int, Any, int, Any, int, Any, int, int, Any], int]
+        ipv4_table_check: Callable[[Any, int, Any, int, Any, int, Any, int, int], int]
+        ipv6_table_check: Callable[[Any, int, Any, int, Any, int, Any, int, int], int]
+        ipv4_table_lookup: Callable[[Any, int, Any, int, Any, Any], int]
+        ipv6_table_lookup: Callable[[Any, int, Any, int, Any, Any], int]
+        ipv4_table_lookup_each: Callable[[Any, int, Any, int, Any, int, int, int, Any, int, Any, int], int]
+        ipv6_table_lookup_each: Callable[[Any, int, Any, int, Any, int, int, int, Any, int, Any, int], int]
+        file_open: Callable[[Any, int, Any], int]
+        file_check: Callable[[Any, int], int]
+        file_lookup: Callable[[Any, int, Any, Any, Any], int]
+        file_lookup_each: Callable[[Any, int, Any, Any, int, Any, int], int]
+        set_has: Callable[[Any, int, Any, Any], int]
+        set_has_each: Callable[[Any, int, Any, Any, int, Any, int], int]
+        file_write: Callable[[Any, int, Any, int, Any, int, Any, int, Any], int]
+        set_write: Callable[[Any, int, Any, int, Any], int]

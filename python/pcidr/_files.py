@@ -1,7 +1,6 @@
 """Files of look-up tables: how they are made, written and read."""
 from __future__ import annotations
 
-import contextlib
 import ctypes
 import errno
 import mmap
@@ -9,16 +8,21 @@ import os
 import stat
 from array import array
 from bisect import bisect_left
-from collections.abc import Callable, Iterable, Sequence
 from ctypes import byref
 from itertools import accumulate
-from typing import Any, Union
 
 from pcidr._calls import Code, File, FileTable, Found, Value
 from pcidr._kinds import file_finder
-from pcidr._library import PACKED, Buffer, Call, Key, Unpacked, Values, answers, calls, check, key_of, message
+from pcidr._library import PACKED, Unpacked, answers, calls, check, key_of, message
 
-Path = Union[str, "os.PathLike[str]"]
+TYPE_CHECKING = False
+if TYPE_CHECKING:
+    from collections.abc import Callable, Iterable, Sequence
+    from typing import Any, Union
+
+    from pcidr._library import Buffer, Call, Key, Values
+
+    Path = Union[str, "os.PathLike[str]"]
 NO_TAG = 63
 
 
@@ -284,6 +288,8 @@ def write(path: Path, content: bytes | mmap.mmap) -> None:
             os.fsync(file.fileno())
         os.replace(beside, place)
     except BaseException:
-        with contextlib.suppress(OSError):
+        try:
             os.unlink(beside)
+        except OSError:
+            pass
         raise

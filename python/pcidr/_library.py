@@ -2,17 +2,13 @@
 from __future__ import annotations
 
 import ctypes
-import ctypes.util
 import os
 import struct
 from array import array as pack
-from collections.abc import Callable, Iterable, Iterator, Sequence
 from ctypes import byref
-from functools import partial
-from typing import TYPE_CHECKING, Any, TypeVar
+from functools import cache, partial
 
 from pcidr._calls import (
-    CALLS,
     HOST_BITS_CLEARED,
     HOST_BITS_CLEARED_WITH_MASKS,
     HOST_BITS_REFUSED,
@@ -27,6 +23,7 @@ from pcidr._calls import (
     Row,
     Table,
     Value,
+    signatures,
 )
 
 # The version of the library that the module wants.
@@ -46,15 +43,18 @@ key_at = _KEY.pack
 # By the tags: `any`, then IPv4, then IPv6.
 _FAMILIES = bytes([*[1] * 64, *[2] * 191, 0])
 
-K = TypeVar("K")
-T = TypeVar("T", ctypes.c_size_t, Range, Row, Value)
-Call = Callable[..., int]
-# What has packed addresses: whatever `memoryview` takes.
-Buffer = Any
+# Modules for types alone are loaded by those who check them: with them, to import this one takes twice as long.
+TYPE_CHECKING = False
 if TYPE_CHECKING:
+    from collections.abc import Callable, Iterable, Iterator, Sequence
+    from typing import Any, TypeVar
+
+    K = TypeVar("K")
+    T = TypeVar("T", ctypes.c_size_t, Range, Row, Value)
+    Call = Callable[..., int]
+    # What has packed addresses: whatever `memoryview` takes.
+    Buffer = Any
     Values = ctypes.Array[Value]
-else:
-    Values = ctypes.Array
 
 # those that most strings have, as arguments
 SIZES = [ctypes.c_size_t.from_param(size) for size in range(TEXT_ROOM)]
@@ -68,7 +68,9 @@ def _find() -> str:
     beside = os.path.join(os.path.dirname(os.path.abspath(__file__)), "libpcidr.so")
     if os.path.exists(beside):
         return beside
-    found = ctypes.util.find_library("pcidr")
+    from ctypes.util import find_library  # which loads much
+
+    found = find_library("pcidr")
     if found:
         return found
     raise ImportError("there is no libpcidr.so: build it by crates/cidr_c/build, and set PCIDR_LIBRARY to it")
@@ -81,31 +83,44 @@ def _check_version(version: int) -> None:
 
 
 PATH = _find()
+_known = cache(signatures)
 
 
 class _Loaded(Calls):
-    """The calls of the library, named as those of the header but without the `pcidr_`."""
+    """The calls of the library, named as those of the header but without the `pcidr_`: each is made when it is first asked
+    for."""
+
+    _QUICK = {"read_address", "read_host", "read_network", "read_reverse_name"}
 
     def __init__(self) -> None:
-        loaded = ctypes.CDLL(PATH)
-        _check_version(loaded.pcidr_version())
-        self._locked = ctypes.PyDLL(PATH)
-        for name, (result, parameters) in CALLS.items():
-            try:
-                call = getattr(loaded, f"pcidr_{name}")
-            except AttributeError as error:
-                raise ImportError(f"{PATH} lacks a call of this module: {error}") from None
-            call.restype, call.argtypes = result, parameters
-            setattr(self, name.removesuffix("_by_value"), call)
-        for name in ("read_address", "read_host", "read_network", "read_reverse_name"):
-            setattr(self, name, self.quick(name))
+        self._free, self._locked = ctypes.CDLL(PATH), ctypes.PyDLL(PATH)
+        _check_version(self._free.pcidr_version())
+
+    if not TYPE_CHECKING:
+
+        def __getattr__(self, name: str) -> Call:
+            if name in self._QUICK:
+                call = self.quick(name)
+            else:
+                by_value = f"{name}_by_value"
+                call, call.argtypes = self._call(self._free, by_value if by_value in _known() else name)
+            setattr(self, name, call)
+            return call
+
+    def _call(self, library: ctypes.CDLL, name: str) -> tuple[Any, list[Any]]:
+        """A call, another object at each time, and its parameters."""
+        result, parameters = _known()[name]
+        try:
+            call = library[f"pcidr_{name}"]
+        except AttributeError as error:
+            raise ImportError(f"{PATH} lacks a call of this module: {error}") from None
+        call.restype = result
+        return call, parameters
 
     def quick(self, name: str, arguments: Sequence[Any] = ()) -> Call:
         """A call that ends so soon that Python's lock is kept, and whose first arguments are given once and for all: to give
         the lock away, or to turn an argument into C's, takes longer. The other arguments have to be C's already."""
-        result, parameters = CALLS[name]
-        call: Any = self._locked[f"pcidr_{name}"]  # another object at each time
-        call.restype = result
+        call, parameters = self._call(self._locked, name)
         given = [kind.from_param(argument) for kind, argument in zip(parameters, arguments)]
         made: Call = partial(call, *given) if given else call
         return made

@@ -3,20 +3,15 @@ from __future__ import annotations
 
 import ctypes
 from bisect import bisect_right
-from collections.abc import Callable, Iterable, Iterator
 from itertools import chain
 from operator import index as integer
-from typing import TypeVar, Union
 
 from pcidr._calls import Code, Halves, Range, Rule, Value
-from pcidr._files import Path, Stored, opened, restored, set_of, write
+from pcidr._files import Stored, opened, restored, set_of, write
 from pcidr._kinds import each_of, values_of
 from pcidr._library import (
     ADDRESS_TAGS,
-    Buffer,
-    Call,
     Unpacked,
-    Values,
     answers,
     array,
     calls,
@@ -30,26 +25,27 @@ from pcidr._library import (
     sought,
     tags_of,
 )
-from pcidr._values import (
-    ADDRESSES_AND_NETWORKS,
-    LOW,
-    Address,
-    AnyAddress,
-    AnyNetwork,
-    Network,
-    network_value,
-    renamed,
-)
+from pcidr._values import LOW, Address, Network, network_value, renamed, theirs
 
-V = TypeVar("V")
-S = TypeVar("S", bound="NetworkSet")
-M = TypeVar("M", bound="MutableNetworkSet")
+TYPE_CHECKING = False
+if TYPE_CHECKING:
+    from collections.abc import Callable, Iterable, Iterator
+    from typing import TypeVar, Union
+
+    from pcidr._files import Path
+    from pcidr._library import Buffer, Call, Values
+    from pcidr._values import AnyAddress, AnyNetwork
+
+    V = TypeVar("V")
+    S = TypeVar("S", bound="NetworkSet")
+    M = TypeVar("M", bound="MutableNetworkSet")
+    AnySet = Union["NetworkSet", Iterable[AnyNetwork]]
 
 
 def listed(given: Iterable[V]) -> list[V]:
     """A list of an iterable, but not of the characters of a string or the addresses of a network, which stand where a
     list of them is meant."""
-    if isinstance(given, (str, Network, *ADDRESSES_AND_NETWORKS)):
+    if isinstance(given, (str, Network, *theirs("Address", "Network"))):
         raise TypeError(f"a list of networks is wanted, not one: {given!r}")
     return list(given)
 
@@ -439,9 +435,6 @@ def _of_one_family(first: Address, last: Address) -> list[tuple[Address, Address
     if first.version == last.version:
         return [(first, last)]
     return [(first, Address("255.255.255.255")), (Address("::"), last)]
-
-
-AnySet = Union[NetworkSet, Iterable[AnyNetwork]]
 
 
 def _answered(call: Call, these: NetworkSet, those: NetworkSet) -> bool:

@@ -1,15 +1,20 @@
 """What addresses, hosts and networks have of the library, by `ctypes`; `_fast.c` has the same in C."""
 from __future__ import annotations
 
-from collections.abc import Callable, Sequence
 from operator import index
-from typing import TYPE_CHECKING, Any, ClassVar, TypeVar
 
 from pcidr._calls import MASK_ROOM, NAME_ROOM, Code, Special, Value
-from pcidr._library import Call, Values, array, calls, check, key_of, printed, read, sought
+from pcidr._library import array, calls, check, key_of, printed, read, sought
 
-S = TypeVar("S", bound="Shown")
-M = TypeVar("M", bound="_Mapped")
+TYPE_CHECKING = False
+if TYPE_CHECKING:
+    from collections.abc import Callable, Sequence
+    from typing import Any, ClassVar, TypeVar
+
+    from pcidr._library import Call, Values
+
+    S = TypeVar("S", bound="Shown")
+    M = TypeVar("M", bound="_Mapped")
 
 _new = object.__new__
 

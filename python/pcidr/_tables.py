@@ -4,22 +4,17 @@ from __future__ import annotations
 import ctypes
 import os
 import threading
-import warnings
 from bisect import bisect_left
-from collections.abc import Callable, ItemsView, Iterable, Iterator, Mapping, MutableMapping, Sequence, ValuesView
+from collections.abc import ItemsView, Mapping, MutableMapping, Sequence, ValuesView
 from itertools import chain, islice
 from operator import itemgetter
-from typing import Any, NamedTuple, Optional, TypeVar, Union, overload
 
 from pcidr._calls import NO_ROW, Row, Value
-from pcidr._files import Part, Path, Stored, file_of, opened, restored, write
+from pcidr._files import file_of, opened, restored, write
 from pcidr._kinds import each_of, table_finder
 from pcidr._library import (
     ADDRESS_TAGS,
     Arrays,
-    Buffer,
-    Key,
-    Values,
     answers,
     array,
     calls,
@@ -33,31 +28,47 @@ from pcidr._library import (
     values_at,
 )
 from pcidr._sets import listed, values_in
-from pcidr._values import LOW, AnyNetwork, Network, network_value
+from pcidr._values import LOW, Network, network_value
 
-V = TypeVar("V")
-D = TypeVar("D")
-R = TypeVar("R")
-Rows = Union[Mapping[Any, V], Iterable[tuple[AnyNetwork, V]]]
+TYPE_CHECKING = False
+if TYPE_CHECKING:
+    from collections.abc import Callable, Iterable, Iterator
+    from typing import Any, TypeVar, Union, overload
+
+    from pcidr._files import Part, Path, Stored
+    from pcidr._library import Buffer, Key, Values
+    from pcidr._values import AnyNetwork
+
+    V = TypeVar("V")
+    D = TypeVar("D")
+    R = TypeVar("R")
+    Rows = Union[Mapping[Any, V], Iterable[tuple[AnyNetwork, V]]]
 
 
-class _Part(NamedTuple):
+class _Part:
     """The rows of one family in order, behind them the row of `any` or None, and the arrays of their networks."""
 
-    rows: tuple[tuple[Network, Any] | None, ...]
-    arrays: Arrays
+    __slots__ = ("rows", "arrays")
+
+    def __init__(self, rows: tuple[tuple[Network, Any] | None, ...], arrays: Arrays) -> None:
+        self.rows, self.arrays = rows, arrays
 
 
-class _Snapshot(NamedTuple):
+class _Snapshot:
     """The rows of a table as they were at a version, in order, their networks, and by the tags of addresses the rows of
     each family: made once, and never changed."""
 
-    version: object
-    rows: tuple[tuple[Network, Any], ...]
-    networks: Values
-    parts: Mapping[int, _Part] = {}
-    # what looks up one address in C, where there is the extension
-    find: Any = None
+    __slots__ = ("version", "rows", "networks", "parts", "find")
+
+    def __init__(
+        self,
+        version: object,
+        rows: tuple[tuple[Network, Any], ...],
+        networks: Values,
+        parts: Mapping[int, _Part] = {},
+        find: Any = None,  # what looks up one address in C, where there is the extension
+    ) -> None:
+        self.version, self.rows, self.networks, self.parts, self.find = version, rows, networks, parts, find
 
     def numbered(self, numbers: dict[Any, int]) -> ctypes.Array[Row]:
         """The rows with a number for each value, which those have that are not yet among the numbers, too."""
@@ -106,7 +117,7 @@ _ANY = key_of(network_value("any"))
 _IPV4, _IPV6 = b"\1", b"\2"
 
 
-class _Items(ItemsView[Network, V]):
+class _Items(ItemsView[Network, "V"]):
     """The rows of a table, whatever they are when they are asked for."""
 
     __slots__ = ()
@@ -116,7 +127,7 @@ class _Items(ItemsView[Network, V]):
         return self._mapping._listed()
 
 
-class _ValuesOfRows(ValuesView[V]):
+class _ValuesOfRows(ValuesView["V"]):
     """The values of a table, whatever they are when they are asked for."""
 
     __slots__ = ()
@@ -129,7 +140,7 @@ class _ValuesOfRows(ValuesView[V]):
         return any(held is value or held == value for held in self)
 
 
-class _Rows(Mapping[Network, V]):
+class _Rows(Mapping[Network, "V"]):
     """What the tables have alike: their rows in order."""
 
     __slots__ = ()
@@ -149,13 +160,15 @@ class _Rows(Mapping[Network, V]):
             raise _missing(key)
         return value
 
-    @overload
-    def get(self, network: AnyNetwork, /) -> V | None:
-        ...
+    if TYPE_CHECKING:
 
-    @overload
-    def get(self, network: AnyNetwork, /, default: V | D) -> V | D:
-        ...
+        @overload
+        def get(self, network: AnyNetwork, /) -> V | None:
+            ...
+
+        @overload
+        def get(self, network: AnyNetwork, /, default: V | D) -> V | D:
+            ...
 
     def get(self, network: AnyNetwork, /, default: Any = None) -> Any:
         """The value of exactly this network, or the default, also for a string that is no network."""
@@ -204,7 +217,8 @@ class _Rows(Mapping[Network, V]):
     def children(self, network: AnyNetwork) -> list[tuple[Network, V]]:
         """The rows whose network is in this one and in none of the others in it, ascending: those whose `parent` it is.
         The network needs no row."""
-        value, found = network_value(network), list[tuple[Network, V]]()
+        value = network_value(network)
+        found: list[tuple[Network, V]] = []
         own = Network._of(value)
         for row in self._inner(value):
             if row[0] != own and not (found and row[0] in found[-1][0]):
@@ -213,11 +227,13 @@ class _Rows(Mapping[Network, V]):
 
     def matches(self, asked: AnyNetwork) -> list[tuple[Network, V]]:
         """The old name of `covering`."""
+        import warnings
+
         warnings.warn(f"{type(self).__name__}.matches is covering now", DeprecationWarning, stacklevel=2)
         return self.covering(asked)
 
 
-class Matches(Sequence[Optional[tuple[Network, V]]]):
+class Matches(Sequence["tuple[Network, V] | None"]):
     """What `lookup_packed` finds: for each address the row of the longest network that it is in, or None.
 
     `places` has the rows' numbers, four bytes each, for arrays of numpy and the like: they count from 0 in the order of
@@ -234,13 +250,15 @@ class Matches(Sequence[Optional[tuple[Network, V]]]):
     def __len__(self) -> int:
         return len(self.places)
 
-    @overload
-    def __getitem__(self, index: int) -> tuple[Network, V] | None:
-        ...
+    if TYPE_CHECKING:
 
-    @overload
-    def __getitem__(self, index: slice) -> Matches[V]:
-        ...
+        @overload
+        def __getitem__(self, index: int) -> tuple[Network, V] | None:
+            ...
+
+        @overload
+        def __getitem__(self, index: slice) -> Matches[V]:
+            ...
 
     def __getitem__(self, index: Any) -> Any:
         found = self.places[index]
@@ -258,7 +276,7 @@ class Matches(Sequence[Optional[tuple[Network, V]]]):
         return f"<{type(self).__name__} of {len(self)} addresses>"
 
 
-class Table(_Rows[V], MutableMapping[Network, V]):
+class Table(_Rows["V"], MutableMapping[Network, "V"]):
     """A table of networks with a value each: ``Table({"10.0.0.0/8": 1})``, a mapping that can be changed as a `dict`.
 
     `lookup` gives the longest network that an address, or a network, is in, with its value. `lookup_each` looks up many
@@ -386,13 +404,15 @@ class Table(_Rows[V], MutableMapping[Network, V]):
         value = self._rows.get(key, _ABSENT)
         return self._put(self._rows.setdefault, key, default) if value is _ABSENT else value
 
-    @overload
-    def pop(self, network: AnyNetwork, /) -> V:
-        ...
+    if TYPE_CHECKING:
 
-    @overload
-    def pop(self, network: AnyNetwork, /, default: V | D) -> V | D:
-        ...
+        @overload
+        def pop(self, network: AnyNetwork, /) -> V:
+            ...
+
+        @overload
+        def pop(self, network: AnyNetwork, /, default: V | D) -> V | D:
+            ...
 
     def pop(self, network: AnyNetwork, /, default: Any = _ABSENT) -> Any:
         """Deletes the row of exactly this network, and returns its value; where there is none, the default."""
@@ -468,7 +488,8 @@ class Table(_Rows[V], MutableMapping[Network, V]):
     def smallest(self) -> Table[V]:
         """A table of the fewest rows that forwards the same: each address has the same value in both, or none. Values that
         are equal are the same; one that can't be a key of a `dict` raises `TypeError`."""
-        made, numbers = self._now(), dict[V, int]()
+        made = self._now()
+        numbers: dict[V, int] = {}
         rows = made.numbered(numbers)
         found, values = filled(Row, len(rows), calls.smallest, rows, len(rows)), list(numbers)
         networks = each_of(Network, array(row.network for row in found))
@@ -478,7 +499,8 @@ class Table(_Rows[V], MutableMapping[Network, V]):
         """Whether each address has the same value in both, or none in both."""
         if not isinstance(other, Table):
             raise TypeError(f"no table: {other!r}")
-        numbers, answer = dict[V, int](), ctypes.c_uint32()
+        numbers: dict[V, int] = {}
+        answer = ctypes.c_uint32()
         these, those = self._now().numbered(numbers), other._now().numbered(numbers)
         check(calls.forwards_same(these, len(these), those, len(those), answer))
         return answer.value == 1
@@ -494,7 +516,7 @@ class Table(_Rows[V], MutableMapping[Network, V]):
 StoredRow = tuple[Network, bytes]
 
 
-class _KeptRows(dict[int, Optional[StoredRow]]):
+class _KeptRows(dict[int, "StoredRow | None"]):
     """Rows of one family in a file, which are made when they are first asked for, and None for NO_ROW. So many are kept."""
 
     __slots__ = ("part", "_is_checked")

@@ -2,29 +2,32 @@
 from __future__ import annotations
 
 import ctypes
-import ipaddress
-import re
-import warnings
-from collections.abc import Iterator
+import sys
+from collections import namedtuple
 from functools import partial
 from itertools import count, takewhile
 from operator import index as integer
-from typing import TYPE_CHECKING, Any, NamedTuple, Union
 
-from pcidr._calls import FAULT_ROOM, NAME_ROOM, Code, Halves, Purpose, Value
+from pcidr._calls import FAULT_ROOM, NAME_ROOM, Code, Halves, Value
 from pcidr._kinds import OfAddress, OfHost, OfNetwork, Shown, each_of, register
 from pcidr._library import array, calls, check, combined, encoded, printed, read, tried
 
-OfIpaddress = Union[ipaddress.IPv4Address, ipaddress.IPv6Address, ipaddress.IPv4Network, ipaddress.IPv6Network]
-Packed = Union[bytes, bytearray]
-AnyAddress = Union["Address", str, Packed, ipaddress.IPv4Address, ipaddress.IPv6Address]
-AnyNetwork = Union["Address", "Network", str, OfIpaddress]
-WithLength = tuple[AnyAddress, Union[int, str]]
-AnyHost = Union["Address", "Host", "Network", str, Packed, OfIpaddress, WithLength]
+TYPE_CHECKING = False
+if TYPE_CHECKING:
+    import ipaddress
+    from collections.abc import Iterator
+    from typing import Any, NamedTuple, Union
 
-ADDRESSES_AND_NETWORKS = (ipaddress.IPv4Address, ipaddress.IPv6Address, ipaddress.IPv4Network, ipaddress.IPv6Network)
-_INTERFACES = (ipaddress.IPv4Interface, ipaddress.IPv6Interface)  # which are addresses of that module, too
-_OF_NUMBERS = re.compile("#?_?[bnxX]").fullmatch
+    from pcidr._purposes import Purpose
+
+    OfIpaddress = Union[ipaddress.IPv4Address, ipaddress.IPv6Address, ipaddress.IPv4Network, ipaddress.IPv6Network]
+    Packed = Union[bytes, bytearray]
+    AnyAddress = Union["Address", str, Packed, ipaddress.IPv4Address, ipaddress.IPv6Address]
+    AnyNetwork = Union["Address", "Network", str, OfIpaddress]
+    WithLength = tuple[AnyAddress, Union[int, str]]
+    AnyHost = Union["Address", "Host", "Network", str, Packed, OfIpaddress, WithLength]
+
+_OF_NUMBERS = {f"{sign}{groups}{base}" for sign in ("", "#") for groups in ("", "_") for base in "bnxX"}
 _WIDTHS = {4: 32, 6: 128}
 _ADDRESS_TAGS = {4: 32, 6: 192}
 LOW = 2**64 - 1
@@ -52,11 +55,20 @@ def _read_packed(given: Packed) -> Value:
     return _numbered(int.from_bytes(packed, "big"), tag)
 
 
+def theirs(*names: str) -> tuple[type, ...]:
+    """Some classes of the module `ipaddress`, of both families. Before somebody has loaded it, nothing is of them."""
+    if "ipaddress" not in sys.modules:
+        return ()
+    import ipaddress
+
+    return tuple(getattr(ipaddress, f"IPv{version}{name}") for name in names for version in (4, 6))
+
+
 def _text(given: object) -> str:
     """The string of what a value is made of: a string, a value, one of `ipaddress`, or an address and a length."""
     if isinstance(given, str):
         return given
-    if isinstance(given, (Shown, *ADDRESSES_AND_NETWORKS)):
+    if isinstance(given, (Shown, *theirs("Address", "Network"))):
         return str(given)
     if isinstance(given, (bytes, bytearray)):
         return str(Address(given))
@@ -87,7 +99,7 @@ def network_value(given: object) -> Value:
         return read(calls.read_network, given)
     if isinstance(given, (Address, Network)):
         return given._value
-    if isinstance(given, ADDRESSES_AND_NETWORKS) and not isinstance(given, _INTERFACES):
+    if isinstance(given, theirs("Address", "Network")) and not isinstance(given, theirs("Interface")):
         return read(calls.read_network, str(given))
     raise TypeError(f"no network or address: {given!r}")
 
@@ -96,6 +108,8 @@ def renamed(old: str, new: str) -> Any:
     """An attribute by its old name, which warns."""
 
     def get(self: Any) -> Any:
+        import warnings
+
         warnings.warn(f"{type(self).__name__}.{old} is {new} now", DeprecationWarning, stacklevel=2)
         return getattr(self, new)
 
@@ -152,22 +166,29 @@ class _Common(Shown):
     mask = renamed("mask", "netmask")
 
 
-class SpecialEntry(NamedTuple):
-    """An entry of the IANA registries of addresses for special purposes, as of May 2025: its block, what that is for,
-    the number of the RFC, and the columns, of which None stands for "N/A"."""
+if TYPE_CHECKING:
 
-    network: Network
-    purpose: Purpose
-    rfc: int
-    source: bool | None
-    destination: bool | None
-    forwardable: bool | None
-    globally_reachable: bool | None
-    reserved_by_protocol: bool | None
+    class SpecialEntry(NamedTuple):
+        network: Network
+        purpose: Purpose
+        rfc: int
+        source: bool | None
+        destination: bool | None
+        forwardable: bool | None
+        globally_reachable: bool | None
+        reserved_by_protocol: bool | None
+
+else:
+    _COLUMNS = "source destination forwardable globally_reachable reserved_by_protocol"
+    SpecialEntry = namedtuple("SpecialEntry", f"network purpose rfc {_COLUMNS}")
+SpecialEntry.__doc__ = """An entry of the IANA registries of addresses for special purposes, as of May 2025: its block, what
+that is for, the number of the RFC, and the columns, of which None stands for "N/A"."""
 
 
 def _entry(high: int, low: int, tag: int, purpose: int, rfc: int, *columns: int) -> SpecialEntry:
     """The entry that the library has in numbers."""
+    from pcidr._purposes import Purpose
+
     shown = ((False, True, None)[column] for column in columns)
     return SpecialEntry(Network._of(Value(high, low, tag)), Purpose(purpose), rfc, *shown)
 
@@ -215,10 +236,12 @@ class Address(_Common, OfAddress):
 
     def __format__(self, spec: str) -> str:
         """Of the string, or for b, x, X and n, with # and _ before them, of the number, as `ipaddress` formats it."""
-        return format(self.to_ipaddress() if _OF_NUMBERS(spec) else str(self), spec)
+        return format(self.to_ipaddress() if spec in _OF_NUMBERS else str(self), spec)
 
     def to_ipaddress(self) -> ipaddress.IPv4Address | ipaddress.IPv6Address:
         """The same address of the module `ipaddress`."""
+        import ipaddress
+
         return ipaddress.IPv4Address(int(self)) if self.version == 4 else ipaddress.IPv6Address(int(self))
 
 
@@ -252,6 +275,8 @@ class Host(_Common, OfHost):
 
     def to_ipaddress(self) -> ipaddress.IPv4Interface | ipaddress.IPv6Interface:
         """The same host of the module `ipaddress`, which calls it an interface."""
+        import ipaddress
+
         parts = int(self), self.prefixlen
         return ipaddress.IPv4Interface(parts) if self.version == 4 else ipaddress.IPv6Interface(parts)
 
@@ -391,6 +416,8 @@ class Network(_Common, OfNetwork):
 
     def to_ipaddress(self) -> ipaddress.IPv4Network | ipaddress.IPv6Network:
         """The same network of the module `ipaddress`, which has none that is like `any`."""
+        import ipaddress
+
         parts = int(self.first), self.prefixlen
         return ipaddress.IPv4Network(parts) if self.version == 4 else ipaddress.IPv6Network(parts)
 
@@ -424,5 +451,5 @@ class Network(_Common, OfNetwork):
 # By the tags, how many addresses a network has.
 _COUNTS = tuple(1 << (32 if tag < 33 else 192) - tag if tag < 33 or 64 <= tag < 193 else 0 for tag in range(255))
 register(Address, Network, check, network_value, _entry, (*_COUNTS, 2**32 + 2**128))
-for _kind in (Address, Host, Network, SpecialEntry, Purpose):
+for _kind in (Address, Host, Network, SpecialEntry):
     _kind.__module__ = "pcidr"

@@ -101,6 +101,18 @@ print(*map(hash, values))
 """
 
 
+# What an import loads, in an interpreter that has loaded as little as may be before.
+LOADED = """
+import sys
+sys.path.insert(0, FOLDER)
+import pcidr
+print(*sorted(sys.modules))
+assert pcidr.Table({"10.0.0.0/8": 1}).lookup(pcidr.Address("10.1.2.3")) and pcidr.Purpose(9).name == "DUMMY"
+from pcidr import *
+assert all(pcidr.__all__[place] in dir(pcidr) for place in range(22)) and hasattr(pcidr, "x") is False
+"""
+
+
 def output(program: str, **environment: str) -> str:
     """What a program in another process prints."""
     words = [sys.executable, "-c", program]
@@ -126,6 +138,13 @@ class Process(unittest.TestCase):
         one, again, other = (output(HASHES, PYTHONHASHSEED=seed).split() for seed in "112")
         self.assertEqual((one, len(one)), (again, 7))
         self.assertFalse([each for each, another in zip(one, other) if each == another])
+
+    def test_an_import_loads_little(self):
+        program = LOADED.replace("FOLDER", repr(str(Path(pcidr.__file__).parent.parent)))
+        words = [sys.executable, "-S", "-c", program]
+        ran = subprocess.run(words, stdout=subprocess.PIPE, check=True, text=True)
+        heavy = {"typing", "re", "enum", "ipaddress", "ctypes.util", "threading", "pcidr._tables", "pcidr._sets"}
+        self.assertEqual(heavy & set(ran.stdout.split()), set())
 
     def test_entries_of_the_registries(self):
         for way in ("by_threads", "by_opcodes"):
