@@ -8,7 +8,9 @@
 #define Py_LIMITED_API 0x030b0000
 #include <Python.h>
 #include <dlfcn.h>
+#include <stddef.h>
 #include <string.h>
+#include <structmember.h>
 
 #include "pcidr.h"
 
@@ -26,7 +28,7 @@ typedef struct {
 } kind;
 
 static kind addresses, hosts, networks;
-static comparer contains;
+static comparer contains, overlaps;
 static part first_part, last_part, mask_part, host_mask_part, address_part, network_part, first_usable, last_usable;
 static part next_network, previous_network, sibling, ipv6_mapped, ipv4_mapped, ipv4_6to4, ipv4_nat64;
 static question is_private, is_loopback, is_link_local, is_multicast, is_unspecified, is_documentation, is_global;
@@ -35,6 +37,7 @@ static printer exploded_address, exploded_host, reverse_name;
 static uint32_t (*special_entry)(const pcidr_value *, pcidr_special *);
 static uint32_t (*step_up)(pcidr_value, uint64_t, uint64_t, pcidr_value *);
 static uint32_t (*step_down)(pcidr_value, uint64_t, uint64_t, pcidr_value *);
+static uint32_t (*nth)(pcidr_value, uint64_t, uint64_t, pcidr_value *);
 
 /* Of the module: the classes, `Value` of `ctypes`, and what is called where there is no quick way. */
 static PyObject *address_class, *network_class, *value_class, *check_code, *network_value, *entry_made, *counts;
@@ -42,9 +45,16 @@ static PyObject *address_class, *network_class, *value_class, *check_code, *netw
 typedef struct {
     PyObject_HEAD
     pcidr_value value;
+    PyObject *weak; /* references to it */
 } shown;
 
 static PyTypeObject *shown_type;
+
+/* A host or a network, with two parts of it, once they have been asked for. */
+typedef struct {
+    shown shown;
+    PyObject *kept[2];
+} keeper;
 
 /* The interpreter that all of these are of. There is one of each, and others do without this module. */
 static int64_t owner = -1;
@@ -121,6 +131,7 @@ static PyObject *shown_new(PyTypeObject *type, PyObject *arguments, PyObject *na
 
 static void shown_dealloc(PyObject *self) {
     PyTypeObject *type = Py_TYPE(self);
+    if (((shown *)self)->weak) PyObject_ClearWeakRefs(self);
     ((freefunc)PyType_GetSlot(type, Py_tp_free))(self);
     Py_DECREF(type);
 }
@@ -178,6 +189,9 @@ static PyObject *shown_max_prefixlen(PyObject *self, void *unused) {
     return PyLong_FromLong(tag < 64 ? 32 : 128);
 }
 
+/* The masks that have been asked for, and the host masks, by the tags of values. */
+static PyObject *kept_masks[2][256];
+
 /* What a call of the library makes of a value, or None where it says that there is none. */
 static PyObject *part_of(PyObject *self, part call, PyObject *class) {
     pcidr_value out;
@@ -186,6 +200,15 @@ static PyObject *part_of(PyObject *self, part call, PyObject *class) {
     if (code == PCIDR_NONE) return Py_NewRef(Py_None);
     raised(code, self);
     return NULL;
+}
+
+/* The mask, or the host mask, of a value, of which there is one object for each prefix length. */
+static PyObject *mask_by(PyObject *self, void *call) {
+    PyObject **kept = &kept_masks[call == &host_mask_part][value_in(self)->tag];
+    if (*kept) return Py_NewRef(*kept);
+    PyObject *made = part_of(self, *(part *)call, address_class);
+    if (made && !*kept) *kept = Py_NewRef(made);
+    return made;
 }
 
 /* An address, and a value of the same kind. */
@@ -262,9 +285,14 @@ static PyGetSetDef shown_attributes[] = {
     {"max_prefixlen", shown_max_prefixlen, NULL, "The number of bits of an address: 32 or 128.", NULL},
     {"first", address_by, NULL, "The first address of the network; `any` raises `ValueError`.", &first_part},
     {"last", address_by, NULL, "The last address of the network, as `first` has the first one.", &last_part},
-    {"netmask", address_by, NULL, "The mask of the network, as an address; `any` raises `ValueError`.", &mask_part},
-    {"hostmask", address_by, NULL, "The inverse of the mask, as an address.", &host_mask_part},
+    {"netmask", mask_by, NULL, "The mask of the network, as an address; `any` raises `ValueError`.", &mask_part},
+    {"hostmask", mask_by, NULL, "The inverse of the mask, as an address.", &host_mask_part},
     {NULL, NULL, NULL, NULL, NULL},
+};
+
+static PyMemberDef shown_members[] = {
+    {"__weaklistoffset__", T_PYSSIZET, offsetof(shown, weak), READONLY, NULL},
+    {NULL, 0, 0, 0, NULL},
 };
 
 static PyType_Slot shown_slots[] = {
@@ -273,6 +301,7 @@ static PyType_Slot shown_slots[] = {
     {Py_tp_dealloc, shown_dealloc},
     {Py_tp_hash, shown_hash},
     {Py_tp_methods, shown_methods},
+    {Py_tp_members, shown_members},
     {Py_tp_getset, shown_attributes},
     {0, NULL},
 };
@@ -392,6 +421,22 @@ static PyObject *address_special_entry(PyObject *self, void *unused) {
     return made;
 }
 
+/* The halves of a number: 1, or 0 where it has none, being below 0 or of more than 128 bits, and -1 after an exception. */
+static int halves_of(PyObject *number, unsigned long long *high, unsigned long long *low) {
+    int beyond;
+    long long small = PyLong_AsLongLongAndOverflow(number, &beyond);
+    *high = 0, *low = (unsigned long long)small;
+    if (!beyond) return small >= 0 ? 1 : PyErr_Occurred() ? -1 : 0;
+    if (beyond < 0) return 0;
+    PyObject *bits = PyLong_FromLong(64), *above = bits ? PyNumber_Rshift(number, bits) : NULL;
+    if (above) *low = PyLong_AsUnsignedLongLongMask(number), *high = PyLong_AsUnsignedLongLong(above);
+    int fits = above && !PyErr_Occurred(), is_long = above && PyErr_ExceptionMatches(PyExc_OverflowError);
+    Py_XDECREF(bits);
+    Py_XDECREF(above);
+    if (is_long) PyErr_Clear();
+    return fits ? 1 : is_long ? 0 : -1;
+}
+
 /* The address so many further in its family, by a step of the library in the network of all its addresses. */
 static PyObject *moved(PyObject *self, PyObject *count, int is_back) {
     if (!PyObject_TypeCheck(self, shown_type) || !PyLong_Check(count)) return Py_NewRef(Py_NotImplemented);
@@ -402,22 +447,17 @@ static PyObject *moved(PyObject *self, PyObject *count, int is_back) {
     unsigned long long high = 0, low = steps < 0 ? 0 - (unsigned long long)steps : (unsigned long long)steps;
     int is_down = (beyond ? beyond < 0 : steps < 0) != is_back;
     uint32_t code = PCIDR_WRAPPED;
+    int fits = 1;
     if (beyond) { /* more than 63 bits */
-        PyObject *bits = PyLong_FromLong(64), *exact = PyNumber_Index(count); /* without the methods of a class below */
+        PyObject *exact = PyNumber_Index(count); /* without the methods of a class below */
         PyObject *positive = exact ? PyNumber_Absolute(exact) : NULL;
-        PyObject *above = bits && positive ? PyNumber_Rshift(positive, bits) : NULL;
-        if (above) low = PyLong_AsUnsignedLongLongMask(positive), high = PyLong_AsUnsignedLongLong(above);
-        int fits = above && !PyErr_Occurred();
-        if (above && !fits && PyErr_ExceptionMatches(PyExc_OverflowError)) PyErr_Clear();
-        Py_XDECREF(bits);
+        fits = positive ? halves_of(positive, &high, &low) : -1;
         Py_XDECREF(exact);
         Py_XDECREF(positive);
-        Py_XDECREF(above);
-        if (PyErr_Occurred()) return NULL;
-        beyond = !fits;
+        if (fits < 0) return NULL;
     }
     all.tag = full < 64 ? 0 : 64;
-    if (!beyond) code = (is_down ? step_down : step_up)(all, high, low, &out);
+    if (fits) code = (is_down ? step_down : step_up)(all, high, low, &out);
     if (code) {
         PyObject *none = PyObject_CallFunction(check_code, "IOO", (unsigned)code, self, count);
         Py_XDECREF(none);
@@ -459,6 +499,31 @@ static PyType_Slot address_slots[] = {
     {0, NULL},
 };
 
+/* Where a host or a network keeps a part of it, the call that makes it, and its class. */
+typedef struct {
+    int place;
+    part *call;
+    PyObject **class;
+} keeping;
+
+static keeping its_first = {0, &first_part, &address_class}, its_last = {1, &last_part, &address_class};
+static keeping its_address = {0, &address_part, &address_class}, its_network = {1, &network_part, &network_class};
+
+static PyObject *kept_by(PyObject *self, void *closure) {
+    keeping *how = closure;
+    PyObject **kept = &((keeper *)self)->kept[how->place];
+    if (*kept) return Py_NewRef(*kept);
+    PyObject *made = part_of(self, *how->call, *how->class);
+    if (made && !*kept) *kept = Py_NewRef(made);
+    return made;
+}
+
+static void keeper_dealloc(PyObject *self) {
+    Py_CLEAR(((keeper *)self)->kept[0]);
+    Py_CLEAR(((keeper *)self)->kept[1]);
+    shown_dealloc(self);
+}
+
 static int host_init(PyObject *self, PyObject *arguments, PyObject *named) {
     return filled(self, arguments, named, &hosts);
 }
@@ -469,11 +534,6 @@ static PyObject *host_str(PyObject *self) {
 
 static PyObject *host_compare(PyObject *self, PyObject *other, int operation) {
     return compared(self, other, operation, &hosts);
-}
-
-static PyObject *host_network(PyObject *self, void *unused) {
-    (void)unused;
-    return part_of(self, network_part, network_class);
 }
 
 /* Of a host its address is asked. */
@@ -502,13 +562,14 @@ static PyGetSetDef host_attributes[] = {
     {"with_prefixlen", string_by, NULL, "The string with its prefix length, also a full one.", &host_with_length},
     {"with_netmask", string_by, NULL, "The string with the mask in place of the prefix length.", &host_with_mask},
     {"with_hostmask", string_by, NULL, "The string with the inverse of the mask in its place.", &host_with_host_mask},
-    {"ip", address_by, NULL, "The address.", &address_part},
-    {"network", host_network, NULL, "The network.", NULL},
+    {"ip", kept_by, NULL, "The address.", &its_address},
+    {"network", kept_by, NULL, "The network.", &its_network},
     {NULL, NULL, NULL, NULL, NULL},
 };
 
 static PyType_Slot host_slots[] = {
     {Py_tp_init, host_init},
+    {Py_tp_dealloc, keeper_dealloc},
     {Py_tp_str, host_str},
     {Py_tp_richcompare, host_compare},
     {Py_tp_hash, shown_hash},
@@ -529,8 +590,8 @@ static PyObject *network_compare(PyObject *self, PyObject *other, int operation)
     return compared(self, other, operation, &networks);
 }
 
-/* Whether a network has an address or a network. */
-static int network_contains(PyObject *self, PyObject *inner) {
+/* What a call says of a network and what stands for another one, or -1 after an exception. */
+static int compared_by(comparer call, PyObject *self, PyObject *inner) {
     pcidr_value read;
     const pcidr_value *value = &read;
     PyObject *class = (PyObject *)Py_TYPE(inner);
@@ -544,12 +605,40 @@ static int network_contains(PyObject *self, PyObject *inner) {
         Py_XDECREF(given);
         if (failed) return -1;
     }
-    return contains(value_in(self), value) == 1;
+    return call(value_in(self), value) == 1;
+}
+
+static int network_contains(PyObject *self, PyObject *inner) {
+    return compared_by(contains, self, inner);
+}
+
+static PyObject *network_overlaps(PyObject *self, PyObject *other) {
+    int answer = compared_by(overlaps, self, other);
+    return answer < 0 ? NULL : PyBool_FromLong(answer);
 }
 
 static PyObject *network_num_addresses(PyObject *self, void *unused) {
     (void)unused;
     return PySequence_GetItem(counts, value_in(self)->tag);
+}
+
+/* The address at an index, which counts from the end where it is below 0. */
+static PyObject *network_at(PyObject *self, PyObject *index) {
+    unsigned long long high, low;
+    pcidr_value out;
+    PyObject *place = PyNumber_Index(index);
+    if (!place) return NULL;
+    int fits = halves_of(place, &high, &low);
+    if (!fits) {
+        PyObject *all = network_num_addresses(self, NULL), *behind = all ? PyNumber_Add(place, all) : NULL;
+        fits = behind ? halves_of(behind, &high, &low) : -1;
+        Py_XDECREF(all);
+        Py_XDECREF(behind);
+    }
+    Py_DECREF(place);
+    if (fits < 0) return NULL;
+    if (fits && !nth(*value_in(self), high, low, &out)) return made_of(address_class, &out);
+    return PyErr_Format(PyExc_IndexError, "%S has no address %S", self, index);
 }
 
 /* The network that a call finds beside it. */
@@ -581,6 +670,8 @@ static PyMethodDef network_methods[] = {
     {"next", network_next, METH_NOARGS, "The network of the same length behind it; the last one raises `ValueError`."},
     {"previous", network_previous, METH_NOARGS, "The network of the same length before it."},
     {"sibling", network_sibling, METH_NOARGS, "The other half of the network that is twice as large."},
+    {"_at", network_at, METH_O, NULL},
+    {"overlaps", network_overlaps, METH_O, "Whether an address is in both."},
     {NULL, NULL, 0, NULL},
 };
 
@@ -592,8 +683,10 @@ static PyGetSetDef network_attributes[] = {
     {"with_netmask", string_by, NULL, "The string with the mask in place of the prefix length.", &with_mask},
     {"with_hostmask", string_by, NULL, "The string with the inverse of the mask in its place.", &with_host_mask},
     {"num_addresses", network_num_addresses, NULL, "The number of addresses.", NULL},
-    {"network_address", address_by, NULL, "The first address.", &first_part},
-    {"broadcast_address", address_by, NULL, "The last address, which is that of broadcasts in IPv4.", &last_part},
+    {"first", kept_by, NULL, "The first address; `any` raises `ValueError`.", &its_first},
+    {"last", kept_by, NULL, "The last address, as `first` has the first one.", &its_last},
+    {"network_address", kept_by, NULL, "The first address.", &its_first},
+    {"broadcast_address", kept_by, NULL, "The last address, which is that of broadcasts in IPv4.", &its_last},
     {"_first_usable", address_by, NULL, "The first address that a host may have.", &first_usable},
     {"_last_usable", address_by, NULL, "The last address that a host may have.", &last_usable},
     {NULL, NULL, NULL, NULL, NULL},
@@ -601,6 +694,8 @@ static PyGetSetDef network_attributes[] = {
 
 static PyType_Slot network_slots[] = {
     {Py_tp_init, network_init},
+    {Py_tp_dealloc, keeper_dealloc},
+    {Py_mp_subscript, network_at},
     {Py_tp_str, network_str},
     {Py_tp_richcompare, network_compare},
     {Py_tp_hash, shown_hash},
@@ -841,7 +936,8 @@ static PyObject *connect(PyObject *module, PyObject *arguments) {
         {"pcidr_first_usable_by_value", &first_usable}, {"pcidr_last_usable_by_value", &last_usable},
         {"pcidr_print_exploded_address", &exploded_address}, {"pcidr_print_exploded_host", &exploded_host},
         {"pcidr_print_host_with_mask", &host_with_mask}, {"pcidr_special_entry", &special_entry},
-        {"pcidr_print_host_with_host_mask", &host_with_host_mask},
+        {"pcidr_print_host_with_host_mask", &host_with_host_mask}, {"pcidr_nth_by_value", &nth},
+        {"pcidr_overlaps", &overlaps},
     };
     for (size_t place = 0; place < sizeof calls / sizeof *calls; place++) {
         void *found = dlsym(library, calls[place].name);
@@ -883,9 +979,9 @@ static struct PyModuleDef definition = {
 };
 
 /* A class in the module, below the first one where there is a base. */
-static PyTypeObject *added(PyObject *module, const char *name, PyType_Slot *slots, PyTypeObject *base) {
+static PyTypeObject *added(PyObject *module, const char *name, int size, PyType_Slot *slots, PyTypeObject *base) {
     unsigned flags = Py_TPFLAGS_DEFAULT | Py_TPFLAGS_BASETYPE;
-    PyType_Spec spec = {name, sizeof(shown), 0, flags, slots};
+    PyType_Spec spec = {name, size, 0, flags, slots};
     PyObject *made = PyType_FromModuleAndSpec(module, &spec, (PyObject *)base);
     if (made && PyModule_AddObjectRef(module, strrchr(name, '.') + 1, made)) Py_CLEAR(made);
     return (PyTypeObject *)made;
@@ -897,13 +993,14 @@ PyMODINIT_FUNC PyInit__fast(void) {
     /* what an interpreter that has ended left here */
     address_class = network_class = value_class = check_code = network_value = entry_made = counts = NULL;
     memset(kept_entries, 0, sizeof kept_entries);
-    shown_type = added(module, "pcidr._fast.Shown", shown_slots, NULL);
+    memset(kept_masks, 0, sizeof kept_masks);
+    shown_type = added(module, "pcidr._fast.Shown", sizeof(shown), shown_slots, NULL);
     unsigned flags = Py_TPFLAGS_DEFAULT | Py_TPFLAGS_HAVE_GC | Py_TPFLAGS_DISALLOW_INSTANTIATION;
     PyType_Spec spec = {"pcidr._fast.Finder", sizeof(finder), 0, flags, finder_slots};
     finder_type = (PyTypeObject *)PyType_FromModuleAndSpec(module, &spec, NULL);
-    if (shown_type && finder_type && added(module, "pcidr._fast.OfAddress", address_slots, shown_type) &&
-        added(module, "pcidr._fast.OfHost", host_slots, shown_type) &&
-        added(module, "pcidr._fast.OfNetwork", network_slots, shown_type))
+    if (shown_type && finder_type && added(module, "pcidr._fast.OfAddress", sizeof(shown), address_slots, shown_type) &&
+        added(module, "pcidr._fast.OfHost", sizeof(keeper), host_slots, shown_type) &&
+        added(module, "pcidr._fast.OfNetwork", sizeof(keeper), network_slots, shown_type))
         return module;
     Py_DECREF(module);
     return NULL;

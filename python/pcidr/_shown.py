@@ -22,7 +22,7 @@ _new = object.__new__
 class Shown:
     """A value of the library, which never changes."""
 
-    __slots__ = ("_value",)
+    __slots__ = ("_value", "__weakref__")
     _value: Value
     _read: ClassVar[Call]
     _print: ClassVar[Call]
@@ -329,6 +329,20 @@ class OfNetwork(_Mapped):
 
     def __contains__(self, inner: Any) -> bool:
         return calls.contains(self._value, _functions[1](inner)) == 1
+
+    def overlaps(self, other: Any) -> bool:
+        """Whether an address is in both."""
+        return calls.overlaps(self._value, _functions[1](other)) == 1
+
+    def _at(self, number: Any) -> Any:
+        """The address at an index, which counts from the end where it is below 0."""
+        place, out = index(number), Value()
+        place += self.num_addresses if place < 0 else 0
+        if not 0 <= place < 1 << 128 or calls.nth(self._value, place >> 64, place % (1 << 64), out):
+            raise IndexError(f"{self} has no address {number}")
+        return _classes[0]._of(out)
+
+    __getitem__ = _at
 
     @property
     def num_addresses(self) -> int:

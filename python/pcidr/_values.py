@@ -4,7 +4,7 @@ from __future__ import annotations
 import ctypes
 import sys
 from collections import namedtuple
-from functools import partial
+from functools import cache, partial
 from itertools import count, takewhile
 from operator import index as integer
 
@@ -32,6 +32,7 @@ _WIDTHS = {4: 32, 6: 128}
 _ADDRESS_TAGS = {4: 32, 6: 192}
 LOW = 2**64 - 1
 _SUBNETS = 256  # so many at a time
+_USABLE: dict[tuple[int | None, int | None], range] = {}
 
 
 def text_fault(text: str) -> str | None:
@@ -57,8 +58,11 @@ def _read_packed(given: Packed) -> Value:
 
 def theirs(*names: str) -> tuple[type, ...]:
     """Some classes of the module `ipaddress`, of both families. Before somebody has loaded it, nothing is of them."""
-    if "ipaddress" not in sys.modules:
-        return ()
+    return _loaded(names) if "ipaddress" in sys.modules else ()
+
+
+@cache
+def _loaded(names: tuple[str, ...]) -> tuple[type, ...]:
     import ipaddress
 
     return tuple(getattr(ipaddress, f"IPv{version}{name}") for name in names for version in (4, 6))
@@ -201,7 +205,7 @@ class Address(_Common, OfAddress):
     first one, they raise `ValueError`.
     """
 
-    __slots__ = ("__weakref__",)
+    __slots__ = ()
 
     if TYPE_CHECKING:
 
@@ -250,7 +254,7 @@ class Host(_Common, OfHost):
     string that is none raises `ValueError`; an address alone has full prefix length. ``Host((address, 8))`` is another
     way to write it. `ipaddress` calls it an interface."""
 
-    __slots__ = ("__weakref__",)
+    __slots__ = ()
 
     if TYPE_CHECKING:
 
@@ -293,7 +297,7 @@ class Network(_Common, OfNetwork):
     at an index. `any` comes first in the order, then IPv4, then IPv6.
     """
 
-    __slots__ = ("__weakref__",)
+    __slots__ = ()
 
     if TYPE_CHECKING:
 
@@ -306,6 +310,12 @@ class Network(_Common, OfNetwork):
             ...
 
         def __contains__(self, inner: AnyNetwork) -> bool:
+            ...
+
+        def __getitem__(self, index: int) -> Address:
+            ...
+
+        def overlaps(self, other: AnyNetwork) -> bool:
             ...
 
         def next(self) -> Network:
@@ -335,15 +345,11 @@ class Network(_Common, OfNetwork):
 
     def subnet_of(self, other: AnyNetwork) -> bool:
         """Whether all of its addresses are in the other network, which may be of another family."""
-        return calls.contains(network_value(other), self._value) == 1
+        return self in (other if isinstance(other, Network) else Network._of(network_value(other)))
 
     def supernet_of(self, other: AnyNetwork) -> bool:
         """Whether it has all addresses of the other network."""
         return other in self
-
-    def overlaps(self, other: AnyNetwork) -> bool:
-        """Whether an address is in both."""
-        return calls.overlaps(self._value, network_value(other)) == 1
 
     def _length_of(self, difference: int, length: int | None, sign: int) -> int:
         """The prefix length that is asked for, by a difference to this one or by itself."""
@@ -381,18 +387,27 @@ class Network(_Common, OfNetwork):
 
     def _each_subnet(self, length: int) -> Iterator[Network]:
         """The networks in it of a prefix length, some at a time."""
-        room, count, place = (Value * _SUBNETS)(), ctypes.c_size_t(_SUBNETS), 0
-        while count.value == _SUBNETS:
-            check(calls.subnets(self._value, length, place >> 64, place & LOW, room, _SUBNETS, count))
+        place, most = 0, 8  # soon the first ones
+        while True:
+            room, count = (Value * most)(), ctypes.c_size_t()
+            check(calls.subnets(self._value, length, place >> 64, place & LOW, room, most, count))
             yield from each_of(Network, room, count.value)
-            place += _SUBNETS
+            if count.value < most:
+                return
+            place, most = place + most, _SUBNETS
 
     def hosts(self) -> Iterator[Address]:
         """The addresses that hosts may have: in IPv4 all but the first and the last one, and of a network of one or two
         addresses these; in IPv6 all, of which `ipaddress` leaves the first one out."""
-        self._own_length()
-        first, last = self._first_usable, self._last_usable
-        return (Address.from_int(number, first.version) for number in range(int(first), int(last) + 1))
+        places = _USABLE.get((self.version, self.prefixlen)) or self._usable()
+        return map(self._at, places)
+
+    def _usable(self) -> range:
+        """The indexes of these addresses, which all networks of one length have alike."""
+        length = self._own_length()
+        places = range(self.index(self._first_usable), self.index(self._last_usable) + 1)
+        _USABLE[self.version, length] = places
+        return places
 
     @classmethod
     def from_reverse_pointer(cls, name: str) -> Network:
@@ -421,15 +436,6 @@ class Network(_Common, OfNetwork):
         parts = int(self.first), self.prefixlen
         return ipaddress.IPv4Network(parts) if self.version == 4 else ipaddress.IPv6Network(parts)
 
-    def __getitem__(self, index: int) -> Address:
-        given = integer(index)
-        place = given + self.num_addresses if given < 0 else given
-        if self.prefixlen is None or not 0 <= place < self.num_addresses:
-            raise IndexError(f"{self} has no address {index}")
-        out = Value()
-        check(calls.nth(self._value, place >> 64, place & LOW, out))
-        return Address._of(out)
-
     def index(self, address: AnyAddress) -> int:
         """The index of an address, the inverse of ``network[i]``; one that isn't in it raises `ValueError`."""
         asked, number = Address(address), Halves()
@@ -438,11 +444,11 @@ class Network(_Common, OfNetwork):
 
     def __iter__(self) -> Iterator[Address]:
         self._own_length()
-        return (self[i] for i in range(self.num_addresses))
+        return map(self._at, range(self.num_addresses))
 
     def __reversed__(self) -> Iterator[Address]:
         self._own_length()
-        return (self[i] for i in range(self.num_addresses - 1, -1, -1))
+        return map(self._at, range(self.num_addresses - 1, -1, -1))
 
     count = renamed("count", "num_addresses")
     with_length = renamed("with_length", "with_prefixlen")
