@@ -153,7 +153,7 @@ static Py_hash_t shown_hash(PyObject *self) {
 static PyObject *shown_value(PyObject *self, void *unused) {
     (void)unused;
     pcidr_value *value = value_in(self);
-    if (value->tag == NO_TAG) return PyErr_Format(PyExc_AttributeError, "no __init__ has set the value");
+    if (value->tag == NO_TAG) return PyErr_Format(PyExc_ValueError, "no __init__ has set the value");
     return PyObject_CallFunction(value_class, "KKB", (unsigned long long)value->high, (unsigned long long)value->low,
                                  value->tag);
 }

@@ -519,9 +519,9 @@ class MutableNetworkSet(NetworkSet):
         self._change(calls.difference, [network])
 
     def update(self, *others: AnySet) -> None:
-        """Adds the addresses of sets, or of lists of networks, by a change for each."""
-        for other in others:
-            self._change(calls.union, other)
+        """Adds the addresses of sets, or of lists of networks, by one change."""
+        given = list(map(_set_of, others))
+        self._become(lambda held: held.union(*given))
 
     def clear(self) -> None:
         """Removes all addresses."""

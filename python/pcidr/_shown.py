@@ -38,6 +38,13 @@ class Shown:
         """The value of what is no string."""
         raise NotImplementedError
 
+    if not TYPE_CHECKING:
+
+        def __getattr__(self, name: str) -> Any:
+            if name == "_value":
+                raise ValueError("no __init__ has set the value")
+            raise AttributeError(f"{type(self).__name__!r} object has no attribute {name!r}")
+
     @classmethod
     def _of(cls: type[S], value: Value) -> S:
         made = _new(cls)

@@ -7,6 +7,7 @@ import threading
 from bisect import bisect_left
 from collections.abc import ItemsView, Mapping, MutableMapping, Sequence, ValuesView
 from itertools import chain, islice
+from operator import index as integer
 from operator import itemgetter
 
 from pcidr._calls import NO_ROW, Row, Value
@@ -261,8 +262,9 @@ class Matches(Sequence["tuple[Network, V] | None"]):
             ...
 
     def __getitem__(self, index: Any) -> Any:
-        found = self.places[index]
-        return Matches(self._row_at, found) if isinstance(index, slice) else self._row_at(found)
+        if isinstance(index, slice):
+            return Matches(self._row_at, self.places[index])
+        return self._row_at(self.places[integer(index)])
 
     def __iter__(self) -> Iterator[tuple[Network, V] | None]:
         return map(self._row_at, self.places)

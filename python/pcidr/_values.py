@@ -79,6 +79,8 @@ def _text(given: object) -> str:
     if isinstance(given, tuple) and len(given) == 2:
         address, length = given
         return f"{Address(address)}/{length}"
+    if isinstance(given, int):
+        raise TypeError(f"a number alone has no family, which Address.from_int takes with it: {given!r}")
     raise TypeError(f"no string, value or object of ipaddress: {given!r}")
 
 
