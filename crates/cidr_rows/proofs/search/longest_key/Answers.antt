@@ -1,0 +1,49 @@
+use Rattle.std.proofs.Common.{arith, length, take}
+use Rattle.cidr_table.proofs.Beginnings.{begins_first}
+use Rattle.cidr_table.proofs.Halves.{begins_begins}
+use Rattle.cidr_rows.proofs.Shortening.{whole, not_whole, at_place, no_place, none_left, before_place, shorter}
+use Rattle.cidr_rows.proofs.search.longest_key.Goals as goal
+
+pub returns-in-Ok-clause-longest : goal.returns-in-Ok-clause-longest
+returns-in-Ok-clause-longest g c = λ s.
+    let h = c.loop-end.invariant in
+    at_place g.C.Ord.cmp g.C.BitString.bits g.met.C.NetworkBits.ordered (g.K.Keys.keys c.args.rows.now) s c.args.asked.now
+    c.loop-end.sought c.loop-end.end h.within h.begins (h.left s) c.in-Ok.place (c.in-Ok.ensures.place s)
+
+pub returns-in-Err-eq0-clause-longest : goal.returns-in-Err-eq0-clause-longest
+returns-in-Err-eq0-clause-longest g c = λ s.
+    let h = c.loop-end.invariant in
+    no_place g.C.Ord.cmp g.C.BitString.bits g.met.C.NetworkBits.ordered (g.K.Keys.keys c.args.rows.now) s c.args.asked.now
+    c.loop-end.sought c.loop-end.end h.within h.begins (h.left s) c.in-Err-eq0.field-0 (omega arith) (c.in-Err-eq0.ensures.place s)
+
+pub returns-then-shared-len-clause-longest : goal.returns-then-shared-len-clause-longest
+returns-then-shared-len-clause-longest g c = λ s.
+    let h = c.loop-end.invariant in
+    let bits = g.C.BitString.bits in
+    before_place g.C.Ord.cmp bits g.met.C.NetworkBits.ordered (g.K.Keys.keys c.args.rows.now) s c.args.asked.now
+    c.loop-end.sought c.loop-end.end h.within h.begins (h.left s) c.in-Err.place (omega arith) (c.in-Err.ensures.place s)
+    (rw (c.key-before.ensures c.args.asked.now) (whole (bits c.loop-end.sought) (bits c.key-before.result) c.shared_prefix_len-shared.result
+    (omega (arith, c.len.ensures.value)) c.shared_prefix_len-shared.ensures))
+
+pub loop-end-preserved : goal.loop-end-preserved
+loop-end-preserved g c =
+    let h = c.loop-end.invariant in
+    let bits = g.C.BitString.bits in
+    let sought = bits c.loop-end.sought in
+    let n = c.shared_prefix_len-shared.result in
+    let before = c.key-before.ensures c.args.asked.now in
+    record {
+      within = omega (arith, h.within, c.in-Err.ensures.within);
+      begins = rw c.clip.ensures.bits (begins_begins (bits c.args.asked.now) sought (take n sought) h.begins (begins_first n sought));
+      left = λ s j l b. rw c.clip.ensures.bits (
+          shorter g.C.Ord.cmp bits g.met.C.NetworkBits.ordered (g.K.Keys.keys c.args.rows.now) s c.args.asked.now
+          c.loop-end.sought c.loop-end.end h.within h.begins (h.left s) c.in-Err.place n (omega arith) (c.in-Err.ensures.place s)
+          (rw before (not_whole sought (bits c.key-before.result) n (λ e. omega (arith, c.len.ensures.value, e)) c.shared_prefix_len-shared.ensures))
+          (rw before c.shared_prefix_len-shared.ensures) j l b);
+    }
+
+pub returns-clause-longest : goal.returns-clause-longest
+returns-clause-longest g c = λ s.
+    let h = c.loop-end.invariant in
+    none_left g.C.Ord.cmp g.C.BitString.bits g.met.C.NetworkBits.ordered (g.K.Keys.keys c.args.rows.now) s c.args.asked.now
+    c.loop-end.sought c.loop-end.end h.within h.begins (h.left s) (omega arith)

@@ -1,0 +1,14 @@
+use Rattle.std.proofs.Common.{◌≡◌, ◌+◌, ◌<◌, ◌≤◌, true}
+use Rattle.std.specs.List.Sorted.{IsStrictlySortedBy}
+use Rattle.cidr_rows.proofs.Halving.{IsNarrow}
+use Rattle.cidr_rows.proofs.search.place_of.Given as goal
+
+abbrev pub invariant-loop-left : goal.invariant-loop-left
+invariant-loop-left g l = record {
+  within : l.low + l.left ≤ l.end;
+  told : l.found ≡ true → l.low + l.left < l.end;
+  narrow : IsStrictlySortedBy g.C.Ord.cmp (g.K.Keys.keys l.rows) → IsNarrow g.C.Ord.cmp (g.K.Keys.keys l.rows) l.key l.end l.low l.left l.found;
+}
+
+abbrev pub decreases-loop-left : goal.decreases-loop-left
+decreases-loop-left g l = l.left
