@@ -2,7 +2,6 @@
 from __future__ import annotations
 
 import ctypes
-from bisect import bisect_right
 from itertools import chain
 from operator import index as integer
 
@@ -292,8 +291,7 @@ class NetworkSet:
         return self._of(self._values, None)
 
     def __contains__(self, asked: AnyNetwork) -> bool:
-        """Whether the set has all addresses of a network. Its own networks ascend and none overlaps another: only the
-        last of those that do not come after the asked one may have it."""
+        """Whether the set has all addresses of a network: whether that is in one of its own."""
         ready = self._ready
         found = ready.find.has(asked) if ready and ready.find else NotImplemented
         if found is not NotImplemented:
@@ -302,8 +300,7 @@ class NetworkSet:
         if value.tag in ADDRESS_TAGS:
             return self._stored.has(value)
         held = self._values
-        behind = bisect_right(range(len(held)), 1, key=lambda place: calls.compare(held[place], value))
-        return behind > 0 and calls.contains(held[behind - 1], value) == 1
+        return calls.rows_longest(held, len(held), value, ctypes.c_size_t()) == Code.OK
 
     def isdisjoint(self, other: AnySet) -> bool:
         """Whether no address is in both."""

@@ -465,9 +465,9 @@ class Table(_Rows["V"], MutableMapping[Network, "V"]):
         return part.rows[-1 if row == NO_ROW else row]
 
     def _inner(self, value: Value) -> Iterable[tuple[Network, V]]:
-        made = self._now()
-        places = _places_inside(len(made.networks), made.networks.__getitem__, value)
-        return made.rows[places.start : places.stop]
+        made, begin, end = self._now(), ctypes.c_size_t(), ctypes.c_size_t()
+        check(calls.rows_covered(made.networks, len(made.networks), value, begin, end))
+        return made.rows[begin.value : end.value]
 
     def _outer(self, value: Value, most: int) -> list[tuple[Network, V]]:
         rows = self._rows

@@ -657,6 +657,21 @@ uint32_t pcidr_nearest_each(const pcidr_value *networks, size_t networks_len, si
 uint32_t pcidr_sort_order(const pcidr_value *networks, size_t networks_len, size_t *out, size_t out_len, size_t *count);
 uint32_t pcidr_table_order(const pcidr_value *networks, size_t networks_len, size_t *out, size_t out_len, size_t *count);
 
+/* Rows that change, in an array of networks that ascend, each once, as `pcidr_order` sorts them; their values stand in another
+ * array, at the same indexes. A call compares as often as a search by halving does, and allocates nothing. In networks of another
+ * order it finds some index that there is, or none; of a value that is no network the bits after its prefix do not count.
+ *
+ * Where a network stands: 0 and its index, or NONE, and `index` is the one before which it belongs: to insert it, the caller moves
+ * the rows from there on. Errors: NO_VALUE, where the asked value is no network, and then `index` is as it was. */
+uint32_t pcidr_rows_find(const pcidr_value *networks, size_t networks_len, const pcidr_value *asked, size_t *index);
+
+/* The longest network that a network or an address is in: 0 and its index. Errors: NONE, NO_VALUE; `index` is then as it was. */
+uint32_t pcidr_rows_longest(const pcidr_value *networks, size_t networks_len, const pcidr_value *asked, size_t *index);
+
+/* The networks that are in a network, which may be one of them: those from index `from` on and before index `to`. Errors:
+ * NO_VALUE, and both are then as they were. */
+uint32_t pcidr_rows_covered(const pcidr_value *networks, size_t networks_len, const pcidr_value *outer, size_t *from, size_t *to);
+
 /* The indexes of the networks of a list that contain a network or an address, or of those that lie in a network: the first
  * `count` of `out`, ascending. In a list that ascends as `pcidr_order` sorts it the networks that contain it come with the
  * shortest first, and those that lie in it are one behind the other. What is behind them in `out` stays. Errors: NO_MEMORY,

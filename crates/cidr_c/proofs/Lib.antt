@@ -31,3 +31,4 @@ pub mod Sought
 pub mod SubnetLists
 pub mod TableRows
 pub mod Written
+pub mod RowsFound

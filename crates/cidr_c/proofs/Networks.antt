@@ -1,8 +1,8 @@
 -- What making a network from an address and a prefix length tells of a value.
-use Rattle.std.proofs.Common.{◌≡◌, ◌≢◌, ℕ, ◌-◌, ◌≤◌, ◌<◌, Bool, List, ◌∷◌, take, drop, Ok, Err, arith, inl, inr, ap, subst}
+use Rattle.std.proofs.Common.{◌≡◌, ◌≢◌, ◌∙◌, sym, ℕ, ◌+◌, ◌-◌, ◌*◌, ◌/◌, ◌%◌, ◌^◌, ◌≤◌, ◌<◌, Bool, List, ◌∷◌, take, drop, Ok, Err, arith, inl, inr, ap, subst}
 use Rattle.std.proofs.lemmas.Bool.Decides.{nat_tests}
 use Rattle.cidr.proofs.EitherHolding.{begins_behind}
-use Rattle.cidr.specs.laws.BitLaws.{same_bits, bit_eq_Decides}
+use Rattle.cidr.specs.laws.BitLaws.{bits_high, same_bits, bit_eq_Decides}
 use Rattle.cidr.specs.model.Bits.{bits}
 use Rattle.cidr.specs.model.Network.{BeginsWith, width_of, zeros, network_from}
 use Rattle.cidr.specs.either.IpNetwork.{any_bits}
@@ -32,6 +32,12 @@ ipv4_in_value v h = grind (arith, nat_tests)
 
 pub ipv6_in_value : (v : CValue) → v.tag < 255 → 64 ≤ v.tag → network_in v ≡ V6 (take (v.tag - 64) (bits 128 (number_in v)))
 ipv6_in_value v any h = grind (arith, nat_tests)
+
+-- what stands above the 32 bits does not count
+pub low_part : (n : ℕ) → bits 32 (n % 2 ^ 32) ≡ bits 32 n
+low_part n =
+    let parts : n ≡ n / 2 ^ 32 * 2 ^ 32 + n % 2 ^ 32 = omega arith in
+    sym (ap (λ k. bits 32 k) parts ∙ bits_high 32 (n / 2 ^ 32) (n % 2 ^ 32))
 
 pub ipv4_network : (v : CValue) (a p : List Bool) → v.tag < 64 → IsLow v → a ≡ bits 32 v.low
     → IsFirst 32 v.tag a × (p ≡ take v.tag a) → IsNetworkValue v × (V4 p ≡ network_in v)

@@ -505,6 +505,33 @@ static void ordering(void) {
     WANT(indexes[7] == 9);
 }
 
+static void rows(void) {
+    pcidr_value networks[5], address = value("10.1.2.3"), inner = value("10.1.0.0/17"), other = value("11.0.0.1"), bad = none;
+    size_t index = 77, to = 78;
+    networks[0] = value("10.0.0.0/8"), networks[1] = value("10.0.0.0/9"), networks[2] = value("10.1.0.0/16");
+    networks[3] = value("10.1.2.0/24"), networks[4] = value("2001:db8::/32");
+    WANT(pcidr_rows_find(networks, 5, &networks[2], &index) == PCIDR_OK && index == 2);
+    WANT(pcidr_rows_find(networks, 5, &inner, &index) == PCIDR_NONE && index == 3);
+    WANT(pcidr_rows_find(networks, 4, &networks[4], &index) == PCIDR_NONE && index == 4);
+    WANT(pcidr_rows_find(NULL, 0, &inner, &index) == PCIDR_NONE && index == 0);
+    index = 77;
+    WANT(pcidr_rows_find(networks, 5, &bad, &index) == PCIDR_NO_VALUE && index == 77);
+    WANT(pcidr_rows_longest(networks, 5, &other, &index) == PCIDR_NONE && index == 77);
+    WANT(pcidr_rows_longest(networks, 5, &bad, &index) == PCIDR_NO_VALUE && index == 77);
+    WANT(pcidr_rows_longest(networks, 5, &address, &index) == PCIDR_OK && index == 3);
+    WANT(pcidr_rows_longest(networks, 5, &inner, &index) == PCIDR_OK && index == 2);
+    address = value("10.128.0.1");
+    WANT(pcidr_rows_longest(networks, 5, &address, &index) == PCIDR_OK && index == 0);
+    WANT(pcidr_rows_covered(networks, 5, &networks[1], &index, &to) == PCIDR_OK && index == 1 && to == 4);
+    WANT(pcidr_rows_covered(networks, 5, &inner, &index, &to) == PCIDR_OK && index == 3 && to == 4);
+    WANT(pcidr_rows_covered(networks, 5, &other, &index, &to) == PCIDR_OK && index == 4 && to == 4);
+    index = 77;
+    WANT(pcidr_rows_covered(networks, 5, &bad, &index, &to) == PCIDR_NO_VALUE && index == 77 && to == 4);
+    networks[0] = networks[4], networks[2].low |= 1, networks[3] = bad; /* in no order, and no networks */
+    WANT(pcidr_rows_longest(networks, 5, &inner, &index) != PCIDR_NO_VALUE && index <= 77);
+    WANT(pcidr_rows_covered(networks, 5, &inner, &index, &to) == PCIDR_OK && index <= to && to <= 5);
+}
+
 /* The smallest table was made by hand. */
 static void forwarding(void) {
     pcidr_row rows[5], other[5], room[5];
@@ -577,6 +604,7 @@ int main(void) {
     addresses_of_sets();
     covering();
     ordering();
+    rows();
     forwarding();
     access_lists();
     return failures != 0;

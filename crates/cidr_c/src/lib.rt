@@ -29,6 +29,7 @@ mod pools;
 mod printing;
 mod ranges;
 mod reading;
+mod rows;
 mod rules;
 mod sets;
 mod special;

@@ -468,6 +468,21 @@ pub unsafe extern "C" fn pcidr_read_short_network(text: *const u8, text_len: usi
 }
 
 #[no_mangle]
+pub unsafe extern "C" fn pcidr_rows_find(networks: *const CValue, networks_len: usize, asked: *const CValue, index: *mut usize) -> u32 {
+    crate::rows::pcidr_rows_find(slice(networks, networks_len), &*asked, &mut *index)
+}
+
+#[no_mangle]
+pub unsafe extern "C" fn pcidr_rows_longest(networks: *const CValue, networks_len: usize, asked: *const CValue, index: *mut usize) -> u32 {
+    crate::rows::pcidr_rows_longest(slice(networks, networks_len), &*asked, &mut *index)
+}
+
+#[no_mangle]
+pub unsafe extern "C" fn pcidr_rows_covered(networks: *const CValue, networks_len: usize, outer: *const CValue, from: *mut usize, to: *mut usize) -> u32 {
+    crate::rows::pcidr_rows_covered(slice(networks, networks_len), &*outer, &mut *from, &mut *to)
+}
+
+#[no_mangle]
 pub unsafe extern "C" fn pcidr_permits(rules: *const CRule, rules_len: usize, address: *const CValue) -> u32 {
     crate::rules::pcidr_permits(slice(rules, rules_len), &*address)
 }

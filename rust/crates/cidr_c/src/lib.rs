@@ -34,6 +34,7 @@ mod pools;
 mod printing;
 mod ranges;
 mod reading;
+mod rows;
 mod rules;
 mod sets;
 mod special;

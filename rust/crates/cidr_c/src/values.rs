@@ -1,7 +1,8 @@
 //! Values as they cross between C and the library.
 
 use cidr::{
-    AnyIpCidr, IpAddr, IpCidr, IpInet, Ipv4Addr, Ipv4Cidr, Ipv4Inet, Ipv6Addr, Ipv6Cidr, Ipv6Inet,
+    AnyIpCidr, BitString, IpAddr, IpCidr, IpInet, Ipv4Addr, Ipv4Cidr, Ipv4Inet, Ipv6Addr, Ipv6Cidr,
+    Ipv6Inet,
 };
 
 /// The tag of the first IPv6 prefix length.
@@ -100,6 +101,21 @@ pub fn network_of(value: &CValue) -> Option<AnyIpCidr> {
     }
     let network = ipv6_network(value)?;
     Some(AnyIpCidr::V6(network))
+}
+
+/// The network that a value is in, of which the bits after the prefix do not count.
+pub fn network_at(value: &CValue) -> AnyIpCidr {
+    if value.tag == ANY {
+        return AnyIpCidr::Any;
+    }
+    if value.tag < IPV6 {
+        let mut network = Ipv4Cidr::new_host(Ipv4Addr::from_bits((value.low % (1 << 32)) as u32));
+        network.clip(usize::from(value.tag));
+        return AnyIpCidr::V4(network);
+    }
+    let mut network = Ipv6Cidr::new_host(ipv6_in(value));
+    network.clip(usize::from(value.tag - IPV6));
+    AnyIpCidr::V6(network)
 }
 
 /// The IPv4 host that a value with the tag of an IPv4 prefix length is, if it is one.

@@ -1,0 +1,80 @@
+//! Rows that change, in an array of the caller: networks that ascend, each once, as `pcidr_compare` has them. A call costs as
+//! many comparisons as a search by halving, and allocates nothing. Of networks in another order it finds some index that there
+//! is, or none; of a value that is no network the bits after its prefix do not count.
+ghost use Rattle.std.specs.Prelude.{map};
+ghost use Rattle.cidr_c.specs.calls.Rows.{AreCovered, IsLongestFound, IsPlaceFound};
+ghost use Rattle.cidr_c.specs.model.Values.{network_in};
+
+use crate::codes::{NO_VALUE, NONE, OK};
+use crate::finding::put_plain;
+use crate::values::{CValue, network_at, network_of};
+use cidr::AnyIpCidr;
+use cidr_rows::{Keys, covered, find, longest};
+
+/// The networks of an array.
+#[derive(Clone, Copy)]
+struct Networks<'a> {
+    values: &'a [CValue],
+}
+
+impl<'a> Keys<AnyIpCidr> for Networks<'a> {
+    ghost keys = { λ networks. map network_in networks.values.now };
+
+    fn len(&self) -> usize {
+        self.values.len()
+    }
+
+    fn key(&self, i: usize) -> AnyIpCidr {
+        network_at(&self.values[i])
+    }
+}
+
+/// Where a network stands: 0 and its index; or the number of none, and the index before which it would stand.
+#[unsafe(no_mangle)]
+pub extern "C" fn pcidr_rows_find(networks: &[CValue], asked: &CValue, index: &mut usize) -> u32
+    ensures { IsPlaceFound networks.now asked.now index.old index.new result }
+{
+    let Some(asked) = network_of(asked) else {
+        return NO_VALUE;
+    };
+    match find(&Networks { values: networks }, &asked) {
+        Ok(place) => {
+            *index = place;
+            OK
+        }
+        Err(place) => {
+            *index = place;
+            NONE
+        }
+    }
+}
+
+/// The longest network that a network, or an address, is in: 0 and its index, or the number of none.
+#[unsafe(no_mangle)]
+pub extern "C" fn pcidr_rows_longest(networks: &[CValue], asked: &CValue, index: &mut usize) -> u32
+    ensures { IsLongestFound networks.now asked.now index.old index.new result }
+{
+    match network_of(asked) {
+        Some(asked) => put_plain(longest(&Networks { values: networks }, &asked), index),
+        None => NO_VALUE,
+    }
+}
+
+/// The networks that are in a network, which may be one of them: those from the index `from` on and before the index `to`.
+#[unsafe(no_mangle)]
+pub extern "C" fn pcidr_rows_covered(
+    networks: &[CValue],
+    outer: &CValue,
+    from: &mut usize,
+    to: &mut usize,
+) -> u32
+    ensures { AreCovered networks.now outer.now (from.old, to.old) (from.new, to.new) result }
+{
+    let Some(outer) = network_of(outer) else {
+        return NO_VALUE;
+    };
+    let (first, end) = covered(&Networks { values: networks }, &outer);
+    *from = first;
+    *to = end;
+    OK
+}
