@@ -21,7 +21,8 @@ HEADS = {
     "cidr_sets": ["use cidr::*;", "use cidr_table::Probe;", "use cidr_sets::{access::*, alloc::*, *};"],
     "cidr_forwarding": ["use cidr::*;", "use cidr_table::*;", "use cidr_support::alloc::Global;", "use cidr_forwarding::*;"],
     "cidr_arrays": ["use cidr_arrays::*;", "use core::net::Ipv4Addr;"],
-    "cidr_lookup": ["use cidr_arrays::Key;", "use cidr_lookup::*;", "use cidr_support::alloc::Global;", "use core::net::Ipv4Addr;"],
+    "cidr_lookup": ["use cidr::Ipv4Cidr;", "use cidr_arrays::Key;", "use cidr_lookup::*;", "use cidr_support::alloc::Global;",
+                    "use cidr_table::LpmTable;", "use core::net::Ipv4Addr;"],
     "cidr_files": ["use cidr_arrays::{Key, Word};", "use cidr_files::*;", "use cidr_support::{alloc::Global, vec::Vec};",
                    "use core::net::{Ipv4Addr, Ipv6Addr};",
                    "fn name<'a>(table: &Table<'a>, address: Ipv4Addr) -> Option<&'a str> {",
@@ -32,6 +33,9 @@ FILE = """let keys = [Key { address: [0, 0, 0, 10], len: 8 }, Key { address: [0,
 let ipv4 = Rows { keys: &keys, offsets: &[0, 5, 10], values: b"outerinner" };
 let file = written(Global, &ipv4, &Rows { keys: &[], offsets: &[0], values: b"" })?;"""
 TABLE_OF_A_FILE = f"{FILE}\nlet table = open(file.as_slice())?;"
+# Routes, and the same made ready.
+ROUTES = ('let rows = [("0.0.0.0/0".parse()?, 1), ("10.0.0.0/8".parse()?, 2), ("10.1.0.0/16".parse()?, 3)];\n'
+          "let routes: LpmTable<Ipv4Cidr, u32> = rows.into_iter().collect();")
 # What an example goes on with, where it does not make it: the values of the programs of the repository.
 GIVEN = {
     "cidr_table": {
@@ -39,6 +43,11 @@ GIVEN = {
                   "let mut routes: Routes = rows.into_iter().collect();",
     },
     "cidr_files": {"file": FILE, "table": TABLE_OF_A_FILE},
+    "cidr_lookup": {
+        "routes": ROUTES,
+        "ready": f"{ROUTES}\nlet ready = ReadyTable::new(Global, routes).map_err(|refused| refused.1)?;",
+        "blocked": 'let blocked: [Ipv4Cidr; 2] = ["10.0.0.0/8".parse()?, "192.0.2.0/24".parse()?];',
+    },
     "cidr_forwarding": {
         "routes": 'let rows = [("0.0.0.0/0".parse()?, 1), ("10.0.0.0/8".parse()?, 2), ("10.1.0.0/16".parse()?, 2),\n'
                   '            ("192.0.2.0/25".parse()?, 3), ("192.0.2.128/25".parse()?, 3)];\n'

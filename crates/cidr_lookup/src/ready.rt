@@ -117,7 +117,8 @@ impl<C: Keyed, V> ReadyTable<C, V> {
     /// The table, for all calls that only read.
     ///
     /// ```
-    /// ready.table().len() // 3
+    /// let table = ready.table();
+    /// table.len() // 3
     /// ```
     pub fn table(&self) -> &LpmTable<C, V>
         ensures { result.now ≡ self.now }
@@ -130,7 +131,7 @@ impl<C: Keyed, V> ReadyTable<C, V> {
     ///
     /// ```
     /// let words = ready.words();
-    /// words.first.len() + words.words.len() // 4101
+    /// words.first.len() + words.words.len() // 75
     /// ```
     pub fn words(&self) -> &LookupTable
         ensures { IsLookupTable C.Number.width C.Number.padding result.now.steps
@@ -142,8 +143,8 @@ impl<C: Keyed, V> ReadyTable<C, V> {
     /// The table, for changing its rows. The memory beside the rows is freed.
     ///
     /// ```
-    /// let mut routes = ready.into_table();
-    /// routes.set("10.2.0.0/16".parse()?, 4)?;
+    /// let mut changing = ready.into_table();
+    /// changing.set("10.2.0.0/16".parse()?, 4)?;
     /// ```
     pub fn into_table(self) -> LpmTable<C, V>
         ensures { result ≡ self }

@@ -25,9 +25,9 @@ use cidr_support::alloc::{AllocError, Global};
 /// # }
 /// let rows = Rows { keys: &[Key { address: [0, 0, 0, 10], len: 8 }], offsets: &[0, 5], values: b"outer" };
 /// let none = Rows { keys: &[], offsets: &[0], values: b"" };
-/// let (starts, answers) = ([[0; 4], [0, 0, 0, 10], [0, 0, 0, 11]], [0, 1, 0]);
-/// let ipv4 = Contents { rows: &rows, starts: &starts, answers: &answers, level: &[], shift: 0 };
-/// let ipv6 = Contents { rows: &none, starts: &[[[0; 8]; 2]], answers: &[0], level: &[], shift: 0 };
+/// let (of_ipv4, of_ipv6) = (cidr_lookup::build(Global, rows.keys)?, cidr_lookup::build(Global, none.keys)?);
+/// let ipv4 = Contents { rows: &rows, first: &of_ipv4.first, words: &of_ipv4.words, steps: of_ipv4.steps };
+/// let ipv6 = Contents { rows: &none, first: &of_ipv6.first, words: &of_ipv6.words, steps: of_ipv6.steps };
 /// let file = file_of(Global, &ipv4, &ipv6)?;
 /// assert_eq!(format!("{:?}", name(&checked(Global, file.as_slice())?, Ipv4Addr::new(10, 1, 2, 3))), "Some(\"outer\")");
 /// # Ok::<(), Box<dyn std::error::Error>>(())

@@ -8,9 +8,11 @@ pub trait Address: Sized + Word {
     /// The number.
     ///
     /// ```
+    /// # use cidr::Ipv4Cidr;
     /// # use cidr_arrays::Key;
     /// # use cidr_lookup::*;
     /// # use cidr_support::alloc::Global;
+    /// # use cidr_table::LpmTable;
     /// # use core::net::Ipv4Addr;
     /// assert_eq!(0x0a000000u32.padded(), 2684354560);
     /// # Ok::<(), Box<dyn std::error::Error>>(())
@@ -20,9 +22,11 @@ pub trait Address: Sized + Word {
     /// How many bits it has.
     ///
     /// ```
+    /// # use cidr::Ipv4Cidr;
     /// # use cidr_arrays::Key;
     /// # use cidr_lookup::*;
     /// # use cidr_support::alloc::Global;
+    /// # use cidr_table::LpmTable;
     /// # use core::net::Ipv4Addr;
     /// assert_eq!(u32::padded_width(), 36);
     /// # Ok::<(), Box<dyn std::error::Error>>(())
@@ -32,9 +36,11 @@ pub trait Address: Sized + Word {
     /// How many steps of six bits the table of so many networks has: those that are best, of at most 2^20 entries.
     ///
     /// ```
+    /// # use cidr::Ipv4Cidr;
     /// # use cidr_arrays::Key;
     /// # use cidr_lookup::*;
     /// # use cidr_support::alloc::Global;
+    /// # use cidr_table::LpmTable;
     /// # use core::net::Ipv4Addr;
     /// assert_eq!(u32::steps_for(900_000), 3);
     /// # Ok::<(), Box<dyn std::error::Error>>(())
@@ -44,9 +50,11 @@ pub trait Address: Sized + Word {
     /// The number of the bits before the last `shift`, of which there are at most 64.
     ///
     /// ```
+    /// # use cidr::Ipv4Cidr;
     /// # use cidr_arrays::Key;
     /// # use cidr_lookup::*;
     /// # use cidr_support::alloc::Global;
+    /// # use cidr_table::LpmTable;
     /// # use core::net::Ipv4Addr;
     /// assert_eq!(0x0a010203u32.block(18), 10244);
     /// # Ok::<(), Box<dyn std::error::Error>>(())
@@ -56,9 +64,11 @@ pub trait Address: Sized + Word {
     /// The number of the six bits before the last `shift`.
     ///
     /// ```
+    /// # use cidr::Ipv4Cidr;
     /// # use cidr_arrays::Key;
     /// # use cidr_lookup::*;
     /// # use cidr_support::alloc::Global;
+    /// # use cidr_table::LpmTable;
     /// # use core::net::Ipv4Addr;
     /// assert_eq!(0x0a010203u32.digit(12), 2);
     /// # Ok::<(), Box<dyn std::error::Error>>(())

@@ -47,9 +47,11 @@ impl Error for Fault {}
 /// in its order, but that an entry and a word are told as they are built.
 ///
 /// ```
+/// # use cidr::Ipv4Cidr;
 /// # use cidr_arrays::Key;
 /// # use cidr_lookup::*;
 /// # use cidr_support::alloc::Global;
+/// # use cidr_table::LpmTable;
 /// # use core::net::Ipv4Addr;
 /// # fn find_in(
 /// #     alloc: Global, keys: &[Key<u32>], first: &[u32], words: &[u32], steps: u32, address: Ipv4Addr,

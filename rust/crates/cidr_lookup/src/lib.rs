@@ -4,9 +4,11 @@
 //! says whether words from elsewhere are the table of keys.
 //!
 //! ```
+//! # use cidr::Ipv4Cidr;
 //! # use cidr_arrays::Key;
 //! # use cidr_lookup::*;
 //! # use cidr_support::alloc::Global;
+//! # use cidr_table::LpmTable;
 //! # use core::net::Ipv4Addr;
 //! # fn find_in(alloc: Global, keys: &[Key<u32>], address: Ipv4Addr) -> Result<Option<usize>, TableError> {
 //! let table = build(alloc, keys)?;
@@ -32,6 +34,7 @@
 //! trait which a program implements itself keeps its promises. Then the answer is some answer.
 //!
 //! The licence is MIT.
+//! The names and the behaviour come from the crate `cidr` by Stefan Bühler, whose licence is `LICENSE-cidr`.
 #![no_std]
 #![forbid(unsafe_code)]
 #![allow(unused_imports, unused_variables, dead_code, unstable_name_collisions)]
@@ -40,13 +43,19 @@ mod address;
 mod building;
 mod bytes;
 mod checking;
+mod keyed;
 mod node;
+mod ready;
+mod ready_set;
 mod search;
 mod table;
 mod words;
 
 pub use address::Address;
 pub use checking::{Fault, check};
+pub use keyed::Keyed;
+pub use ready::ReadyTable;
+pub use ready_set::ReadySet;
 pub use search::find;
 pub use table::{LookupTable, TableError, build};
 pub use words::Words;

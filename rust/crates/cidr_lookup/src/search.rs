@@ -18,9 +18,11 @@ const MOST_STEPS: u32 = 21;
 /// It takes one step for each six bits that are needed to tell the match: each reads two lines of memory at most.
 ///
 /// ```
+/// # use cidr::Ipv4Cidr;
 /// # use cidr_arrays::Key;
 /// # use cidr_lookup::*;
 /// # use cidr_support::alloc::Global;
+/// # use cidr_table::LpmTable;
 /// # use core::net::Ipv4Addr;
 /// # fn find_in(first: &[u32], words: &[u32], steps: u32, address: Ipv4Addr) -> Result<Option<usize>, Fault> {
 /// Ok(find(&first, &words, steps, address.to_bits()))

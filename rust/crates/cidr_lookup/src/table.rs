@@ -61,9 +61,11 @@ pub(crate) struct Ranges<A> {
 /// It takes O(n) for n keys, and while it runs 16 bytes a key of IPv4, or 40 of IPv6, besides the table.
 ///
 /// ```
+/// # use cidr::Ipv4Cidr;
 /// # use cidr_arrays::Key;
 /// # use cidr_lookup::*;
 /// # use cidr_support::alloc::Global;
+/// # use cidr_table::LpmTable;
 /// # use core::net::Ipv4Addr;
 /// # fn find_in(alloc: Global, keys: &[Key<u32>], address: Ipv4Addr) -> Result<Option<usize>, TableError> {
 /// let table = build(alloc, keys)?;

@@ -6,9 +6,11 @@ pub trait Words: Sized {
     /// How many there are.
     ///
     /// ```
+    /// # use cidr::Ipv4Cidr;
     /// # use cidr_arrays::Key;
     /// # use cidr_lookup::*;
     /// # use cidr_support::alloc::Global;
+    /// # use cidr_table::LpmTable;
     /// # use core::net::Ipv4Addr;
     /// assert_eq!(Words::len(&[5u32, 6].as_slice()), 2);
     /// # Ok::<(), Box<dyn std::error::Error>>(())
@@ -18,9 +20,11 @@ pub trait Words: Sized {
     /// The word at an index.
     ///
     /// ```
+    /// # use cidr::Ipv4Cidr;
     /// # use cidr_arrays::Key;
     /// # use cidr_lookup::*;
     /// # use cidr_support::alloc::Global;
+    /// # use cidr_table::LpmTable;
     /// # use core::net::Ipv4Addr;
     /// assert_eq!(Words::word(&[5u32, 6].as_slice(), 1), 6);
     /// # Ok::<(), Box<dyn std::error::Error>>(())

@@ -3,7 +3,7 @@
 //! elsewhere indexes that there are.
 #![no_std]
 #![forbid(unsafe_code)]
-#![allow(unused_imports, unused_variables, unstable_name_collisions, dead_code)]
+#![allow(unused_imports, unused_variables, dead_code, unstable_name_collisions)]
 
 mod keys;
 mod search;
