@@ -234,17 +234,17 @@ module _ {C V : Type 0} (w : ℕ) (f : C → List Bool) where
       (found w f (first_of w k) (keys_of rows) r (subst (AreAscendingNetworks w) (by_keys rows) table.keys) h)
 
 -- ---- why there is no table of networks that ascend
-pub refused : (w count : ℕ) (networks : List (ℕ × ℕ)) (error : TableError) → length networks ≡ count → count < 2 ^ 31 → AreAscendingNetworks w networks
-    → IsTableRefused w networks error → IsCountRefused count error
-refused w count networks TooMany same few are many = absurd (omega (arith, same, few, many))
-refused w count networks (Refused place) same few are (n, (within, before, wrong)) = wrong (record {
+pub refused : (w padding steps count : ℕ) (networks : List (ℕ × ℕ)) (error : TableError) → length networks ≡ count → count < 2 ^ 31 → AreAscendingNetworks w networks
+    → IsTableRefused w padding steps networks error → IsCountRefused count error
+refused w padding steps count networks TooMany same few are many = absurd (omega (arith, same, few, many))
+refused w padding steps count networks (Refused place) same few are (n, (within, before, wrong)) = wrong (record {
   each = λ i l. are.each i (omega (arith, l, within));
   ascending = λ i k less l. are.ascending i k less (omega (arith, l, within));
 })
-refused w count networks TooLarge same few are h = few
-refused w count networks NoMemory same few are h = few
+refused w padding steps count networks TooLarge same few are h = few
+refused w padding steps count networks NoMemory same few are h = few
 
-pub refused_result : {T : Type 0} (w count : ℕ) (networks : List (ℕ × ℕ)) (result : Result T TableError) → length networks ≡ count → count < 2 ^ 31
-    → AreAscendingNetworks w networks → IfErr result (IsTableRefused w networks) → IfErr result (IsCountRefused count)
-refused_result w count networks (Ok table) same few are h = tt
-refused_result w count networks (Err error) same few are h = refused w count networks error same few are h
+pub refused_result : {T : Type 0} (w padding steps count : ℕ) (networks : List (ℕ × ℕ)) (result : Result T TableError) → length networks ≡ count → count < 2 ^ 31
+    → AreAscendingNetworks w networks → IfErr result (IsTableRefused w padding steps networks) → IfErr result (IsCountRefused count)
+refused_result w padding steps count networks (Ok table) same few are h = tt
+refused_result w padding steps count networks (Err error) same few are h = refused w padding steps count networks error same few are h

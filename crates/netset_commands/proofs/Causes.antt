@@ -11,7 +11,7 @@ use Rattle.cidr_io.specs.declared.lines.ReadError.TheVariants.{Failed}
 use Rattle.cidr_io.specs.declared.lines.ReadError.TheVariants as no_line
 use Rattle.cidr_io.specs.declared.sink.OutputFailed.{OutputFailed}
 use Rattle.cidr_io.specs.Writing.{State}
-use Rattle.netset_commands.specs.Causes.{Cause, AreTooMany, LookCause, FileMayFail, ReadCause, Refusals, TextFails}
+use Rattle.netset_commands.specs.Causes.{Cause, AreTooMany, LookCause, FileFails, IsToldReason, ReadCause, Refusals, TextFails}
 use Rattle.netset_commands.specs.Commands.{Compile, Single as ASingle}
 use Rattle.netset_commands.specs.Gathering.{IsLost, Stops, ended_by, told_behind}
 use Rattle.cidr_lists.specs.Lists.{Text, is_line_feed, kept_of, lines_of}
@@ -32,6 +32,8 @@ use Rattle.netset_commands.specs.declared.errors.ReadError.TheVariants.{Line, In
 use Rattle.netset_commands.specs.declared.commands.look.LookError.{LookError}
 use Rattle.netset_commands.specs.declared.commands.look.LookError.TheVariants.{Reading, Output}
 use Rattle.netset_commands.specs.declared.commands.matching.Written.{Written}
+use Rattle.netset_commands.specs.declared.errors.Reason.{Reason}
+use Rattle.netset_commands.specs.declared.errors.Reason.TheVariants.{Unknown}
 
 -- ---- a reader
 pub reading_stopped : (e : NoLine) → IsStopped (read_error e)
@@ -95,54 +97,57 @@ fails_there : (contents : Option Text) (left : Option (List ℕ)) → ((text : T
 fails_there None left opens h = tt
 fails_there (Some text) left opens h = subst TextFails (opens text refl) h
 
-pub file_fails : (contents : List ℕ → Option Text) (name : List ℕ) (left : Option (List ℕ)) → ((text : Text) → contents name ≡ Some text → left ≡ Some text.bytes)
-    → TextFails left → FileMayFail contents name
-file_fails contents name left opens h = fails_there (contents name) left opens h
+pub file_fails : (contents : List ℕ → Option Text) (reasons : List ℕ → Option Reason) (name : List ℕ) (why : Reason) (left : Option (List ℕ))
+    → reasons name ≡ None → ((text : Text) → contents name ≡ Some text → left ≡ Some text.bytes) → TextFails left → FileFails contents reasons name why
+file_fails contents reasons name why left opened opens h =
+    (fails_there (contents name) left opens h, subst (λ (k : Option Reason). IsToldReason k why) (sym opened) tt)
 
-pub whole_fails : (contents : List ℕ → Option Text) (name : List ℕ) (left : Option (List ℕ)) → ((text : Text) → contents name ≡ Some text → left ≡ Some text.bytes)
-    → left ≡ None → FileMayFail contents name
-whole_fails contents name left opens h = file_fails contents name left opens (subst TextFails (sym h) tt)
+pub whole_fails : (contents : List ℕ → Option Text) (reasons : List ℕ → Option Reason) (name : List ℕ) (why : Reason) (left : Option (List ℕ))
+    → reasons name ≡ None → ((text : Text) → contents name ≡ Some text → left ≡ Some text.bytes) → left ≡ None → FileFails contents reasons name why
+whole_fails contents reasons name why left opened opens h = file_fails contents reasons name why left opened opens (subst TextFails (sym h) tt)
 
 pub whole_read : (left : Option (List ℕ)) (text bytes : List ℕ) → left ≡ Some text → IfSome left (λ text. bytes ≡ text) → bytes ≡ text
 whole_read left text bytes is h = subst (λ (k : Option (List ℕ)). IfSome k (λ text. bytes ≡ text)) is h
 
-pub file_cause : (contents : List ℕ → Option Text) (file : Bor (List ℕ)) (left : Option (List ℕ)) (refused : Bool) (e : ReadError)
-    → ((text : Text) → contents file.now ≡ Some text → left ≡ Some text.bytes) → ReadCause (TextFails left) refused e → Cause (FileMayFail contents) refused (unread file e)
-file_cause contents file left refused (Line number e) opens h = tt
-file_cause contents file left refused Input opens h = file_fails contents file.now left opens h
-file_cause contents file left refused NoMemory opens h = h
+pub file_cause : (contents : List ℕ → Option Text) (reasons : List ℕ → Option Reason) (file : Bor (List ℕ)) (left : Option (List ℕ)) (refused : Bool) (e : ReadError)
+    → reasons file.now ≡ None → ((text : Text) → contents file.now ≡ Some text → left ≡ Some text.bytes) → ReadCause (TextFails left) refused e
+    → Cause (FileFails contents reasons) refused (unread file e)
+file_cause contents reasons file left refused (Line number e) opened opens h = tt
+file_cause contents reasons file left refused Input opened opens h = file_fails contents reasons file.now Unknown left opened opens h
+file_cause contents reasons file left refused NoMemory opened opens h = h
 
-pub not_opened : (contents : List ℕ → Option Text) (name : List ℕ) → contents name ≡ None → FileMayFail contents name
-not_opened contents name is = subst (λ (k : Option Text). IfSome k (λ text. AreTooMany text.bytes)) (sym is) tt
+pub not_opened : (contents : List ℕ → Option Text) (reasons : List ℕ → Option Reason) (name : List ℕ) (why : Reason) → contents name ≡ None
+    → IsToldReason (reasons name) why → FileFails contents reasons name why
+not_opened contents reasons name why is told = (subst (λ (k : Option Text). IfSome k (λ text. AreTooMany text.bytes)) (sym is) tt, told)
 
-pub cause_weaker : (F G : List ℕ → Type 0) (refused : Bool) (e : CommandError) → ((name : List ℕ) → F name → G name) → Cause F refused e → Cause G refused e
+pub cause_weaker : (F G : List ℕ → Reason → Type 0) (refused : Bool) (e : CommandError) → ((name : List ℕ) (why : Reason) → F name why → G name why) → Cause F refused e → Cause G refused e
 cause_weaker F G refused (error.Argument text e) f h = tt
 cause_weaker F G refused (error.Line name number e) f h = tt
-cause_weaker F G refused (error.Input name why) f h = f name.now h
+cause_weaker F G refused (error.Input name why) f h = f name.now why h
 cause_weaker F G refused error.NoMemory f h = h
 cause_weaker F G refused error.Output f h = tt
 cause_weaker F G refused (error.File name why) f h = tt
 
-pub causes_weaker : (F G : List ℕ → Type 0) (refused : Bool) (r : Result Verdict CommandError) → ((name : List ℕ) → F name → G name) → IfErr r (Cause F refused)
+pub causes_weaker : (F G : List ℕ → Reason → Type 0) (refused : Bool) (r : Result Verdict CommandError) → ((name : List ℕ) (why : Reason) → F name why → G name why) → IfErr r (Cause F refused)
     → IfErr r (Cause G refused)
 causes_weaker F G refused (Ok verdict) f h = tt
 causes_weaker F G refused (Err e) f h = cause_weaker F G refused e f h
 
 -- a file that is read line by line
-pub file_causes : (contents : List ℕ → Option Text) (file : List ℕ) (left : Option (List ℕ)) (refused : Bool) (r : Result Verdict CommandError)
-    → ((text : Text) → contents file ≡ Some text → left ≡ Some text.bytes) → IfErr r (Cause (λ name. (name ≡ file) × TextFails left) refused)
-    → IfErr r (Cause (FileMayFail contents) refused)
-file_causes contents file left refused r opens h =
-    causes_weaker (λ name. (name ≡ file) × TextFails left) (FileMayFail contents) refused r
-    (λ name k. subst (FileMayFail contents) (sym k.0) (file_fails contents file left opens k.1)) h
+pub file_causes : (contents : List ℕ → Option Text) (reasons : List ℕ → Option Reason) (file : List ℕ) (left : Option (List ℕ)) (refused : Bool) (r : Result Verdict CommandError)
+    → reasons file ≡ None → ((text : Text) → contents file ≡ Some text → left ≡ Some text.bytes) → IfErr r (Cause (λ name _. (name ≡ file) × TextFails left) refused)
+    → IfErr r (Cause (FileFails contents reasons) refused)
+file_causes contents reasons file left refused r opened opens h =
+    causes_weaker (λ name _. (name ≡ file) × TextFails left) (FileFails contents reasons) refused r
+    (λ name why k. subst (λ (n : List ℕ). FileFails contents reasons n why) (sym k.0) (file_fails contents reasons file why left opened opens k.1)) h
 
 -- ---- an answer
-pub output_cause : (F : List ℕ → Type 0) (refused : Bool) (verdict : Verdict) (w : Result (Unit {0}) OutputFailed) (r : Result Verdict CommandError)
+pub output_cause : (F : List ℕ → Reason → Type 0) (refused : Bool) (verdict : Verdict) (w : Result (Unit {0}) OutputFailed) (r : Result Verdict CommandError)
     → r ≡ by_output verdict w → IfErr r (Cause F refused)
 output_cause F refused verdict (Ok a) r is = subst (λ (k : Result Verdict CommandError). IfErr k (Cause F refused)) (sym is) tt
 output_cause F refused verdict (Err f) r is = subst (λ (k : Result Verdict CommandError). IfErr k (Cause F refused)) (sym is) tt
 
-pub argument_cause : (F : List ℕ → Type 0) (refused : Bool) (P : List ℕ → ArgumentError → Type 0) (e : CommandError) → IsBadArgument P e → Cause F refused e
+pub argument_cause : (F : List ℕ → Reason → Type 0) (refused : Bool) (P : List ℕ → ArgumentError → Type 0) (e : CommandError) → IsBadArgument P e → Cause F refused e
 argument_cause F refused P (error.Argument text e) h = tt
 argument_cause F refused P (error.Line name number e) h = tt
 argument_cause F refused P (error.Input name why) h = absurd h
@@ -150,14 +155,14 @@ argument_cause F refused P error.NoMemory h = absurd h
 argument_cause F refused P error.Output h = tt
 argument_cause F refused P (error.File name why) h = tt
 
-pub single_cause : (F : List ℕ → Type 0) (refused : Bool) (contents : List ℕ → Option Text) (request : SingleRequest) (s t : State) (r : Result Verdict CommandError)
+pub single_cause : (F : List ℕ → Reason → Type 0) (refused : Bool) (contents : List ℕ → Option Text) (request : SingleRequest) (s t : State) (r : Result Verdict CommandError)
     → AnswersRequest contents (ASingle request) s t r → IfErr r (Cause F refused)
 single_cause F refused contents request s t (Ok verdict) h = tt
 single_cause F refused contents request s t (Err e) (inl (same, bad)) = argument_cause F refused _ e bad
 single_cause F refused contents request s t (Err e) (inr (answer, verdict, w, is, written, by)) = output_cause F refused verdict w (Err e) by
 
 -- a table that is to be written over by its own file
-pub same_cause : (F : List ℕ → Type 0) (refused : Bool) (table name : List ℕ) (e : CommandError) → IsSameFile table name e → Cause F refused e
+pub same_cause : (F : List ℕ → Reason → Type 0) (refused : Bool) (table name : List ℕ) (e : CommandError) → IsSameFile table name e → Cause F refused e
 same_cause F refused table name (error.Argument text why) h = tt
 same_cause F refused table name (error.Line file number why) h = tt
 same_cause F refused table name (error.Input file why) h = absurd h.1
@@ -167,7 +172,7 @@ same_cause F refused table name (error.File file why) h = tt
 
 -- a table that is not compiled, before a file is written
 pub uncompiled : (contents : List ℕ → Option Text) (refused : Refusals) (form : RowForm) (table name : List ℕ) (e : CommandError)
-    → IsSameFile table name e ⊎ IsUnreadTable form (contents table) table e → Cause (FileMayFail contents) refused.memory e
+    → IsSameFile table name e ⊎ IsUnreadTable form (contents table) table e → Cause (FileFails contents refused.files) refused.memory e
     → IsCaused contents refused (Compile form table name) (Err e)
 uncompiled contents refused form table name (error.Argument text why) is h = h
 uncompiled contents refused form table name (error.Line file number why) is h = h
@@ -186,12 +191,12 @@ uncompiled contents refused form table name (error.File file Long) is h = h
 uncompiled contents refused form table name (error.File file Changed) is h = h
 
 -- ---- lines that are picked
-ended_cause : (F : List ℕ → Type 0) (refused : Bool) (e : CommandError) (w : Result (Unit {0}) OutputFailed) (r : Result Verdict CommandError)
+ended_cause : (F : List ℕ → Reason → Type 0) (refused : Bool) (e : CommandError) (w : Result (Unit {0}) OutputFailed) (r : Result Verdict CommandError)
     → r ≡ Err (ended_by e w) → Cause F refused e → IfErr r (Cause F refused)
 ended_cause F refused e (Ok a) r is h = subst (λ (k : Result Verdict CommandError). IfErr k (Cause F refused)) (sym is) h
 ended_cause F refused e (Err f) r is h = subst (λ (k : Result Verdict CommandError). IfErr k (Cause F refused)) (sym is) tt
 
-pub stop_cause : (F : List ℕ → Type 0) (refused : Bool) (e : CommandError) (s t : State) (block : List ℕ) (r : Result Verdict CommandError) → Stops e s t block r
+pub stop_cause : (F : List ℕ → Reason → Type 0) (refused : Bool) (e : CommandError) (s t : State) (block : List ℕ) (r : Result Verdict CommandError) → Stops e s t block r
     → Cause F refused e → IfErr r (Cause F refused)
 stop_cause F refused error.Output s t block r (same, is) h = subst (λ (k : Result Verdict CommandError). IfErr k (Cause F refused)) (sym is) tt
 stop_cause F refused (error.Argument text e) s t block r (w, wrote, is) h = ended_cause F refused (error.Argument text e) w r is h
@@ -200,13 +205,13 @@ stop_cause F refused (error.Input name why) s t block r (w, wrote, is) h = ended
 stop_cause F refused error.NoMemory s t block r (w, wrote, is) h = ended_cause F refused error.NoMemory w r is h
 stop_cause F refused (error.File name why) s t block r (w, wrote, is) h = ended_cause F refused (error.File name why) w r is h
 
-pub behind_cause : (F : List ℕ → Type 0) (refused : Bool) (file : Bor (List ℕ)) (long : Option ℕ) (r : Result Verdict CommandError) → IfErr r (Cause F refused)
+pub behind_cause : (F : List ℕ → Reason → Type 0) (refused : Bool) (file : Bor (List ℕ)) (long : Option ℕ) (r : Result Verdict CommandError) → IfErr r (Cause F refused)
     → IfErr (told_behind file long r) (Cause F refused)
 behind_cause F refused file None r h = h
 behind_cause F refused file (Some n) (Ok verdict) h = tt
 behind_cause F refused file (Some n) (Err e) h = h
 
-pub take_cause : (F : List ℕ → Type 0) (refused headed : Bool) (P : List ℕ → Result Bool LineError → Type 0) (label : List ℕ) (what : Written) (file : List ℕ) (number : ℕ) (part : List ℕ)
+pub take_cause : (F : List ℕ → Reason → Type 0) (refused headed : Bool) (P : List ℕ → Result Bool LineError → Type 0) (label : List ℕ) (what : Written) (file : List ℕ) (number : ℕ) (part : List ℕ)
     (old new : State) (block rest : List ℕ) (e : CommandError) → IsLost headed P label what file number part old new block rest e → Cause F refused e
 take_cause F refused headed P label what file number part old new block rest (error.Argument text e) h = tt
 take_cause F refused headed P label what file number part old new block rest (error.Line name n e) h = tt

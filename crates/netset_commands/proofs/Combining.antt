@@ -29,6 +29,7 @@ use Rattle.cidr_lists.specs.declared.sets.Step.TheVariants.{Union, Difference, I
 use Rattle.cidr_lists.specs.declared.sets.Sets.{Sets}
 use Rattle.netset_commands.proofs.Causes.{output_cause}
 use Rattle.cidr_lists.proofs.SetSteps.{same, chained, steps_same, set_same, IsCombined}
+use Rattle.netset_commands.specs.declared.errors.Reason.{Reason}
 
 pub turned_same : (turned : Bool) (P Q : Type 0) → (P ↔ Q) → Turned turned P ↔ Turned turned Q
 turned_same false P Q f = f
@@ -189,7 +190,7 @@ not_in_written contents style net files network read rest whole sets refused s t
     )
 
 -- what sets are not printed for
-pub prints_cause : (F : List ℕ → Type 0) (refused : Bool) (style : Option Style) (sets : Family → List (List Bool)) (s t : State) (r : Result Verdict CommandError)
+pub prints_cause : (F : List ℕ → Reason → Type 0) (refused : Bool) (style : Option Style) (sets : Family → List (List Bool)) (s t : State) (r : Result Verdict CommandError)
     → PrintsBy style sets refused s t r → IfErr r (Cause F refused)
 prints_cause F refused style sets s t r (inl (kept, lack, is)) = subst (λ (k : Result Verdict CommandError). IfErr k (Cause F refused)) (sym is) lack
 prints_cause F refused style sets s t r (inr (w, written, is)) = output_cause F refused Yes w r is

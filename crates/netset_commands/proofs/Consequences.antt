@@ -149,7 +149,7 @@ module _ (verdict : Verdict) (refused : Refusals) (closed : Bool) (out new err n
         → HasAnswered contents request verdict out new err new_err
     keeps_done skips (inl (e, wrong, (same, says, ends))) = absurd (never_error verdict e ends)
     keeps_done false (inr (inl (right, (names, are, lines, mid, tells, inl (fine, inl (any, (same, quiet, two))))))) = absurd (never_two verdict two)
-    keeps_done true (inr (inl (right, (names, are, lines, mid, tells, inl (fine, inl (any, (read, answered, files, runs, above))))))) = absurd (never_above verdict answered above)
+    keeps_done true (inr (inl (right, (names, are, lines, mid, tells, inl (fine, inl (any, (read, answered, files, reasons, others, runs, above))))))) = absurd (never_above verdict answered above)
     keeps_done skips (inr (inl (right, (names, are, lines, mid, tells, inl (fine, inr (none, (r, answers, caused, says, ends))))))) =
         request_done mid r ends answers says (subst (λ (k : List ℕ). Tells err mid k) none tells)
     keeps_done skips (inr (inl (right, (names, are, lines, mid, tells, inr (before, after, split, front, rest, is, fine, begun, e, why, cause, (same, says, ends)))))) =

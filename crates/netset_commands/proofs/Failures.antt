@@ -6,7 +6,7 @@ use Rattle.cidr_io.specs.Writing.{State, Tells}
 use Rattle.cidr_io.specs.declared.sink.OutputFailed.{OutputFailed}
 use Rattle.cidr_lists.specs.Lists.{Text}
 use Rattle.netset_commands.specs.Arguments.{Line, line_request}
-use Rattle.netset_commands.specs.Causes.{Cause, FileMayFail, Refusals}
+use Rattle.netset_commands.specs.Causes.{Cause, FileFails, Refusals}
 use Rattle.netset_commands.specs.Commands.{Lists, ReadsInputTwice, read_files}
 use Rattle.netset_commands.specs.Program.{AnswersRequest, IsCaused, IsUnread, Reports, Runs, RunsLine, RunsOnce, RunsRequest, by_output, contents_in, error_line, status_of}
 use Rattle.netset_commands.specs.declared.commands.AtFault.{AtFault}
@@ -19,8 +19,8 @@ use Rattle.netset_commands.specs.declared.output.answers.Verdict.{Verdict}
 use Rattle.netset_commands.specs.declared.output.answers.Verdict.TheVariants.{Yes, No}
 
 -- some list is not read: its error was told, and nothing else was written
-abbrev pub Failed : (List ℕ → Option Text) → Bool → List (List ℕ) → State → State → State → State → Type 0
-Failed contents refused names out new err new_err = (e : CommandError) × IsUnread contents names e × Cause (FileMayFail contents) refused e
+abbrev pub Failed : (List ℕ → Option Text) → Refusals → List (List ℕ) → State → State → State → State → Type 0
+Failed contents refused names out new err new_err = (e : CommandError) × IsUnread contents names e × Cause (FileFails contents refused.files) refused.memory e
     × (new ≡ out) × Tells err new_err (error_line e) × (2 ≡ status_of (Err e))
 
 -- ---- an answer
@@ -41,7 +41,7 @@ never_written verdict (Err f) e by two =
 
 answer_failed : (contents : List ℕ → Option Text) (op : Operation) (files : List (List ℕ)) (refused : Refusals) (closed : Bool) (out new err new_err : State)
     (r : Result Verdict CommandError) → 2 ≡ status_of r → AnswersRequest contents (Lists op files) out new r → IsCaused contents refused (Lists op files) r
-    → Reports closed r err new_err → Failed contents refused.memory (read_files files) out new err new_err
+    → Reports closed r err new_err → Failed contents refused (read_files files) out new err new_err
 answer_failed contents op files refused closed out new err new_err (Ok Yes) two answers caused says = cc
 answer_failed contents op files refused closed out new err new_err (Ok No) two answers caused says = cc
 answer_failed contents op files refused closed out new err new_err (Err e) two (inl (same, unread)) caused says =
@@ -54,7 +54,7 @@ module _ (words : List (List ℕ)) (contents : List ℕ → Option (List ℕ)) (
     (op : Operation) (files : List (List ℕ)) (asks : line_request words ≡ Ok (reading, (None, Lists op files))) (once : ¬ (ReadsInputTwice (Lists op files)))
     (first : reading.at_fault ≡ Stop) (text : (word : List ℕ) → Contains words word → IsUtf8 word) where
   abbrev HasFailed : Type 0
-  HasFailed = Failed (contents_in reading.list_form contents) refused.memory (read_files files) out new err new_err
+  HasFailed = Failed (contents_in reading.list_form contents) refused (read_files files) out new err new_err
 
   once_failed : RunsOnce reading contents refused (Lists op files) closed out new err new_err 2 → HasFailed
   once_failed (inl (twice, e, why, ends)) = absurd (once twice)

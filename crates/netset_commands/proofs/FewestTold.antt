@@ -32,6 +32,7 @@ use Rattle.netset_commands.specs.declared.output.answers.Verdict.TheVariants.{Ye
 use Rattle.netset_commands.proofs.Causes.{output_cause}
 use Rattle.netset_commands.proofs.FewestRows.{AreBack, fewest_told, in_these_bits, told_lines, told_rows}
 use Rattle.netset_commands.proofs.Numbering.{number_back}
+use Rattle.netset_commands.specs.declared.errors.Reason.{Reason}
 
 -- ---- rows of numbers
 module _ {C : Type 0} (bits : C → List Bool) where
@@ -143,7 +144,7 @@ fewest_answered contents holes form name table refused s t r reads fine (inr (an
     let (fewest, are, made) = lines fine in
     inr (answer, Yes, w, (λ text told. (kept table, fewest, reads text told, are, made), refl), written, is)
 
-pub fewest_cause : (F : List ℕ → Type 0) (holes : Bool) (table : Family → List (List Bool × List ℕ)) (refused : Bool) (s t : State) (r : Result Verdict CommandError)
+pub fewest_cause : (F : List ℕ → Reason → Type 0) (holes : Bool) (table : Family → List (List Bool × List ℕ)) (refused : Bool) (s t : State) (r : Result Verdict CommandError)
     → TellsFewest holes table refused s t r → IfErr r (Cause F refused)
 fewest_cause F holes table refused s t r (inl (same, left, is)) = subst (λ (k : Result Verdict CommandError). IfErr k (Cause F refused)) (sym is) left
 fewest_cause F holes table refused s t r (inr (answer, w, lines, written, is)) = output_cause F refused Yes w r is

@@ -8,7 +8,7 @@ use Rattle.cidr_lists.specs.Lists.{Text}
 use Rattle.cidr_lists.specs.declared.formats.LineFormat.{LineFormat}
 use Rattle.cidr_lists.specs.declared.forms.RowForm.{RowForm}
 use Rattle.netset_commands.specs.Begun.{IsBegunAt, begun_left}
-use Rattle.netset_commands.specs.Causes.{Cause, FileMayFail}
+use Rattle.netset_commands.specs.Causes.{Cause, FileFails}
 use Rattle.netset_commands.specs.Compiled.{HasTable, SaysTable, begins_file}
 use Rattle.netset_commands.specs.Gathering.{IsNotReadFurther}
 use Rattle.netset_commands.specs.Look.{IsUnreadTable}
@@ -21,6 +21,7 @@ use Rattle.netset_commands.specs.declared.errors.ReadError.TheVariants.{Line, In
 use Rattle.netset_commands.specs.declared.input.begun.Begun.{Begun}
 use Rattle.netset_commands.proofs.Causes.{cause_weaker, whole_fails, whole_read}
 use Rattle.netset_commands.proofs.ReadBy.{bytes_read}
+use Rattle.netset_commands.specs.declared.errors.Reason.{Reason}
 
 -- ---- a file whose first byte was read
 module _ {S : Type 0} (left : S → Option (List ℕ)) (contents : Option Text) (begun : Begun S)
@@ -62,7 +63,7 @@ no_table_read form contents name error.Output h = absurd h
 no_table_read form contents name (error.File file why) h = absurd h
 
 -- it is not opened
-pub none_refused : (F : List ℕ → Type 0) (refused : Bool) (e : CommandError) → Cause F false e → Cause F refused e
+pub none_refused : (F : List ℕ → Reason → Type 0) (refused : Bool) (e : CommandError) → Cause F false e → Cause F refused e
 none_refused F refused (error.Argument text e) h = tt
 none_refused F refused (error.Line file number e) h = tt
 none_refused F refused (error.Input file why) h = h
@@ -71,12 +72,12 @@ none_refused F refused error.Output h = tt
 none_refused F refused (error.File file why) h = tt
 
 -- it is not read whole
-pub whole_cause : (contents : List ℕ → Option Text) (name : List ℕ) (left : Option (List ℕ)) (refused : Bool) (e : CommandError)
-    → ((text : Text) → contents name ≡ Some text → left ≡ Some text.bytes) → Cause (λ k. (k ≡ name) × (left ≡ None)) refused e
-    → Cause (FileMayFail contents) refused e
-whole_cause contents name left refused e opens h =
-    cause_weaker (λ k. (k ≡ name) × (left ≡ None)) (FileMayFail contents) refused e
-    (λ k c. subst (FileMayFail contents) (sym c.0) (whole_fails contents name left opens c.1)) h
+pub whole_cause : (contents : List ℕ → Option Text) (reasons : List ℕ → Option Reason) (name : List ℕ) (left : Option (List ℕ)) (refused : Bool) (e : CommandError)
+    → reasons name ≡ None → ((text : Text) → contents name ≡ Some text → left ≡ Some text.bytes) → Cause (λ k _. (k ≡ name) × (left ≡ None)) refused e
+    → Cause (FileFails contents reasons) refused e
+whole_cause contents reasons name left refused e opened opens h =
+    cause_weaker (λ k _. (k ≡ name) × (left ≡ None)) (FileFails contents reasons) refused e
+    (λ k why c. subst (λ (n : List ℕ). FileFails contents reasons n why) (sym c.0) (whole_fails contents reasons name why left opened opens c.1)) h
 
 -- a line of it is in error
 pub no_lines : (form : RowForm) (contents : Option Text) (file : Bor (List ℕ)) (e : ReadError) → ((text : Text) → contents ≡ Some text → begins_file text.bytes ≡ false)
@@ -96,8 +97,9 @@ no_file IsOther contents name bytes (error.Input file why) none are h = cc
 no_file IsOther contents name bytes error.NoMemory none are h = none
 no_file IsOther contents name bytes error.Output none are h = cc
 
-pub file_cause_of : (contents : List ℕ → Option Text) (refused : Bool) (e : CommandError) → Cause (λ _. ⊥) refused e → Cause (FileMayFail contents) refused e
-file_cause_of contents refused e h = cause_weaker (λ _. ⊥) (FileMayFail contents) refused e (λ name never. absurd never) h
+pub file_cause_of : (contents : List ℕ → Option Text) (reasons : List ℕ → Option Reason) (refused : Bool) (e : CommandError) → Cause (λ _ _. ⊥) refused e
+    → Cause (FileFails contents reasons) refused e
+file_cause_of contents reasons refused e h = cause_weaker (λ _ _. ⊥) (FileFails contents reasons) refused e (λ name why never. absurd never) h
 
 -- ---- its table
 pub says_table : (form : RowForm) (contents : Option Text) (bytes : List ℕ) (table : Family → List (List Bool × List ℕ)) → AreFileBytes contents bytes → HasTable table bytes
@@ -115,7 +117,7 @@ unfit_row form contents name bytes table error.NoMemory are has h = absurd h
 unfit_row form contents name bytes table error.Output are has h = absurd h
 unfit_row form contents name bytes table (error.File file why) are has h = absurd h
 
-pub unfit_cause : (F : List ℕ → Type 0) (refused : Bool) (format : LineFormat) (table : Family → List (List Bool × List ℕ)) (name : List ℕ) (e : CommandError)
+pub unfit_cause : (F : List ℕ → Reason → Type 0) (refused : Bool) (format : LineFormat) (table : Family → List (List Bool × List ℕ)) (name : List ℕ) (e : CommandError)
     → TellsUnfit format table name e → Cause F refused e
 unfit_cause F refused format table name (error.Argument text e) h = tt
 unfit_cause F refused format table name (error.Line file number e) h = tt

@@ -35,6 +35,7 @@ use Rattle.netset_commands.specs.declared.output.answers.Verdict.TheVariants.{No
 use Rattle.netset_commands.proofs.Causes.{cause_weaker, enough_bytes, known_first, longer_than, told_fails}
 use Rattle.netset_commands.proofs.Matched.{more_parts, part_long, part_read, rest_gone}
 use Rattle.netset_commands.proofs.ReadBy.{bytes_read}
+use Rattle.netset_commands.specs.declared.errors.Reason.{Reason}
 
 -- ---- one line in front of others
 -- the lines of a part, and those behind it
@@ -144,7 +145,7 @@ fails_before (Some text) next part n h =
 
 -- ---- what is left of a file without a header
 pub left_cause : (file : Bor (List ℕ)) (left : Option (List ℕ)) (refused : Bool) (e : ReadError) → ReadCause (TextFails left) refused e
-    → Cause (λ name. (name ≡ file.now) × TextFails left) refused (unread file e)
+    → Cause (λ name _. (name ≡ file.now) × TextFails left) refused (unread file e)
 left_cause file left refused (Line number e) h = tt
 left_cause file left refused Input h = (refl, h)
 left_cause file left refused NoMemory h = h
@@ -353,8 +354,8 @@ module _ (telling : Telling) (place : Asked) (table : Family → List (List Bool
       )
 
   -- why a file is not read, by why what is left of it is not
-  abbrev Fails : Option (List ℕ) → List ℕ → List ℕ → Type 0
-  Fails known file name = (name ≡ file) × TextFails known
+  abbrev Fails : Option (List ℕ) → List ℕ → List ℕ → Reason → Type 0
+  Fails known file name why = (name ≡ file) × TextFails known
 
   pub behind_cause : (known next : Option (List ℕ)) (part : List ℕ) (more : Bool) (file : List ℕ) (t u : State) (refused : Bool) (e new : CommandError) → more ≡ true
       → IfSome known (λ text. IsNextLine text part more next) → TellsLeft false telling place table next file t u (Err e) → IsBehindHeader e new
@@ -372,7 +373,7 @@ module _ (telling : Telling) (place : Asked) (table : Family → List (List Bool
   behind_cause known next part true file t u refused (error.File name reason) new some n left is why = subst (Cause (Fails known file) refused) (sym is) tt
 
   -- a part that is not read
-  pub read_cause : (known : Option (List ℕ)) (file : List ℕ) (refused : Bool) (e : CommandError) → Cause (λ name. (name ≡ file) × NoLineFails known) refused e
+  pub read_cause : (known : Option (List ℕ)) (file : List ℕ) (refused : Bool) (e : CommandError) → Cause (λ name _. (name ≡ file) × NoLineFails known) refused e
       → Cause (Fails known file) refused e
   read_cause known file refused e why =
-      cause_weaker (λ name. (name ≡ file) × NoLineFails known) (Fails known file) refused e (λ name k. (k.0, told_fails known known (known_first known) k.1)) why
+      cause_weaker (λ name _. (name ≡ file) × NoLineFails known) (Fails known file) refused e (λ name reason k. (k.0, told_fails known known (known_first known) k.1)) why

@@ -15,6 +15,7 @@ use Rattle.netset_commands.specs.declared.errors.Unsaved.TheVariants.{Denied}
 use Rattle.netset_commands.specs.declared.output.answers.Verdict.{Verdict}
 use Rattle.netset_commands.specs.declared.output.answers.Verdict.TheVariants.{Yes, No}
 use Rattle.netset_commands.proofs.Consequences.{above_one, at_most_one, found_answered, verdict_by}
+use Rattle.netset_commands.specs.declared.errors.Reason.{Reason}
 
 -- the status of an error is not 0
 pub not_zero : (e : CommandError) (status : ℕ) → status ≡ status_of (Err e) → status ≢ 0
@@ -106,7 +107,7 @@ others_keep words contents old new status two (inl (given, are, h)) = kept_found
 others_keep words contents old new status two (inr (other, is)) = is
 
 -- ---- an answer that goes to a file
-module _ (name : List ℕ) (reading : Reading) (contents : List ℕ → Option (List ℕ)) (refused : Bool) (request : Request) (start : State) (held : List ℕ × Bool) (err new_err : State)
+module _ (name : List ℕ) (reading : Reading) (contents : List ℕ → Option (List ℕ)) (refused : Bool) (reasons : List ℕ → Option Reason) (request : Request) (start : State) (held : List ℕ × Bool) (err new_err : State)
     (status : ℕ) (none : start ≡ empty) (bytes : List ℕ) (whole : held ≡ (bytes, false)) where
   -- the text in memory
   abbrev text : State
@@ -114,7 +115,7 @@ module _ (name : List ℕ) (reading : Reading) (contents : List ℕ → Option (
 
   -- what was refused before, in a folder in which nothing is written
   abbrev before : Refusals
-  before = record { memory = refused; folder = Some Denied }
+  before = record { memory = refused; folder = Some Denied; files = reasons }
 
   -- the run that writes it
   abbrev RunsBefore : State → ℕ → Type 0

@@ -12,13 +12,14 @@ use Rattle.cidr_lists.specs.Lists.{Text, line_networks}
 use Rattle.cidr_lists.specs.Sets.{networks_of}
 use Rattle.cidr_lists.specs.declared.sets.Sets.{Sets}
 use Rattle.netset_commands.specs.Answering.{IsFileError, ReadsOperand, operand_error}
-use Rattle.netset_commands.specs.Causes.{Cause, FileMayFail}
+use Rattle.netset_commands.specs.Causes.{Cause, FileFails, FileMayFail}
 use Rattle.netset_commands.specs.Commands.{AreLists, HasNoFirstList, IsNoList, Request, lists_of}
 use Rattle.netset_commands.specs.Operands.{IsUnlisted, OfOperand, ReadsAsNetwork}
 use Rattle.netset_commands.specs.Single.{IsNumber}
 use Rattle.netset_commands.specs.declared.commands.describe.Description.TheVariants.{Masks}
 use Rattle.netset_commands.specs.declared.errors.CommandError.{CommandError}
 use Rattle.netset_commands.specs.declared.errors.CommandError.TheVariants as error
+use Rattle.netset_commands.specs.declared.errors.Reason.{Reason}
 
 -- what follows of what an operand says is so too
 pub operand_weaker : (contents : List ℕ → Option Text) (operand : List ℕ) (P Q : List (List IpCidr) → Type 0)
@@ -39,16 +40,16 @@ network_read contents operand network sets reads has =
     )
 
 -- a file that is not read is the error of an operand
-pub unlisted : (contents : List ℕ → Option Text) (operand : Bor (List ℕ)) (refused : Bool) (e : CommandError) → IsFileError (contents operand.now) operand.now e
-    → Cause (FileMayFail contents) refused e → IsUnlisted contents operand.now (operand_error operand e)
-unlisted contents operand refused (error.Argument text why) is fails = absurd is
-unlisted contents operand refused (error.Line name number e) is fails = is
-unlisted contents operand refused (error.Input name why) is fails = (refl, refl, subst (FileMayFail contents) is fails)
-unlisted contents operand refused error.NoMemory is fails = tt
-unlisted contents operand refused error.Output is fails = absurd is
-unlisted contents operand refused (error.File name e) is fails = absurd is
+pub unlisted : (contents : List ℕ → Option Text) (reasons : List ℕ → Option Reason) (operand : Bor (List ℕ)) (refused : Bool) (e : CommandError) → IsFileError (contents operand.now) operand.now e
+    → Cause (FileFails contents reasons) refused e → IsUnlisted contents operand.now (operand_error operand e)
+unlisted contents reasons operand refused (error.Argument text why) is fails = absurd is
+unlisted contents reasons operand refused (error.Line name number e) is fails = is
+unlisted contents reasons operand refused (error.Input name why) is fails = (refl, refl, subst (FileMayFail contents) is fails.0)
+unlisted contents reasons operand refused error.NoMemory is fails = tt
+unlisted contents reasons operand refused error.Output is fails = absurd is
+unlisted contents reasons operand refused (error.File name e) is fails = absurd is
 
-pub operand_cause : (F : List ℕ → Type 0) (operand : Bor (List ℕ)) (refused : Bool) (e : CommandError) → Cause F refused e
+pub operand_cause : (F : List ℕ → Reason → Type 0) (operand : Bor (List ℕ)) (refused : Bool) (e : CommandError) → Cause F refused e
     → Cause F refused (operand_error operand e)
 operand_cause F operand refused (error.Argument text why) h = tt
 operand_cause F operand refused (error.Line name number e) h = tt

@@ -34,6 +34,7 @@ use Rattle.netset_commands.proofs.Causes.{argument_cause, output_cause}
 use Rattle.netset_commands.proofs.Combining.{has_same, made_same}
 use Rattle.netset_commands.proofs.Operands.{operand_weaker}
 use Rattle.netset_commands.proofs.Taken.{inside_some}
+use Rattle.netset_commands.specs.declared.errors.Reason.{Reason}
 
 -- what is free of the sets is free of the lists
 pub free_written : (contents : List ℕ → Option Text) (style : Option Style) (extent : Extent) (pool len : List ℕ) (used : List (List ℕ)) (n : ℕ) (most : Option ℕ) (first : Sets)
@@ -137,11 +138,11 @@ count_wrong extent len n error.NoMemory number h = absurd h
 count_wrong extent len n error.Output number h = absurd h
 
 -- what they are given up for
-pub free_cause : (F : List ℕ → Type 0) (refused : Bool) (style : Option Style) (sets : Family → List (List Bool)) (n : ℕ) (most : Option ℕ) (s t : State) (r : Result Verdict CommandError)
+pub free_cause : (F : List ℕ → Reason → Type 0) (refused : Bool) (style : Option Style) (sets : Family → List (List Bool)) (n : ℕ) (most : Option ℕ) (s t : State) (r : Result Verdict CommandError)
     → TellsFree style sets n most s t r → IfErr r (Cause F refused)
 free_cause F refused style sets n most s t r (answer, verdict, w, free, written, is) = output_cause F refused verdict w r is
 
-pub network_cause : (F : List ℕ → Type 0) (refused : Bool) (style : Option Style) (network : IpCidr) (len : List ℕ) (s t : State) (r : Result Verdict CommandError)
+pub network_cause : (F : List ℕ → Reason → Type 0) (refused : Bool) (style : Option Style) (network : IpCidr) (len : List ℕ) (s t : State) (r : Result Verdict CommandError)
     → SplitsNetwork style network len s t r → IfErr r (Cause F refused)
 network_cause F refused style network len s t r (inl (same, e, is, why)) =
     subst (λ (k : Result Verdict CommandError). IfErr k (Cause F refused)) (sym is) (argument_cause F refused _ e why)

@@ -5,11 +5,11 @@ use Rattle.std.specs.Bool.{Decides}
 use Rattle.std.specs.List.{count_by}
 use Rattle.cidr_io.specs.Arguments.{AreArguments}
 use Rattle.cidr_io.specs.Writing.{State, Tells}
-use Rattle.netset_commands.specs.Causes.{Cause, FileMayFail, Refusals}
+use Rattle.netset_commands.specs.Causes.{Cause, FileFails, Refusals}
 use Rattle.netset_commands.specs.Arguments.{Line, Parts, and_then, line_parts, line_request, part_request, read_request, reading_in, target_in}
 use Rattle.netset_commands.specs.Commands.{AreLists, Request, input_name, lists_of, others_of}
 use Rattle.netset_commands.specs.Compiled.{begins_file}
-use Rattle.netset_commands.specs.Keeping.{AreGoodBytes, AreGoodKept, IsGoodFile, IsGoodText, good_bytes, good_file, good_files, kind_of, lined, list_named, takes_file}
+use Rattle.netset_commands.specs.Keeping.{AreGoodBytes, AreGoodKept, IsGoodFile, IsGoodText, IsSameReason, good_bytes, good_file, good_files, kind_of, lined, list_named, none_of_kept, reasons_beside, takes_file}
 use Rattle.cidr_lists.specs.Lists.{Text, text_in}
 use Rattle.netset_commands.specs.Matching.{has, is_word}
 use Rattle.netset_commands.specs.Loading.{AreListsLoaded, IsUnloaded}
@@ -19,6 +19,7 @@ use Rattle.netset_commands.specs.declared.commands.Reading.{Reading}
 use Rattle.netset_commands.specs.declared.commands.table.Verb.{Verb}
 use Rattle.netset_commands.specs.declared.errors.CommandError.{CommandError}
 use Rattle.netset_commands.specs.declared.errors.CommandError.TheVariants as error
+use Rattle.netset_commands.specs.declared.errors.Reason.{Reason}
 use Rattle.netset_commands.specs.declared.errors.Unsaved.{Unsaved}
 use Rattle.netset_commands.specs.declared.errors.Unsaved.TheVariants.{Denied}
 use Rattle.netset_commands.specs.declared.input.keeping.Kept.{Kept}
@@ -60,6 +61,22 @@ module _ (contents : List ℕ → Option Text) (request : Request) (bits : ListF
         (first_or_later (is_word name first) (has name names) list (list_named name lists)
         (λ is. held_first first list good (same_text first name (sym is))) (good_named names lists zip))
 
+-- ---- why a file is not opened, where no list of its name is read
+module _ (takes : Bool) (contents : List ℕ → Option Text) (kind : Kind) (reasons : List ℕ → Option Reason) (name : List ℕ) where
+  reason_or_later : (here listed : Bool) (list : Kept) (later : Option Kept) → IsSameReason listed (reasons name) (none_of_kept later (reasons name))
+      → IsSameReason (here || listed) (reasons name) (none_of_kept (cond here (Some list) later) (reasons name))
+  reason_or_later true listed list later others = tt
+  reason_or_later false listed list later others = others
+
+  reason_named : (names : List (List ℕ)) (lists : List Kept) → AreGoodKept takes contents kind names lists
+      → IsSameReason (has name names) (reasons name) (reasons_beside lists reasons name)
+  reason_named [] [] zip = refl
+  reason_named [] (list ∷ lists) zip = absurd zip
+  reason_named (first ∷ names) [] zip = absurd zip
+  reason_named (first ∷ names) (list ∷ lists) ((named, good), zip) =
+      subst (λ (k : List ℕ). IsSameReason (is_word name first || has name names) (reasons name) (none_of_kept (cond (is_word name k) (Some list) (list_named name lists)) (reasons name))) (sym named)
+      (reason_or_later (is_word name first) (has name names) list (list_named name lists) (reason_named names lists zip))
+
 -- ---- with lists whose lines in error are told
 module _ (contents : List ℕ → Option Text) (request : Request) (kind : Kind) (takes : Bool) (names : List (List ℕ)) (skips : Bool) (refused : Refusals) (closed : Bool) (out s t : State)
     (is_kind : kind ≡ kind_of request) (is_taken : takes ≡ takes_file request) (are : AreLists request names) where
@@ -87,7 +104,9 @@ module _ (contents : List ℕ → Option Text) (request : Request) (kind : Kind)
       let (lines, (tells, fine), any, kept, good) = loaded_of lists true h in
       let read : (name : List ℕ) → IsGoodFile (has name names) request (contents name) (good_files bits lists contents name) =
       λ name. good_named contents request bits by name names lists (good skip) in
-      (names, are, lines, t, tells, inl (fine, inl (any, rw skip (good_files bits lists contents, answered, read, runs, is))))
+      let same : (name : List ℕ) → IsSameReason (has name names) (refused.files name) (reasons_beside lists refused.files name) =
+      λ name. reason_named (takes_file request) contents (kind_of request) refused.files name names lists (good skip) in
+      (names, are, lines, t, tells, inl (fine, inl (any, rw skip (good_files bits lists contents, answered, read, reasons_beside lists refused.files, same, runs, is))))
 
   pub no_line_in_error : (lists : List Kept) (new u : State) (r : Result Verdict CommandError) (status : ℕ) → AreListsLoaded takes skips contents kind names s t lists false
       → AnswersRequest contents request out new r → IsCaused contents refused request r → Reports closed r t u → status ≡ status_of r
@@ -96,7 +115,7 @@ module _ (contents : List ℕ → Option Text) (request : Request) (kind : Kind)
       let (lines, (tells, fine), any, kept, good) = loaded_of lists false h in
       (names, are, lines, t, tells, inl (fine, inr (any, (r, answers, caused, says, is))))
 
-  pub not_loaded : (u : State) (e : CommandError) (status : ℕ) → IsUnloaded (lined takes contents) kind names s t e → Cause (FileMayFail contents) refused.memory e → Reports closed (Err e) t u → status ≡ status_of (Err e)
+  pub not_loaded : (u : State) (e : CommandError) (status : ℕ) → IsUnloaded (lined takes contents) kind names s t e → Cause (FileFails contents refused.files) refused.memory e → Reports closed (Err e) t u → status ≡ status_of (Err e)
       → TellsFaults skips contents refused request closed out out s u status
   not_loaded u e status h cause says is =
       let (before, after, split, why, front, rest, tells, fine, begun) = unloaded_of e h in
@@ -175,14 +194,14 @@ run_arguments words given contents refused closed out new s t status are (inl ru
 run_arguments words given contents refused closed out new s t status are (inr none) = inr (inr none)
 
 -- ---- an answer that goes to a file
-module _ (name : List ℕ) (reading : Reading) (contents : List ℕ → Option (List ℕ)) (was memory : Bool) (folder : Option Unsaved) (request : Request) (start : State) (held : List ℕ × Bool) (s t : State)
+module _ (name : List ℕ) (reading : Reading) (contents : List ℕ → Option (List ℕ)) (was memory : Bool) (folder : Option Unsaved) (reasons : List ℕ → Option Reason) (request : Request) (start : State) (held : List ℕ × Bool) (s t : State)
     (answered : ℕ) (none : start ≡ empty) where
   -- what was refused before there was the text, in a folder in which nothing is written, and in the end
   abbrev before : Refusals
-  before = record { memory = was; folder = Some Denied }
+  before = record { memory = was; folder = Some Denied; files = reasons }
 
   abbrev refused : Refusals
-  refused = record { memory = memory; folder = folder }
+  refused = record { memory = memory; folder = folder; files = reasons }
 
   -- the text in memory
   abbrev text : State
@@ -200,7 +219,7 @@ module _ (name : List ℕ) (reading : Reading) (contents : List ℕ → Option (
     fine = ap (λ (k : List ℕ × Bool). k.1) whole
 
     told_by : RunsBefore empty → Into t answered
-    told_by (inl once) now out = inl (refl, (before, text, t, answered, once, inl (fine, sym kept, refl, refl)))
+    told_by (inl once) now out = inl (refl, (before, text, t, answered, once, refl, inl (fine, sym kept, refl, refl)))
     told_by (inr (left, (same, says, ends))) now out = inr (kept ∙ left, (refl, says, ends))
 
     pub into_told : RunsBefore start → Into t answered
@@ -208,7 +227,7 @@ module _ (name : List ℕ) (reading : Reading) (contents : List ℕ → Option (
 
     module _ (u : State) (e : CommandError) (status : ℕ) (few : answered ≤ 1) (why : Unsaved) (unsaved : folder ≡ Some why) (is : IsNotSaved name why e) (says : Reports false (Err e) t u) (ends : status ≡ status_of (Err e)) where
       unsaved_by : RunsBefore empty → Into u status
-      unsaved_by (inl once) now out = inl (refl, (before, text, t, answered, once, inr (inl (fine, few, why, unsaved, e, is, says, ends))))
+      unsaved_by (inl once) now out = inl (refl, (before, text, t, answered, once, refl, inr (inl (fine, few, why, unsaved, e, is, says, ends))))
       unsaved_by (inr (left, (same, told, three))) now out =
           let is_three : answered ≡ 3 = three in
           absurd (omega (arith, few, is_three))
@@ -218,7 +237,7 @@ module _ (name : List ℕ) (reading : Reading) (contents : List ℕ → Option (
 
   module _ (lost : held.1 ≡ true) (refusal : memory ≡ true) (u : State) (status : ℕ) (says : Tells t u (codes "no memory\n")) (ends : status ≡ 3) where
     lost_by : RunsBefore empty → Into u status
-    lost_by (inl once) now out = inl (refl, (before, text, t, answered, once, inr (inr (lost, refusal, says, ends))))
+    lost_by (inl once) now out = inl (refl, (before, text, t, answered, once, refl, inr (inr (lost, refusal, says, ends))))
     lost_by (inr (left, (same, told, three))) now out = absurd (true≢false (sym lost ∙ ap (λ (k : State). k.failed) same))
 
     pub into_lost : RunsBefore start → Into u status

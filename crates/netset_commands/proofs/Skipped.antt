@@ -75,8 +75,8 @@ module _ (op : Operation) (files : List (List ℕ)) (refused : Refusals) (closed
 
     goes_on : KeepsGoing true contents refused (Lists op files) closed out new err new_err 2 → Skipped contents op files out new err new_err
     goes_on (inl (e, wrong, (same, says, ends))) = absurd (changed same)
-    goes_on (inr (inl (right, (names, are, lines, mid, tells, inl (fine, inl (any, (read, status, good, runs, two))))))) =
-        answered_good names lines mid read (record { memory = refused.memory; folder = Some Denied }) status (lists_named op files names are) tells fine good runs two
+    goes_on (inr (inl (right, (names, are, lines, mid, tells, inl (fine, inl (any, (read, status, good, reasons, same, runs, two))))))) =
+        answered_good names lines mid read (record { memory = refused.memory; folder = Some Denied; files = reasons }) status (lists_named op files names are) tells fine good runs two
     goes_on (inr (inl (right, (names, are, lines, mid, tells, inl (fine, inr (none, runs)))))) = absurd (never_plain mid refused runs)
     goes_on (inr (inl (right, (names, are, lines, mid, tells, inr (before, after, split, front, rest, is, fine, begun, e, why, cause, (same, says, ends)))))) =
         absurd (changed same)

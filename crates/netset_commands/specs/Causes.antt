@@ -4,15 +4,18 @@ use Rattle.cidr_lists.specs.Lists.{Text}
 use Rattle.netset_commands.specs.declared.errors.CommandError.{CommandError}
 use Rattle.netset_commands.specs.declared.errors.CommandError.TheVariants as error
 use Rattle.netset_commands.specs.declared.errors.Unsaved.{Unsaved}
+use Rattle.netset_commands.specs.declared.errors.Reason.{Reason}
 use Rattle.netset_commands.specs.declared.errors.ReadError.{ReadError}
 use Rattle.netset_commands.specs.declared.errors.ReadError.TheVariants.{Line, Input, NoMemory}
 use Rattle.netset_commands.specs.declared.commands.look.LookError.{LookError}
 use Rattle.netset_commands.specs.declared.commands.look.LookError.TheVariants.{Reading, Output}
 
--- what was refused to a run: an allocation, and the writing of a file, and why
+-- what was refused to a run: an allocation; the writing of a file, and why; and the opening of a file of a name, and why,
+-- as far as that is told
 pub record Refusals : Type 0 where
   pub memory : Bool
   pub folder : Option Unsaved
+  pub files : List ℕ → Option Reason
 
 -- the bytes are about as many as 64 bits count, so that their lines may be more than there are numbers for
 abbrev pub AreTooMany : List ℕ → Type 0
@@ -22,9 +25,17 @@ AreTooMany bytes = 18446744073709551613 ≤ length bytes
 abbrev pub FileMayFail : (List ℕ → Option Text) → List ℕ → Type 0
 FileMayFail contents name = IfSome (contents name) (λ text. AreTooMany text.bytes)
 
--- there is no memory only after an allocation was refused, and only some files can't be read
-abbrev pub Cause : (List ℕ → Type 0) → Bool → CommandError → Type 0
-Cause Fails refused (error.Input name why) = Fails name.now
+-- why a file can't be opened, where that is told
+abbrev pub IsToldReason : Option Reason → Reason → Type 0
+IsToldReason told why = IfSome told (λ reason. why ≡ reason)
+
+-- a file can't be read, and this is why
+abbrev pub FileFails : (List ℕ → Option Text) → (List ℕ → Option Reason) → List ℕ → Reason → Type 0
+FileFails contents reasons name why = FileMayFail contents name × IsToldReason (reasons name) why
+
+-- there is no memory only after an allocation was refused, and only some files can't be read, and why
+abbrev pub Cause : (List ℕ → Reason → Type 0) → Bool → CommandError → Type 0
+Cause Fails refused (error.Input name why) = Fails name.now why
 Cause Fails refused error.NoMemory = refused ≡ true
 Cause Fails refused e = Unit {0}
 

@@ -20,6 +20,7 @@ use Rattle.netset_commands.specs.declared.errors.CommandError.{CommandError}
 use Rattle.netset_commands.specs.declared.errors.CommandError.TheVariants as error
 use Rattle.cidr_lists.specs.declared.errors.LineError.{LineError}
 use Rattle.netset_commands.specs.declared.errors.ReadError.{ReadError}
+use Rattle.netset_commands.specs.declared.errors.Reason.{Reason}
 use Rattle.netset_commands.specs.declared.input.begun.Given.{Given}
 use Rattle.netset_commands.specs.declared.input.begun.Given.TheVariants.{Lines, Stored}
 use Rattle.netset_commands.specs.declared.input.keeping.Heard.{Heard}
@@ -98,6 +99,11 @@ abbrev pub IsGoodFile : Bool → Request → Option Text → Option Text → Typ
 IsGoodFile true request contents good = (text : Text) → contents ≡ Some text
     → (read : Text) × (good ≡ Some read) × IsGoodText (takes_file request && begins_file text.bytes) (kind_of request) text read
 IsGoodFile false request contents good = good ≡ contents
+
+-- why a file can't be opened, of which no list is kept, is told as before
+abbrev pub IsSameReason : Bool → Option Reason → Option Reason → Type 0
+IsSameReason true told good = Unit {0}
+IsSameReason false told good = good ≡ told
 
 -- ---- what private functions promise
 -- what the lines are
@@ -207,6 +213,14 @@ good_file bits None contents = option_map (λ text. text_in bits text.bytes) con
 
 abbrev pub good_files : ListForm → List Kept → (List ℕ → Option Text) → List ℕ → Option Text
 good_files bits lists contents name = good_file bits (list_named name lists) (contents name)
+
+-- why a file can't be opened, where no list of its name is kept
+abbrev pub none_of_kept : Option Kept → Option Reason → Option Reason
+none_of_kept (Some list) told = None
+none_of_kept None told = told
+
+abbrev pub reasons_beside : List Kept → (List ℕ → Option Reason) → List ℕ → Option Reason
+reasons_beside lists reasons name = none_of_kept (list_named name lists) (reasons name)
 
 -- what was told of lists, if their bytes are told
 abbrev pub HasTold : (List ℕ → Option Text) → Kind → List (List ℕ) → State → State → List ℕ → Type 0

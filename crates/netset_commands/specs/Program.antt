@@ -14,14 +14,14 @@ use Rattle.netset_commands.specs.Arguments.{Line, line_request}
 use Rattle.netset_commands.specs.Commands.{Request, Lists, Styled, NotIn, Diff, Same, Free, Acl, Split, Check, Which, Match, MatchEach, Look, Compile, Smallest, Describe, Class, Single, ReadsInputTwice, headed_tables, input_name, read_files, AreLists, AreTold, HoldsOf, IsAnswer}
 use Rattle.cidr_lists.specs.Rules.{compared_with}
 use Rattle.netset_commands.specs.Acl.{IsUnreadAcl}
-use Rattle.netset_commands.specs.Causes.{Cause, FileMayFail, Refusals}
+use Rattle.netset_commands.specs.Causes.{Cause, FileFails, Refusals}
 use Rattle.netset_commands.specs.Class.{IsClassUntil, IsUnclassed}
 use Rattle.netset_commands.specs.Compiled.{IsTooLarge, SaysTable}
 use Rattle.netset_commands.specs.Describing.{IsNoLength}
 use Rattle.netset_commands.specs.Free.{IsBadFree, IsBadLength, IsMost}
 use Rattle.netset_commands.specs.Operands.{IsNoNetworkText, IsUnlisted, IsUnreadOperand, OfOperand}
 use Rattle.cidr_lists.specs.Faults.{AreTellings}
-use Rattle.netset_commands.specs.Keeping.{IsBegun, IsGoodFile, IsLoadError, good_files, kind_of, lined, takes_file}
+use Rattle.netset_commands.specs.Keeping.{IsBegun, IsGoodFile, IsSameReason, reasons_beside, IsLoadError, good_files, kind_of, lined, takes_file}
 use Rattle.cidr_lists.specs.Messages.{fault_line, wrong_words}
 use Rattle.cidr_lists.specs.LookUps.{telling_by}
 use Rattle.cidr_lists.specs.Tables.{IsTable}
@@ -203,7 +203,7 @@ AnswersRequest contents request old new r = AnswersWhole contents request old ne
 -- a request is given up only for its cause; `compile` alone writes a file, and not over its table
 abbrev pub IsCaused : (List ℕ → Option Text) → Refusals → Request → Result Verdict CommandError → Type 0
 IsCaused contents refused (Compile form table name) (Err (error.File file (NotSaved why))) = ((table ≡ name) × (why ≡ unsaved.Same)) ⊎ (refused.folder ≡ Some why)
-IsCaused contents refused request r = IfErr r (Cause (FileMayFail contents) refused.memory)
+IsCaused contents refused request r = IfErr r (Cause (FileFails contents refused.files) refused.memory)
 
 -- the lists of the files, read this way
 abbrev pub contents_in : ListForm → (List ℕ → Option (List ℕ)) → List ℕ → Option Text
@@ -317,8 +317,9 @@ RunsAnswer contents refused request closed out new_out err new_err status = (r :
 abbrev pub RunsFaulty : Bool → List (List ℕ) → (List ℕ → Option Text) → Refusals → Request → Bool → State → State → State → State → ℕ → Type 0
 RunsFaulty false names contents refused request closed out new_out err new_err status = (new_out ≡ out) × (new_err ≡ err) × (status ≡ 2)
 RunsFaulty true names contents refused request closed out new_out err new_err status = (read : List ℕ → Option Text) × (answered : ℕ)
-    × ((name : List ℕ) → IsGoodFile (has name names) request (contents name) (read name))
-    × RunsAnswer read (record { memory = refused.memory; folder = Some unsaved.Denied }) request closed out new_out err new_err answered × (status ≡ max answered 2)
+    × ((name : List ℕ) → IsGoodFile (has name names) request (contents name) (read name)) × (reasons : List ℕ → Option Reason)
+    × ((name : List ℕ) → IsSameReason (has name names) (refused.files name) (reasons name))
+    × RunsAnswer read (record { memory = refused.memory; folder = Some unsaved.Denied; files = reasons }) request closed out new_out err new_err answered × (status ≡ max answered 2)
 
 -- a request of whose lists each line in error is told, up to a list that can't be read, and then nothing is written; where
 -- there is none, the request is answered
@@ -329,7 +330,7 @@ TellsFaults skips contents refused request closed out new_out err new_err status
     ⊎ ((lines ≡ []) × RunsAnswer contents refused request closed out new_out mid new_err status)))
     ⊎ ((before after : List (List ℕ)) × (names ≡ before ++ after) × (front rest : List ℕ) × (lines ≡ front ++ rest)
     × ((texts : List Text) → AreTold (lined (takes_file request) contents) before texts → AreTellings (kind_of request) before texts front)
-    × IsBegun (lined (takes_file request) contents) (kind_of request) after rest × (e : CommandError) × IsLoadError after e × Cause (FileMayFail contents) refused.memory e
+    × IsBegun (lined (takes_file request) contents) (kind_of request) after rest × (e : CommandError) × IsLoadError after e × Cause (FileFails contents refused.files) refused.memory e
     × EndsWith e closed out new_out mid new_err status))
 
 -- the same, where no argument is wrong, and there is memory for the names of the lists
@@ -370,7 +371,7 @@ empty = record { taken = Some []; failed = false }
 abbrev pub RunsInto : List ℕ → Reading → (List ℕ → Option (List ℕ)) → Refusals → Request → State → State → State → State → ℕ → Type 0
 RunsInto name reading contents refused request out new_out err new_err status = (new_out ≡ out)
     × ((before : Refusals) × (text mid : State) × (answered : ℕ) × RunsOnce reading contents before request text.failed empty text err mid answered
-    × (((text.failed ≡ false) × (before.memory ≡ refused.memory) × (new_err ≡ mid) × (status ≡ answered))
+    × (before.files ≡ refused.files) × (((text.failed ≡ false) × (before.memory ≡ refused.memory) × (new_err ≡ mid) × (status ≡ answered))
     ⊎ (((text.failed ≡ false) × (answered ≤ 1) × (why : Unsaved) × (refused.folder ≡ Some why) × (e : CommandError) × IsNotSaved name why e × Reports false (Err e) mid new_err
     × (status ≡ status_of (Err e)))
     ⊎ ((text.failed ≡ true) × (refused.memory ≡ true) × Tells mid new_err (codes "no memory\n") × (status ≡ 3)))))
@@ -420,5 +421,5 @@ IntoFound name reading contents refused request err new_err status = (closed : B
 abbrev pub RunsGood : List Kept → (List ℕ → Option Text) → Refusals → Request → Bool → State → State → State → State → ℕ → Type 0
 RunsGood lists contents refused request closed out new_out err new_err status = (bits : ListForm) × (answered : ℕ)
     × ((name : List ℕ) (text : Text) → contents name ≡ Some text → text.form ≡ bits)
-    × RunsAnswer (good_files bits lists contents) (record { memory = refused.memory; folder = Some unsaved.Denied }) request closed out new_out err new_err answered
+    × RunsAnswer (good_files bits lists contents) (record { memory = refused.memory; folder = Some unsaved.Denied; files = reasons_beside lists refused.files }) request closed out new_out err new_err answered
     × (status ≡ max answered 2)

@@ -2,7 +2,7 @@
 ghost use Rattle.std.specs.Prelude.{◌≡◌, ◌≤◌, ℕ, Bool, true, List, Option, None, Some, map, IfErr, MatchOption, Ok};
 ghost use Rattle.cidr_io.specs.Arguments.{AreUnread, IsNotText};
 ghost use Rattle.std.specs.String.{string_bytes};
-ghost use Rattle.netset_commands.specs.Causes.{Cause, FileMayFail};
+ghost use Rattle.netset_commands.specs.Causes.{Cause, FileFails};
 ghost use Rattle.netset_commands.specs.Combining.{form_of};
 ghost use Rattle.netset_commands.specs.Arguments.{line_request, read_request};
 ghost use Rattle.netset_commands.specs.Command.{given, given_parts, request_of};
@@ -80,7 +80,7 @@ fn lists<'a, M: Memory, F: Sources, O: Sink>(
     out: &mut O,
 ) -> Result<Verdict, CommandError<'a>>
     ensures answers { AnswersRequest (F.contents sources.now) (Lists operation (map (λ file. file.now) files.now)) (O.state out.old) (O.state out.new) result }
-    ensures cause { IfErr result (Cause (FileMayFail (F.contents sources.now)) (M.refused memory.new)) }
+    ensures cause { IfErr result (Cause (FileFails (F.contents sources.now) (F.reasons sources.now)) (M.refused memory.new)) }
 {
     let several = read_several(memory, sources, files)?;
     let sets = combination(operation, several);
@@ -98,7 +98,7 @@ fn styled_lists<'a, M: Memory, F: Sources, O: Sink>(
     out: &mut O,
 ) -> Result<Verdict, CommandError<'a>>
     ensures answers { AnswersRequest (F.contents sources.now) (Styled (style_in style.now) operation (map (λ file. file.now) files.now)) (O.state out.old) (O.state out.new) result }
-    ensures cause { IfErr result (Cause (FileMayFail (F.contents sources.now)) (M.refused memory.new)) }
+    ensures cause { IfErr result (Cause (FileFails (F.contents sources.now) (F.reasons sources.now)) (M.refused memory.new)) }
 {
     let several = read_several(memory, sources, files)?;
     let sets = combination(operation, several);
@@ -118,7 +118,7 @@ fn answer<'a, M: Memory, F: Sources, D: Folder, O: Sink>(
 ) -> Result<Verdict, CommandError<'a>>
     ensures answers { AnswersRequest (F.contents sources.now) (request_of command.entry) (O.state out.old) (O.state out.new) result }
     ensures leaves { Leaves (F.contents sources.now) (request_of command.entry) (D.saved folder.old) (D.saved folder.new) result }
-    ensures cause { IsCaused (F.contents sources.now) (record { memory = M.refused memory.new; folder = D.refused folder.new })
+    ensures cause { IsCaused (F.contents sources.now) (record { memory = M.refused memory.new; folder = D.refused folder.new; files = F.reasons sources.now })
         (request_of command.entry) result }
 {
     match command {
@@ -217,7 +217,7 @@ fn answer_good<'a, M: Memory, F: Sources, O: Output, E: Sink>(
     err: &mut E,
 ) -> u8
     ensures above { 2 ≤ result }
-    ensures runs { (folder : Option Unsaved) → RunsGood lists.now (F.contents sources.now) (record { memory = M.refused memory.new; folder = folder }) (request_of command.entry)
+    ensures runs { (folder : Option Unsaved) → RunsGood lists.now (F.contents sources.now) (record { memory = M.refused memory.new; folder = folder; files = F.reasons sources.now }) (request_of command.entry)
         (O.closed out.new) (O.Sink.state out.old) (O.Sink.state out.new) (E.state err.old) (E.state err.new) result }
 {
     let good = GoodLists {
@@ -240,7 +240,7 @@ fn keep_going<'a, M: Memory, F: Sources, D: Folder, O: Output, E: Sink>(
     out: &mut O,
     err: &mut E,
 ) -> u8
-    ensures goes { KeepsGoing skips (F.contents sources.now) (record { memory = M.refused memory.new; folder = D.refused folder.new }) (request_of command.entry)
+    ensures goes { KeepsGoing skips (F.contents sources.now) (record { memory = M.refused memory.new; folder = D.refused folder.new; files = F.reasons sources.now }) (request_of command.entry)
         (O.closed out.new) (O.Sink.state out.old) (O.Sink.state out.new) (E.state err.old) (E.state err.new) result }
     ensures leaves { LeavesBy (F.contents sources.now) (request_of command.entry) (D.saved folder.old) (D.saved folder.new) result }
 {
@@ -293,7 +293,7 @@ fn answer_read<'a, M: Memory, F: Files, D: Folder, O: Output, E: Sink>(
     out: &mut O,
     err: &mut E,
 ) -> u8
-    ensures runs { RunsRequest reading.at_fault (contents_in reading.list_form (F.contents files.now)) (record { memory = M.refused memory.new; folder = D.refused folder.new })
+    ensures runs { RunsRequest reading.at_fault (contents_in reading.list_form (F.contents files.now)) (record { memory = M.refused memory.new; folder = D.refused folder.new; files = F.reasons files.now })
         (request_of command.entry) (O.closed out.new) (O.Sink.state out.old) (O.Sink.state out.new) (E.state err.old) (E.state err.new) result }
     ensures leaves { LeavesBy (contents_in reading.list_form (F.contents files.now)) (request_of command.entry) (D.saved folder.old) (D.saved folder.new) result }
 {
@@ -321,7 +321,7 @@ fn answer_once<'a, M: Memory, F: Files, D: Folder, O: Output, E: Sink>(
     out: &mut O,
     err: &mut E,
 ) -> u8
-    ensures runs { RunsFound (Ok (reading, (None, request_of command.entry))) (F.contents files.now) (record { memory = M.refused memory.new; folder = D.refused folder.new })
+    ensures runs { RunsFound (Ok (reading, (None, request_of command.entry))) (F.contents files.now) (record { memory = M.refused memory.new; folder = D.refused folder.new; files = F.reasons files.now })
         (O.closed out.new) (O.Sink.state out.old) (O.Sink.state out.new) (E.state err.old) (E.state err.new) result }
     ensures leaves { LeavesFound (Ok (reading, (None, request_of command.entry))) (F.contents files.now) (D.saved folder.old) (D.saved folder.new) result }
 {
@@ -359,7 +359,7 @@ fn answer_into<'a, M: Memory, F: Files, D: Folder, E: Sink>(
     command: Command<'a>,
     err: &mut E,
 ) -> u8
-    ensures runs { IntoFound name.now reading (F.contents files.now) (record { memory = M.refused memory.new; folder = D.refused folder.new })
+    ensures runs { IntoFound name.now reading (F.contents files.now) (record { memory = M.refused memory.new; folder = D.refused folder.new; files = F.reasons files.now })
         (request_of command.entry) (E.state err.old) (E.state err.new) result }
     ensures leaves { LeavesTo (Some name.now) (contents_of reading (request_of command.entry) (F.contents files.now)) (request_of command.entry)
         (D.saved folder.old) (D.saved folder.new) result }
@@ -390,7 +390,7 @@ fn answer_to<'a, M: Memory, F: Files, D: Folder, O: Output, E: Sink>(
     out: &mut O,
     err: &mut E,
 ) -> u8
-    ensures runs { RunsFound (Ok (reading, (given target.entry, request_of command.entry))) (F.contents files.now) (record { memory = M.refused memory.new; folder = D.refused folder.new })
+    ensures runs { RunsFound (Ok (reading, (given target.entry, request_of command.entry))) (F.contents files.now) (record { memory = M.refused memory.new; folder = D.refused folder.new; files = F.reasons files.now })
         (O.closed out.new) (O.Sink.state out.old) (O.Sink.state out.new) (E.state err.old) (E.state err.new) result }
     ensures leaves { LeavesFound (Ok (reading, (given target.entry, request_of command.entry))) (F.contents files.now) (D.saved folder.old) (D.saved folder.new) result }
 {
@@ -410,7 +410,7 @@ fn answer_parts<M: Memory, F: Files, D: Folder, O: Output, E: Sink>(
     out: &mut O,
     err: &mut E,
 ) -> u8
-    ensures runs { RunsFound (read_request verb (given_parts parts.now)) (F.contents files.now) (record { memory = M.refused memory.new; folder = D.refused folder.new })
+    ensures runs { RunsFound (read_request verb (given_parts parts.now)) (F.contents files.now) (record { memory = M.refused memory.new; folder = D.refused folder.new; files = F.reasons files.now })
         (O.closed out.new) (O.Sink.state out.old) (O.Sink.state out.new) (E.state err.old) (E.state err.new) result }
     ensures leaves { LeavesFound (read_request verb (given_parts parts.now)) (F.contents files.now) (D.saved folder.old) (D.saved folder.new) result }
 {
@@ -437,7 +437,7 @@ fn answer_texts<M: Memory, F: Files, D: Folder, O: Output, E: Sink>(
     out: &mut O,
     err: &mut E,
 ) -> u8
-    ensures runs { RunsFound (line_request (map string_bytes texts.now)) (F.contents files.now) (record { memory = M.refused memory.new; folder = D.refused folder.new })
+    ensures runs { RunsFound (line_request (map string_bytes texts.now)) (F.contents files.now) (record { memory = M.refused memory.new; folder = D.refused folder.new; files = F.reasons files.now })
         (O.closed out.new) (O.Sink.state out.old) (O.Sink.state out.new) (E.state err.old) (E.state err.new) result }
     ensures leaves { LeavesFound (line_request (map string_bytes texts.now)) (F.contents files.now) (D.saved folder.old) (D.saved folder.new) result }
 {
@@ -471,7 +471,7 @@ fn answer_arguments<M: Memory, A: Arguments, F: Files, D: Folder, O: Output, E: 
     out: &mut O,
     err: &mut E,
 ) -> u8
-    ensures runs { Runs (A.told arguments.now) (F.contents files.now) (record { memory = M.refused memory.new; folder = D.refused folder.new })
+    ensures runs { Runs (A.told arguments.now) (F.contents files.now) (record { memory = M.refused memory.new; folder = D.refused folder.new; files = F.reasons files.now })
         (O.closed out.new) (O.Sink.state out.old) (O.Sink.state out.new) (E.state err.old) (E.state err.new) result }
     ensures leaves { RunLeaves (A.told arguments.now) (F.contents files.now) (D.saved folder.old) (D.saved folder.new) result }
 {
@@ -501,7 +501,7 @@ pub fn program<M: Memory, A: Arguments, F: Files, D: Folder, O: Output, E: Sink>
 ) -> u8
     ensures answers { AnswersTyped (A.told arguments.now) (F.contents files.now) (O.Sink.state out.old) (O.Sink.state out.new)
         (E.state err.old) (E.state err.new) result }
-    ensures runs { Runs (A.told arguments.now) (F.contents files.now) (record { memory = M.refused memory.new; folder = D.refused folder.new })
+    ensures runs { Runs (A.told arguments.now) (F.contents files.now) (record { memory = M.refused memory.new; folder = D.refused folder.new; files = F.reasons files.now })
         (O.closed out.new) (O.Sink.state out.old) (O.Sink.state out.new) (E.state err.old) (E.state err.new) result }
     ensures leaves { RunLeaves (A.told arguments.now) (F.contents files.now) (D.saved folder.old) (D.saved folder.new) result }
 {

@@ -123,7 +123,7 @@ one_name file name (other ∷ []) after e = cc
 one_name file name (other ∷ more ∷ before) after e = cc
 
 -- an error of a list that is read to its end or to a line in error
-pub list_failed : (contents : List ℕ → Option (List ℕ)) (file list : List ℕ) (refused : Bool) (run : Finished) → contents file ≡ Some list
+pub list_failed : (contents : List ℕ → Option (List ℕ)) (file list : List ℕ) (refused : Refusals) (run : Finished) → contents file ≡ Some list
     → length list < 18446744073709551613
     → Failed (contents_by Refused contents) refused (file ∷ []) (holding []) (holding run.out.items) (holding []) (holding run.err.items)
     → HasToldLine file (text_by Refused list) run
@@ -146,7 +146,7 @@ list_failed contents file list refused run told short (error.Input name why, (be
     let this : name.now ≡ file = one_name file name.now before after split in
     let known : contents_by Refused contents name.now ≡ Some (text_by Refused list) =
     ap (contents_by Refused contents) this ∙ told_text contents file list told in
-    let many : 18446744073709551613 ≤ length list = rw known at cause in
+    let many : 18446744073709551613 ≤ length list = rw known at cause.0 in
     absurd (omega (arith, many, short))
 list_failed contents file list refused run told short (error.File name why, unread, cause, same, says, two) = absurd unread
 list_failed contents file list refused run told short (error.NoMemory, unread, cause, same, says, two) = cc
@@ -156,7 +156,7 @@ pub merge_told : (contents : List ℕ → Option (List ℕ)) (list : List ℕ) (
     → length list < 18446744073709551613 → HasRun merge_words contents run → run.status ≡ 2 → HasToldLine (codes "list") (text_by Refused list) run
 merge_told contents list run told short (answered, (refused, closed, runs)) two =
     let done = subst (λ (k : ℕ). Runs (Some merge_words) contents refused closed (holding []) (holding run.out.items) (holding []) (holding run.err.items) k) two runs in
-    list_failed contents (codes "list") list refused.memory run told short
+    list_failed contents (codes "list") list refused run told short
     (lists_fail merge_words contents refused closed (holding []) (holding run.out.items) (holding []) (holding run.err.items) (reading_of (OfNetworks Refused) [])
     Merge (codes "list" ∷ [])
     (typed_asks merge_words [] (Lists Merge (codes "list" ∷ [])) (refl, refl, refl, refl, refl)) once refl in_words done)

@@ -1,7 +1,7 @@
 //! Arguments and files in memory, which tell their bytes.
 ghost use Rattle.std.specs.Prelude.{◌≡◌, Some, map};
 ghost use Rattle.std.specs.Str.{bytes_eq};
-ghost use Rattle.netset_uses.specs.Texts.{contents_of};
+ghost use Rattle.netset_uses.specs.Texts.{contents_of, reasons_of};
 
 use cidr_io::arguments::Arguments;
 use netset_commands::errors::Reason;
@@ -56,6 +56,8 @@ impl<'a> Files for TextFiles<'a> {
     type Reader = &'a [u8];
 
     ghost contents = { λ f. contents_of f.files.now };
+
+    ghost reasons = { λ f. reasons_of f.files.now };
 
     fn open(&self, name: &str) -> Result<&'a [u8], Reason> {
         let files = self.files;

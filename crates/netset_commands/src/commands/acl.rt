@@ -1,7 +1,7 @@
 //! What access lists permit, which of their rules no address reaches, and how two of them differ.
 ghost use Rattle.std.specs.Prelude.{◌≡◌, true, option_map, IfErr};
 ghost use Rattle.netset_commands.specs.Acl.{ReadsPermitted, ReadsRules, rules_error};
-ghost use Rattle.netset_commands.specs.Causes.{Cause, FileMayFail};
+ghost use Rattle.netset_commands.specs.Causes.{Cause, FileFails};
 ghost use Rattle.netset_commands.specs.Command.{question_of};
 ghost use Rattle.netset_commands.specs.Commands.{Acl};
 ghost use Rattle.netset_commands.specs.Findings.{IsClean};
@@ -56,7 +56,7 @@ fn read_rules<'a, M: Memory, F: Sources>(
     file: &'a str,
 ) -> Result<Rules, CommandError<'a>>
     ensures reads { ReadsRules (F.contents sources.now file.now) file.now result }
-    ensures cause { IfErr result (Cause (FileMayFail (F.contents sources.now)) (M.refused memory.new)) }
+    ensures cause { IfErr result (Cause (FileFails (F.contents sources.now) (F.reasons sources.now)) (M.refused memory.new)) }
 {
     let begun = begin_file(sources, file)?;
     let bytes = read_whole(memory, file, begun)?;
@@ -77,7 +77,7 @@ fn read_permitted<'a, M: Memory, F: Sources>(
     file: &'a str,
 ) -> Result<Sets, CommandError<'a>>
     ensures reads { ReadsPermitted (F.contents sources.now file.now) file.now result }
-    ensures cause { IfErr result (Cause (FileMayFail (F.contents sources.now)) (M.refused memory.new)) }
+    ensures cause { IfErr result (Cause (FileFails (F.contents sources.now) (F.reasons sources.now)) (M.refused memory.new)) }
 {
     let rules = read_rules(memory, sources, file)?;
     let sets = rules.permitted(memory.alloc());
@@ -94,7 +94,7 @@ fn permitted<'a, M: Memory, F: Sources, O: Sink>(
     out: &mut O,
 ) -> Result<Verdict, CommandError<'a>>
     ensures answers { AnswersRequest (F.contents sources.now) (Acl (AsPermitted (option_map (λ s. style_in s) style.entry)) file.now) (O.state out.old) (O.state out.new) result }
-    ensures cause { IfErr result (Cause (FileMayFail (F.contents sources.now)) (M.refused memory.new)) }
+    ensures cause { IfErr result (Cause (FileFails (F.contents sources.now) (F.reasons sources.now)) (M.refused memory.new)) }
 {
     let sets = read_permitted(memory, sources, file)?;
     write_by(memory, style, &sets, out)
@@ -119,7 +119,7 @@ fn shadowed<'a, M: Memory, F: Sources, O: Sink>(
     out: &mut O,
 ) -> Result<Verdict, CommandError<'a>>
     ensures answers { AnswersRequest (F.contents sources.now) (Acl AsShadowed file.now) (O.state out.old) (O.state out.new) result }
-    ensures cause { IfErr result (Cause (FileMayFail (F.contents sources.now)) (M.refused memory.new)) }
+    ensures cause { IfErr result (Cause (FileFails (F.contents sources.now) (F.reasons sources.now)) (M.refused memory.new)) }
 {
     let rules = read_rules(memory, sources, file)?;
     let text = rules.to_shadow_lines(memory.alloc(), file);
@@ -137,7 +137,7 @@ fn compared<'a, M: Memory, F: Sources, O: Sink>(
     out: &mut O,
 ) -> Result<Verdict, CommandError<'a>>
     ensures answers { AnswersRequest (F.contents sources.now) (Acl (AsCompared format old.now) new.now) (O.state out.old) (O.state out.new) result }
-    ensures cause { IfErr result (Cause (FileMayFail (F.contents sources.now)) (M.refused memory.new)) }
+    ensures cause { IfErr result (Cause (FileFails (F.contents sources.now) (F.reasons sources.now)) (M.refused memory.new)) }
 {
     let before = read_permitted(memory, sources, old)?;
     let after = read_permitted(memory, sources, new)?;
@@ -160,7 +160,7 @@ pub fn acl<'a, M: Memory, F: Sources, O: Sink>(
     out: &mut O,
 ) -> Result<Verdict, CommandError<'a>>
     ensures answers { AnswersRequest (F.contents sources.now) (Acl (question_of question.entry) file.now) (O.state out.old) (O.state out.new) result }
-    ensures cause { IfErr result (Cause (FileMayFail (F.contents sources.now)) (M.refused memory.new)) }
+    ensures cause { IfErr result (Cause (FileFails (F.contents sources.now) (F.reasons sources.now)) (M.refused memory.new)) }
 {
     match question {
         Question::Permitted(style) => permitted(memory, sources, style, file, out),

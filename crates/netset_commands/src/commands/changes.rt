@@ -5,7 +5,7 @@ ghost use Rattle.cidr_io.specs.Writing.{Answered, Writes};
 ghost use Rattle.netset_commands.specs.Answering.{AreSame, changed};
 ghost use Rattle.cidr_lists.specs.Changes.{change_layout_in, change_line, merged, printed_changes};
 ghost use Rattle.cidr_io.specs.Collecting.{Collects};
-ghost use Rattle.netset_commands.specs.Causes.{Cause, FileMayFail};
+ghost use Rattle.netset_commands.specs.Causes.{Cause, FileFails};
 ghost use Rattle.netset_commands.specs.Commands.{Diff};
 ghost use Rattle.netset_commands.specs.Program.{AnswersRequest};
 
@@ -104,7 +104,7 @@ pub fn diff<'a, M: Memory, F: Sources, O: Sink>(
     out: &mut O,
 ) -> Result<Verdict, CommandError<'a>>
     ensures answers { AnswersRequest (F.contents sources.now) (Diff format old.now new.now) (O.state out.old) (O.state out.new) result }
-    ensures cause { IfErr result (Cause (FileMayFail (F.contents sources.now)) (M.refused memory.new)) }
+    ensures cause { IfErr result (Cause (FileFails (F.contents sources.now) (F.reasons sources.now)) (M.refused memory.new)) }
 {
     let (old, new) = read_both(memory, sources, old, new)?;
     let added = new.stepped(Step::Difference, &old);

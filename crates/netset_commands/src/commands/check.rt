@@ -6,7 +6,7 @@ ghost use Rattle.cidr.specs.texts.Printed.{plain_text};
 ghost use Rattle.cidr_io.specs.Shown.{part_text, shown};
 ghost use Rattle.cidr_io.specs.Writing.{State};
 ghost use Rattle.cidr_io.specs.Collecting.{Collects};
-ghost use Rattle.netset_commands.specs.Causes.{Cause, FileMayFail};
+ghost use Rattle.netset_commands.specs.Causes.{Cause, FileFails};
 ghost use Rattle.netset_commands.specs.Commands.{Check};
 ghost use Rattle.netset_commands.specs.Findings.{AnswersNotes, AreNoted, NotesAll, NotesOn};
 ghost use Rattle.cidr_lists.specs.Findings.{entry_network, kind_rank, note_line};
@@ -219,7 +219,7 @@ pub fn check<'a, M: Memory, F: Sources, O: Sink>(
 ) -> Result<Verdict, CommandError<'a>>
     ensures answers { AnswersRequest (F.contents sources.now) (Check (map (λ file. file.now) files.now))
         (O.state out.old) (O.state out.new) result }
-    ensures cause { IfErr result (Cause (FileMayFail (F.contents sources.now)) (M.refused memory.new)) }
+    ensures cause { IfErr result (Cause (FileFails (F.contents sources.now) (F.reasons sources.now)) (M.refused memory.new)) }
 {
     let entries = read_entries(memory, sources, files)?;
     let near = near_lines(memory.alloc(), entries.as_slice());

@@ -1,6 +1,6 @@
 //! What addresses are for, by the registries of IANA.
 ghost use Rattle.std.specs.Prelude.{IfErr};
-ghost use Rattle.netset_commands.specs.Causes.{Cause, FileMayFail};
+ghost use Rattle.netset_commands.specs.Causes.{Cause, FileFails};
 ghost use Rattle.netset_commands.specs.Class.{IsNoAddressText};
 ghost use Rattle.netset_commands.specs.Commands.{Class};
 ghost use Rattle.netset_commands.specs.Program.{AnswersRequest};
@@ -56,7 +56,7 @@ fn tell_classes<'a, M: Memory, F: Sources, O: Sink>(
 ) -> Result<Verdict, CommandError<'a>>
     ensures answers { IsNoAddressText file.now → AnswersRequest (F.contents sources.now) (Class file.now)
         (O.state out.old) (O.state out.new) result }
-    ensures cause { IfErr result (Cause (FileMayFail (F.contents sources.now)) (M.refused memory.new)) }
+    ensures cause { IfErr result (Cause (FileFails (F.contents sources.now) (F.reasons sources.now)) (M.refused memory.new)) }
 {
     let Ok(reader) = sources.open(file) else {
         return Err(CommandError::Argument(file, ArgumentError::AddressOrFile));
@@ -79,7 +79,7 @@ pub fn class<'a, M: Memory, F: Sources, O: Sink>(
     out: &mut O,
 ) -> Result<Verdict, CommandError<'a>>
     ensures answers { AnswersRequest (F.contents sources.now) (Class operand.now) (O.state out.old) (O.state out.new) result }
-    ensures cause { IfErr result (Cause (FileMayFail (F.contents sources.now)) (M.refused memory.new)) }
+    ensures cause { IfErr result (Cause (FileFails (F.contents sources.now) (F.reasons sources.now)) (M.refused memory.new)) }
 {
     match operand.parse::<IpAddr>() {
         Ok(address) => {

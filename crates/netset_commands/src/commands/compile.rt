@@ -34,7 +34,7 @@ pub fn compile<'a, M: Memory, F: Sources, D: Folder>(
 ) -> Result<Verdict, CommandError<'a>>
     ensures compiled { IsCompiled (F.contents sources.now) form table.now name.now result }
     ensures leaves { Leaves (F.contents sources.now) (Compile form table.now name.now) (D.saved folder.old) (D.saved folder.new) result }
-    ensures cause { IsCaused (F.contents sources.now) (record { memory = M.refused memory.new; folder = D.refused folder.new })
+    ensures cause { IsCaused (F.contents sources.now) (record { memory = M.refused memory.new; folder = D.refused folder.new; files = F.reasons sources.now })
         (Compile form table.now name.now) result }
 {
     if let Some(e) = same_file(table, name) {

@@ -5,7 +5,7 @@ ghost use Rattle.cidr_io.specs.Collecting.{Collects};
 ghost use Rattle.cidr_io.specs.Writing.{Answered, Writes};
 ghost use Rattle.cidr_lists.specs.Sets.{networks_of};
 ghost use Rattle.netset_commands.specs.Answering.{DescribesNetworks};
-ghost use Rattle.netset_commands.specs.Causes.{Cause, FileMayFail};
+ghost use Rattle.netset_commands.specs.Causes.{Cause, FileFails};
 ghost use Rattle.netset_commands.specs.Commands.{Describe};
 ghost use Rattle.cidr_lists.specs.Descriptions.{mask_line};
 ghost use Rattle.cidr_lists.specs.Printing.{line};
@@ -111,7 +111,7 @@ fn describe_networks<'a, M: Memory, F: Sources, O: Sink>(
     out: &mut O,
 ) -> Result<Verdict, CommandError<'a>>
     ensures describes { DescribesNetworks (F.contents sources.now) what operand.now (O.state out.old) (O.state out.new) result }
-    ensures cause { IfErr result (Cause (FileMayFail (F.contents sources.now)) (M.refused memory.new)) }
+    ensures cause { IfErr result (Cause (FileFails (F.contents sources.now) (F.reasons sources.now)) (M.refused memory.new)) }
 {
     let sets = read_operand(memory, sources, operand)?;
     by_output(Verdict::Yes, write_told(out, what, &sets))
@@ -144,7 +144,7 @@ fn describe_mask<'a, M: Memory, F: Sources, O: Sink>(
     requires { (n : ℕ) → IsNumber operand.now n → 128 < n }
     ensures answers { AnswersRequest (F.contents sources.now) (Describe Masks operand.now)
         (O.state out.old) (O.state out.new) result }
-    ensures cause { IfErr result (Cause (FileMayFail (F.contents sources.now)) (M.refused memory.new)) }
+    ensures cause { IfErr result (Cause (FileFails (F.contents sources.now) (F.reasons sources.now)) (M.refused memory.new)) }
 {
     match mask_length_of(operand) {
         Some(len) => by_output(Verdict::Yes, write_length(out, len)),
@@ -162,7 +162,7 @@ pub fn describe<'a, M: Memory, F: Sources, O: Sink>(
 ) -> Result<Verdict, CommandError<'a>>
     ensures answers { AnswersRequest (F.contents sources.now) (Describe what operand.now)
         (O.state out.old) (O.state out.new) result }
-    ensures cause { IfErr result (Cause (FileMayFail (F.contents sources.now)) (M.refused memory.new)) }
+    ensures cause { IfErr result (Cause (FileFails (F.contents sources.now) (F.reasons sources.now)) (M.refused memory.new)) }
 {
     match what {
         Description::Zones => describe_networks(memory, sources, what, operand, out),

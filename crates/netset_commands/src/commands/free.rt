@@ -6,7 +6,7 @@ ghost use Rattle.cidr.specs.declared.cidr.combined.IpCidr.TheVariants.{V4, V6};
 ghost use Rattle.cidr_lists.specs.Formats.{before_next, layout_in, printed_walk, style_in};
 ghost use Rattle.cidr_lists.specs.Sets.{networks_of};
 ghost use Rattle.netset_commands.specs.Answering.{ReadsPool, TellsFree};
-ghost use Rattle.netset_commands.specs.Causes.{Cause, FileMayFail};
+ghost use Rattle.netset_commands.specs.Causes.{Cause, FileFails};
 ghost use Rattle.netset_commands.specs.Command.{extent_of};
 ghost use Rattle.netset_commands.specs.Commands.{Free};
 ghost use Rattle.netset_commands.specs.Free.{IsBadCount, IsMost, inside_of, less, taken, TakesLayout, TakesRows};
@@ -238,7 +238,7 @@ pub fn free<'a, M: Memory, F: Sources, O: Sink>(
     ensures answers { AnswersRequest (F.contents sources.now)
         (Free (option_map (λ s. style_in s) style.entry) (extent_of extent.entry) pool.now len.now (map (λ file. file.now) used.now))
         (O.state out.old) (O.state out.new) result }
-    ensures cause { IfErr result (Cause (FileMayFail (F.contents sources.now)) (M.refused memory.new)) }
+    ensures cause { IfErr result (Cause (FileFails (F.contents sources.now) (F.reasons sources.now)) (M.refused memory.new)) }
 {
     let Some(bits) = length_of(len) else {
         return Err(CommandError::Argument(len, ArgumentError::Length));

@@ -1,7 +1,7 @@
 //! The addresses of a network that no list has.
 ghost use Rattle.std.specs.Prelude.{[], map, option_map, IfErr};
 ghost use Rattle.cidr_lists.specs.Formats.{style_in};
-ghost use Rattle.netset_commands.specs.Causes.{Cause, FileMayFail};
+ghost use Rattle.netset_commands.specs.Causes.{Cause, FileFails};
 ghost use Rattle.netset_commands.specs.Commands.{NotIn};
 ghost use Rattle.netset_commands.specs.Program.{AnswersRequest};
 
@@ -29,7 +29,7 @@ pub fn not_in<'a, M: Memory, F: Sources, O: Sink>(
 ) -> Result<Verdict, CommandError<'a>>
     ensures answers { AnswersRequest (F.contents sources.now) (NotIn (option_map (λ s. style_in s) style.entry) net.now (map (λ file. file.now) files.now))
         (O.state out.old) (O.state out.new) result }
-    ensures cause { IfErr result (Cause (FileMayFail (F.contents sources.now)) (M.refused memory.new)) }
+    ensures cause { IfErr result (Cause (FileFails (F.contents sources.now) (F.reasons sources.now)) (M.refused memory.new)) }
 {
     let network = network_of(net)?;
     let several = read_several(memory, sources, files)?;

@@ -136,7 +136,7 @@ fn tell_address<'a, T: Networks, M: Memory, S: Sink>(
 ) -> Result<bool, CommandError<'a>>
     ensures tells { TellsBy look_object (T.LookUps.rows table.now) (Some address.now) (S.state out.old) (S.state out.new)
         block.old block.new result }
-    ensures cause { IfErr result (Cause (λ _. ⊥) (M.refused memory.new)) }
+    ensures cause { IfErr result (Cause (λ _ _. ⊥) (M.refused memory.new)) }
 {
     let made = object_of(memory.alloc(), table, address);
     let object = memory.watch(made)?;
@@ -156,7 +156,7 @@ fn tell_object<'a, T: Networks, M: Memory, S: Sink>(
 ) -> Result<bool, CommandError<'a>>
     ensures tells { TellsBy look_object (T.LookUps.rows table.now) asked.now (S.state out.old) (S.state out.new)
         block.old block.new result }
-    ensures cause { IfErr result (Cause (λ _. ⊥) (M.refused memory.new)) }
+    ensures cause { IfErr result (Cause (λ _ _. ⊥) (M.refused memory.new)) }
 {
     match asked {
         Some(address) => tell_address(memory, table, address, block, out),
@@ -178,7 +178,7 @@ fn tell_line<'a, T: Networks, M: Memory, S: Sink>(
     requires { telling ≢ Alone }
     ensures tells { TellsBy (told_line telling place line.now) (T.LookUps.rows table.now) asked.now (S.state out.old) (S.state out.new)
         block.old block.new result }
-    ensures cause { IfErr result (Cause (λ _. ⊥) (M.refused memory.new)) }
+    ensures cause { IfErr result (Cause (λ _ _. ⊥) (M.refused memory.new)) }
 {
     match telling {
         Telling::Objects => tell_object(memory, table, asked, block, out),
@@ -206,7 +206,7 @@ fn tell_part<'a, T: Networks, M: Memory, S: Sink>(
     requires { telling ≢ Alone }
     ensures tells { TellsPart telling place (T.LookUps.rows table.now) file.now number part.now has_more (S.state out.old) (S.state out.new)
         block.old block.new result }
-    ensures cause { IfErr result (Cause (λ _. ⊥) (M.refused memory.new)) }
+    ensures cause { IfErr result (Cause (λ _ _. ⊥) (M.refused memory.new)) }
 {
     if !is_line(part, has_more) {
         return Ok(false);
@@ -274,7 +274,7 @@ pub fn tell_lines<'a, T: Networks, M: Memory, R: Source + Drop, S: Sink>(
 ) -> Result<Verdict, CommandError<'a>>
     requires { telling ≢ Alone }
     ensures tells { TellsText telling place (T.LookUps.rows table.now) reader.old.left file.now (S.state out.old) (S.state out.new) result }
-    ensures cause { IfErr result (Cause (λ name. (name ≡ file.now) × TextFails reader.old.left) (M.refused memory.new)) }
+    ensures cause { IfErr result (Cause (λ name _. (name ≡ file.now) × TextFails reader.old.left) (M.refused memory.new)) }
 {
     if out.failed() {
         return Err(CommandError::Output);

@@ -2,7 +2,7 @@
 ghost use Rattle.std.specs.Prelude.{◌≡◌, ◌<◌, ◌≤◌, ◌⊎◌, [], false, length, map, IfErr, IfOk, IfSome, option_map, true};
 ghost use Rattle.std.specs.List.{AllZip};
 ghost use Rattle.cidr_io.specs.Lines.{MayFail as NoLineFails};
-ghost use Rattle.netset_commands.specs.Causes.{Cause, LookCause, FileMayFail, ReadCause, TextFails};
+ghost use Rattle.netset_commands.specs.Causes.{Cause, LookCause, FileFails, ReadCause, TextFails};
 ghost use Rattle.netset_commands.specs.Command.{choice_of};
 ghost use Rattle.netset_commands.specs.Commands.{Look};
 ghost use Rattle.netset_commands.specs.KeptLines.{IsBehindHeader, TellsFile, TellsLeft};
@@ -268,7 +268,7 @@ fn look_left<'a, T: Networks, M: Memory, R: Source + Drop, O: Sink>(
     out: &mut O,
 ) -> Result<Verdict, CommandError<'a>>
     ensures tells { TellsLeft false telling place (T.LookUps.rows table.now) reader.old.left file.now (O.state out.old) (O.state out.new) result }
-    ensures cause { IfErr result (Cause (λ name. (name ≡ file.now) × TextFails reader.old.left) (M.refused memory.new)) }
+    ensures cause { IfErr result (Cause (λ name _. (name ≡ file.now) × TextFails reader.old.left) (M.refused memory.new)) }
 {
     match telling {
         Telling::Alone => match look_all(memory, table, place, reader, out) {
@@ -307,7 +307,7 @@ fn look_behind<'a, T: Networks, M: Memory, R: Source + Drop, O: Sink>(
     out: &mut O,
 ) -> Result<Verdict, CommandError<'a>>
     ensures tells { TellsLeft true telling place (T.LookUps.rows table.now) reader.old.left file.now (O.state out.old) (O.state out.new) result }
-    ensures cause { IfErr result (Cause (λ name. (name ≡ file.now) × TextFails reader.old.left) (M.refused memory.new)) }
+    ensures cause { IfErr result (Cause (λ name _. (name ≡ file.now) × TextFails reader.old.left) (M.refused memory.new)) }
 {
     if out.failed() {
         return Err(CommandError::Output);
@@ -343,7 +343,7 @@ fn look_in<'a, T: Networks, M: Memory, F: Sources, O: Sink>(
     out: &mut O,
 ) -> Result<Verdict, CommandError<'a>>
     ensures tells { TellsFile headed telling place (T.LookUps.rows table.now) (F.contents sources.now file.now) file.now (O.state out.old) (O.state out.new) result }
-    ensures cause { IfErr result (Cause (FileMayFail (F.contents sources.now)) (M.refused memory.new)) }
+    ensures cause { IfErr result (Cause (FileFails (F.contents sources.now) (F.reasons sources.now)) (M.refused memory.new)) }
 {
     let reader = match sources.open(file) {
         Ok(reader) => reader,
@@ -372,7 +372,7 @@ pub fn look<'a, M: Memory, F: Sources, O: Sink>(
 ) -> Result<Verdict, CommandError<'a>>
     ensures answers { AnswersRequest (F.contents sources.now) (Look (choice_of choice.entry) form (map (λ w. w.now) options.now) table.now file.now)
         (O.state out.old) (O.state out.new) result }
-    ensures cause { IfErr result (Cause (FileMayFail (F.contents sources.now)) (M.refused memory.new)) }
+    ensures cause { IfErr result (Cause (FileFails (F.contents sources.now) (F.reasons sources.now)) (M.refused memory.new)) }
 {
     let place = asked_of(choice, has(options, "--any"))?;
     let keeps = has(options, "--keep");

@@ -4,7 +4,7 @@ ghost use Rattle.std.specs.Bool.{Decides};
 ghost use Rattle.cidr_io.specs.Lines.{MayFail as NoLineFails};
 ghost use Rattle.cidr_io.specs.Writing.{Writes};
 ghost use Rattle.cidr_io.specs.Collecting.{Collects};
-ghost use Rattle.netset_commands.specs.Causes.{Cause, FileMayFail, TextFails};
+ghost use Rattle.netset_commands.specs.Causes.{Cause, FileFails, TextFails};
 ghost use Rattle.netset_commands.specs.Command.{choice_of};
 ghost use Rattle.netset_commands.specs.Commands.{Match, MatchEach};
 ghost use Rattle.netset_commands.specs.Gathering.{Finishes, IsCounted, IsDone, IsNotReadFurther, NotesLong, Stops, Streams, StreamsEach, StreamsFile, GathersPart, TakesHeader, label_of, lines_of_part, rest_written, told_behind};
@@ -393,7 +393,7 @@ pub fn next_part<'a, M: Memory, R: Source + Drop>(
     ensures part { IfOk result (λ more. IfSome reader.old.left
         (λ text. IsNextLine text reader.new.line more reader.new.left)) }
     ensures stopped { IfErr result (IsNotReadFurther file.now) }
-    ensures cause { IfErr result (Cause (λ name. (name ≡ file.now) × NoLineFails reader.old.left) (M.refused memory.new)) }
+    ensures cause { IfErr result (Cause (λ name _. (name ≡ file.now) × NoLineFails reader.old.left) (M.refused memory.new)) }
 {
     match reader.read_line(memory) {
         Ok(has_more) => Ok(has_more),
@@ -414,7 +414,7 @@ fn stream<'a, M: Memory, R: Source + Drop, S: Sink>(
 ) -> Result<Verdict, CommandError<'a>>
     ensures streams { Streams matcher.now.headed (Picks matcher.now.anywhere matcher.now.column (IsInSets matcher.now.sets.now) matcher.now.inverted)
         (label_of matcher.now.name) matcher.now.written file.now reader.old.left (S.state out.old) (S.state out.new) result }
-    ensures cause { IfErr result (Cause (λ name. (name ≡ file.now) × TextFails reader.old.left) (M.refused memory.new)) }
+    ensures cause { IfErr result (Cause (λ name _. (name ≡ file.now) × TextFails reader.old.left) (M.refused memory.new)) }
 {
     if out.failed() {
         return Err(CommandError::Output);
@@ -451,7 +451,7 @@ fn match_file<'a, M: Memory, F: Sources, O: Sink>(
 ) -> Result<Verdict, CommandError<'a>>
     ensures streams { StreamsFile matcher.now.headed (Picks matcher.now.anywhere matcher.now.column (IsInSets matcher.now.sets.now) matcher.now.inverted)
         (label_of matcher.now.name) matcher.now.written file.now (F.contents sources.now file.now) (O.state out.old) (O.state out.new) result }
-    ensures cause { IfErr result (Cause (FileMayFail (F.contents sources.now)) (M.refused memory.new)) }
+    ensures cause { IfErr result (Cause (FileFails (F.contents sources.now) (F.reasons sources.now)) (M.refused memory.new)) }
 {
     let reader = match sources.open(file) {
         Ok(reader) => reader,
@@ -475,7 +475,7 @@ pub fn matching<'a, M: Memory, F: Sources, O: Sink>(
 ) -> Result<Verdict, CommandError<'a>>
     ensures answers { AnswersRequest (F.contents sources.now) (Match (choice_of choice.entry) (map (λ w. w.now) options.now) list.now file.now)
         (O.state out.old) (O.state out.new) result }
-    ensures cause { IfErr result (Cause (FileMayFail (F.contents sources.now)) (M.refused memory.new)) }
+    ensures cause { IfErr result (Cause (FileFails (F.contents sources.now) (F.reasons sources.now)) (M.refused memory.new)) }
 {
     let column = column_of(choice)?;
     let sets = read_addresses(memory, sources, list)?;
@@ -511,7 +511,7 @@ fn match_files<'a, M: Memory, F: Sources, O: Sink>(
 ) -> Result<Verdict, CommandError<'a>>
     ensures streams { StreamsEach (F.contents sources.now) matcher.now.headed (Picks matcher.now.anywhere matcher.now.column (IsInSets matcher.now.sets.now) matcher.now.inverted)
         matcher.now.written (map (λ file. file.now) files.now) (O.state out.old) (O.state out.new) result }
-    ensures cause { IfErr result (Cause (FileMayFail (F.contents sources.now)) (M.refused memory.new)) }
+    ensures cause { IfErr result (Cause (FileFails (F.contents sources.now) (F.reasons sources.now)) (M.refused memory.new)) }
 {
     if out.failed() {
         return Err(CommandError::Output);
@@ -549,7 +549,7 @@ pub fn match_each<'a, M: Memory, F: Sources, O: Sink>(
     ensures answers { AnswersRequest (F.contents sources.now)
         (MatchEach (choice_of choice.entry) (map (λ w. w.now) options.now) list.now (map (λ file. file.now) files.now))
         (O.state out.old) (O.state out.new) result }
-    ensures cause { IfErr result (Cause (FileMayFail (F.contents sources.now)) (M.refused memory.new)) }
+    ensures cause { IfErr result (Cause (FileFails (F.contents sources.now) (F.reasons sources.now)) (M.refused memory.new)) }
 {
     let column = column_of(choice)?;
     let sets = read_addresses(memory, sources, list)?;

@@ -11,7 +11,7 @@ ghost use Rattle.cidr_io.specs.Writing.{Answered, Writes};
 ghost use Rattle.cidr_lists.specs.LookUps.{gap};
 ghost use Rattle.cidr_lists.specs.Printing.{line};
 ghost use Rattle.cidr_lists.specs.Tables.{kept, resolved};
-ghost use Rattle.netset_commands.specs.Causes.{Cause, FileMayFail};
+ghost use Rattle.netset_commands.specs.Causes.{Cause, FileFails};
 ghost use Rattle.netset_commands.specs.Commands.{Same};
 ghost use Rattle.netset_commands.specs.Compared.{AreAlike, AreFound, AreOfFamily, found, named};
 ghost use Rattle.netset_commands.specs.Numbers.{HaveValues, value_in};
@@ -210,7 +210,7 @@ pub fn same<'a, M: Memory, F: Sources, O: Sink>(
     out: &mut O,
 ) -> Result<Verdict, CommandError<'a>>
     ensures answers { AnswersRequest (F.contents sources.now) (Same form old.now new.now) (O.state out.old) (O.state out.new) result }
-    ensures cause { IfErr result (Cause (FileMayFail (F.contents sources.now)) (M.refused memory.new)) }
+    ensures cause { IfErr result (Cause (FileFails (F.contents sources.now) (F.reasons sources.now)) (M.refused memory.new)) }
 {
     let before = read_table(memory, sources, form, old)?;
     let after = read_table(memory, sources, form, new)?;

@@ -10,7 +10,7 @@ ghost use Rattle.cidr_io.specs.Collecting.{Collects};
 ghost use Rattle.cidr_io.specs.Writing.{Answered};
 ghost use Rattle.cidr_lists.specs.LookUps.{gap};
 ghost use Rattle.cidr_lists.specs.Tables.{kept, resolved};
-ghost use Rattle.netset_commands.specs.Causes.{Cause, FileMayFail};
+ghost use Rattle.netset_commands.specs.Causes.{Cause, FileFails};
 ghost use Rattle.netset_commands.specs.Commands.{Smallest};
 ghost use Rattle.netset_commands.specs.Fewest.{AreFewestNumbers, TellsFewest, all_rows, told_row, told_value, with_numbers};
 ghost use Rattle.netset_commands.specs.Numbers.{AreAscending, HaveValues, numbered};
@@ -315,7 +315,7 @@ pub fn smallest<'a, M: Memory, F: Sources, O: Sink>(
     out: &mut O,
 ) -> Result<Verdict, CommandError<'a>>
     ensures answers { AnswersRequest (F.contents sources.now) (Smallest holes form table.now) (O.state out.old) (O.state out.new) result }
-    ensures cause { IfErr result (Cause (FileMayFail (F.contents sources.now)) (M.refused memory.new)) }
+    ensures cause { IfErr result (Cause (FileFails (F.contents sources.now) (F.reasons sources.now)) (M.refused memory.new)) }
 {
     let rows = read_table(memory, sources, form, table)?;
     if is_refused(holes, &rows) {

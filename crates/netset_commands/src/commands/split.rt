@@ -4,7 +4,7 @@ ghost use Rattle.std.specs.Bool.{Decides};
 ghost use Rattle.cidr_io.specs.Writing.{Answered};
 ghost use Rattle.cidr_lists.specs.Formats.{printed_walk, style_in};
 ghost use Rattle.netset_commands.specs.Answering.{SplitsList, SplitsNetwork};
-ghost use Rattle.netset_commands.specs.Causes.{Cause, FileMayFail};
+ghost use Rattle.netset_commands.specs.Causes.{Cause, FileFails};
 ghost use Rattle.netset_commands.specs.Commands.{Split};
 ghost use Rattle.netset_commands.specs.Free.{inside_of};
 ghost use Rattle.netset_commands.specs.Program.{AnswersRequest};
@@ -82,7 +82,7 @@ fn split_list<'a, M: Memory, F: Sources, O: Sink>(
     out: &mut O,
 ) -> Result<Verdict, CommandError<'a>>
     ensures splits { SplitsList (F.contents sources.now) (option_map (λ s. style_in s) style.entry) file.now len.now (O.state out.old) (O.state out.new) result }
-    ensures cause { IfErr result (Cause (FileMayFail (F.contents sources.now)) (M.refused memory.new)) }
+    ensures cause { IfErr result (Cause (FileFails (F.contents sources.now) (F.reasons sources.now)) (M.refused memory.new)) }
 {
     let Some(bits) = length_of(len) else {
         return Err(CommandError::Argument(len, ArgumentError::Length));
@@ -102,7 +102,7 @@ pub fn split<'a, M: Memory, F: Sources, O: Sink>(
 ) -> Result<Verdict, CommandError<'a>>
     ensures answers { AnswersRequest (F.contents sources.now) (Split (option_map (λ s. style_in s) style.entry) operand.now len.now)
         (O.state out.old) (O.state out.new) result }
-    ensures cause { IfErr result (Cause (FileMayFail (F.contents sources.now)) (M.refused memory.new)) }
+    ensures cause { IfErr result (Cause (FileFails (F.contents sources.now) (F.reasons sources.now)) (M.refused memory.new)) }
 {
     match operand.parse::<IpCidr>() {
         Ok(network) => split_network(style, &network, len, out),

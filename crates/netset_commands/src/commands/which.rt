@@ -4,7 +4,7 @@ ghost use Rattle.std.specs.List.{flat_map, list_any};
 ghost use Rattle.cidr.specs.either.IpAddress.{IsIpText};
 ghost use Rattle.cidr_io.specs.Collecting.{Collects};
 ghost use Rattle.cidr_io.specs.Writing.{Answered};
-ghost use Rattle.netset_commands.specs.Causes.{Cause, FileMayFail};
+ghost use Rattle.netset_commands.specs.Causes.{Cause, FileFails};
 ghost use Rattle.netset_commands.specs.Commands.{Which};
 ghost use Rattle.netset_commands.specs.Program.{AnswersRequest, IsBadArgument};
 ghost use Rattle.netset_commands.specs.Which.{IsNoAddressArgument, has_address, which_line};
@@ -105,7 +105,7 @@ pub fn which<'a, M: Memory, F: Sources, O: Sink>(
 ) -> Result<Verdict, CommandError<'a>>
     ensures answers { AnswersRequest (F.contents sources.now) (Which address.now (map (λ file. file.now) files.now))
         (O.state out.old) (O.state out.new) result }
-    ensures cause { IfErr result (Cause (FileMayFail (F.contents sources.now)) (M.refused memory.new)) }
+    ensures cause { IfErr result (Cause (FileFails (F.contents sources.now) (F.reasons sources.now)) (M.refused memory.new)) }
 {
     let address = address_of(address)?;
     let entries = read_entries(memory, sources, files)?;

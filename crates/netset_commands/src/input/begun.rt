@@ -2,7 +2,7 @@
 ghost use Rattle.std.specs.Prelude.{◌≡◌, None, Some, IfErr, IfNone, IfOk, IfSome, false, option_to_list};
 ghost use Rattle.cidr_lists.specs.Lists.{Text};
 ghost use Rattle.netset_commands.specs.Begun.{IsBegunAt, begun_left};
-ghost use Rattle.netset_commands.specs.Causes.{Cause, FileMayFail};
+ghost use Rattle.netset_commands.specs.Causes.{Cause, FileFails};
 ghost use Rattle.netset_commands.specs.Compiled.{begins_file};
 ghost use Rattle.netset_commands.specs.Gathering.{IsNotReadFurther};
 
@@ -80,8 +80,9 @@ pub fn begin_file<'a, F: Sources>(
 ) -> Result<Begun<F::Reader>, CommandError<'a>>
     ensures told { IfOk result (λ begun. (text : Text) → F.contents sources.now file.now ≡ Some text
         → IsBegunAt F.Reader.left text.bytes begun) }
+    ensures opened { IfOk result (λ _. F.reasons sources.now file.now ≡ None) }
     ensures stopped { IfErr result (IsNotReadFurther file.now) }
-    ensures cause { IfErr result (Cause (FileMayFail (F.contents sources.now)) false) }
+    ensures cause { IfErr result (Cause (FileFails (F.contents sources.now) (F.reasons sources.now)) false) }
 {
     let reader = match sources.open(file) {
         Ok(reader) => reader,
@@ -102,7 +103,7 @@ pub fn read_whole<'a, M: Memory, S: Source + Drop>(
     ensures bytes { IfOk result (λ bytes. IfSome (begun_left S.left begun) (λ text. bytes.items ≡ text)) }
     ensures stopped { IfErr result (IsNotReadFurther file.now) }
     ensures cause { IfErr result
-        (Cause (λ name. (name ≡ file.now) × (begun_left S.left begun ≡ None)) (M.refused memory.new)) }
+        (Cause (λ name _. (name ≡ file.now) × (begun_left S.left begun ≡ None)) (M.refused memory.new)) }
 {
     match read_to_end(memory, begun) {
         Ok(bytes) => Ok(bytes),

@@ -1,6 +1,6 @@
 //! Reading the lines of lists that have a network or a host.
 ghost use Rattle.std.specs.Prelude.{◌≡◌, ◌∷◌, true, IfErr, IfSome, MatchResult, OnErr, OnOk, Some, map};
-ghost use Rattle.netset_commands.specs.Causes.{Cause, FileMayFail, ReadCause, TextFails};
+ghost use Rattle.netset_commands.specs.Causes.{Cause, FileFails, ReadCause, TextFails};
 ghost use Rattle.netset_commands.specs.Commands.{read_files};
 ghost use Rattle.netset_commands.specs.Entries.{AddsEntries, AddsEntry, CopiesEntries};
 ghost use Rattle.netset_commands.specs.Unchecked.{AddsFileEntries, AreToldEntries, IsUnchecked};
@@ -83,7 +83,7 @@ fn add_opened<'a, M: Memory, F: Sources>(
     entries: &mut Vec<Entry<'a>>,
 ) -> Result<(), CommandError<'a>>
     ensures adds { AddsFileEntries (F.contents sources.now file.now) file.now entries.old.items entries.new.items result }
-    ensures cause { IfErr result (Cause (FileMayFail (F.contents sources.now)) (M.refused memory.new)) }
+    ensures cause { IfErr result (Cause (FileFails (F.contents sources.now) (F.reasons sources.now)) (M.refused memory.new)) }
 {
     let reader = match sources.open(file) {
         Ok(reader) => reader,
@@ -132,7 +132,7 @@ fn add_file<'a, M: Memory, F: Sources>(
     entries: &mut Vec<Entry<'a>>,
 ) -> Result<(), CommandError<'a>>
     ensures adds { AddsFileEntries (F.contents sources.now file.now) file.now entries.old.items entries.new.items result }
-    ensures cause { IfErr result (Cause (FileMayFail (F.contents sources.now)) (M.refused memory.new)) }
+    ensures cause { IfErr result (Cause (FileFails (F.contents sources.now) (F.reasons sources.now)) (M.refused memory.new)) }
 {
     match sources.kept(file) {
         Some(Given::Lines(Said::Hosts(kept))) => {
@@ -153,7 +153,7 @@ fn read_named<'a, M: Memory, F: Sources>(
     ensures reads { MatchResult result
         (λ entries. AreToldEntries (F.contents sources.now) (file.now ∷ map (λ file. file.now) files.now) entries.items)
         (IsUnchecked (F.contents sources.now) (file.now ∷ map (λ file. file.now) files.now)) }
-    ensures cause { IfErr result (Cause (FileMayFail (F.contents sources.now)) (M.refused memory.new)) }
+    ensures cause { IfErr result (Cause (FileFails (F.contents sources.now) (F.reasons sources.now)) (M.refused memory.new)) }
 {
     let mut entries = Vec::new(memory.alloc());
     add_file(memory, sources, file, &mut entries)?;
@@ -172,7 +172,7 @@ pub fn read_entries<'a, M: Memory, F: Sources>(
     ensures reads { MatchResult result
         (λ entries. AreToldEntries (F.contents sources.now) (read_files (map (λ file. file.now) files.now)) entries.items)
         (IsUnchecked (F.contents sources.now) (read_files (map (λ file. file.now) files.now))) }
-    ensures cause { IfErr result (Cause (FileMayFail (F.contents sources.now)) (M.refused memory.new)) }
+    ensures cause { IfErr result (Cause (FileFails (F.contents sources.now) (F.reasons sources.now)) (M.refused memory.new)) }
 {
     match files.split_first() {
         Some((file, files)) => read_named(memory, sources, file, files),

@@ -1,5 +1,6 @@
 //! The files of a run and its standard input.
 ghost use Rattle.std.specs.Prelude.{◌≡◌, ℕ, List, Option, Some, None, IfErr, IfOk, IfSome};
+ghost use Rattle.netset_commands.specs.Causes.{IsToldReason};
 ghost use Rattle.netset_commands.specs.Keeping.{IsGivenBy};
 ghost use Rattle.cidr_lists.specs.Lists.{Text};
 ghost use Rattle.netset_commands.specs.Opened.{reason_of};
@@ -18,31 +19,45 @@ use std::{fs, io, rt};
 
 /// What a run reads: its files and its standard input.
 pub trait Files {
+    ghost use Rattle.netset_commands.specs.declared.errors.Reason.{Reason};
+
     type Reader: Source + Drop;
 
     /// The bytes of the file of a name, if they are told: it can be read then. The name `-` is that of the standard
     /// input.
     ghost contents: { Self → List ℕ → Option (List ℕ) };
 
+    /// Why the file of a name can't be opened, if that is told.
+    ghost reasons: { Self → List ℕ → Option Reason };
+
     /// Opens the file of this name, or tells why it can't be opened.
     fn open(&self, name: &str) -> Result<Self::Reader, Reason>
         ensures left { IfOk result (λ reader. (text : List ℕ) → contents self.now name.now ≡ Some text
             → Self.Reader.left reader ≡ Some text) }
-        ensures none { IfErr result (λ _. contents self.now name.now ≡ None) };
+        ensures opened { IfOk result (λ _. reasons self.now name.now ≡ None) }
+        ensures none { IfErr result (λ _. contents self.now name.now ≡ None) }
+        ensures why { IfErr result (IsToldReason (reasons self.now name.now)) };
 }
 
 /// What lists are read from, and how.
 pub trait Sources {
+    ghost use Rattle.netset_commands.specs.declared.errors.Reason.{Reason};
+
     type Reader: Source + Drop;
 
     /// The list of the file of a name, if it is told. The name `-` is that of the standard input.
     ghost contents: { Self → List ℕ → Option Text };
 
+    /// Why the file of a name can't be opened, if that is told.
+    ghost reasons: { Self → List ℕ → Option Reason };
+
     /// Opens the file of this name, or tells why it can't be opened.
     fn open(&self, name: &str) -> Result<Self::Reader, Reason>
         ensures left { IfOk result (λ reader. (text : Text) → contents self.now name.now ≡ Some text
             → Self.Reader.left reader ≡ Some text.bytes) }
-        ensures none { IfErr result (λ _. contents self.now name.now ≡ None) };
+        ensures opened { IfOk result (λ _. reasons self.now name.now ≡ None) }
+        ensures none { IfErr result (λ _. contents self.now name.now ≡ None) }
+        ensures why { IfErr result (IsToldReason (reasons self.now name.now)) };
 
     /// What is done with a set bit after the prefix of a network.
     fn list_form(&self) -> ListForm
@@ -65,6 +80,8 @@ impl<F: Files> Sources for ReadBy<'_, F> {
     type Reader = F::Reader;
 
     ghost contents = { λ s. contents_in s.list_form (F.contents s.files.now) };
+
+    ghost reasons = { λ s. F.reasons s.files.now };
 
     fn open(&self, name: &str) -> Result<F::Reader, Reason> {
         self.files.open(name)
@@ -142,6 +159,8 @@ impl<'a, R: rt::Files + Input + Clock + Eprint> Files for System<'a, R> {
     type Reader = Watched<'a, Opened<R::File, R::Reader>, R>;
 
     ghost contents = { λ _ _. None };
+
+    ghost reasons = { λ _ _. None };
 
     fn open(&self, name: &str) -> Result<Self::Reader, Reason> {
         let source = if name == "-" {

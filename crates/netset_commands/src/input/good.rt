@@ -1,5 +1,5 @@
 //! Lists without their lines in error.
-ghost use Rattle.netset_commands.specs.Keeping.{good_files};
+ghost use Rattle.netset_commands.specs.Keeping.{good_files, reasons_beside};
 
 use crate::errors::Reason;
 use crate::input::begun::Given;
@@ -40,6 +40,8 @@ impl<'a, F: Sources> Sources for GoodLists<'a, F> {
     type Reader = GoodReader<'a, F::Reader>;
 
     ghost contents = { λ s. good_files s.list_form s.lists.now (F.contents s.sources.now) };
+
+    ghost reasons = { λ s. reasons_beside s.lists.now (F.reasons s.sources.now) };
 
     fn open(&self, name: &str) -> Result<Self::Reader, Reason> {
         let lists = self.lists;

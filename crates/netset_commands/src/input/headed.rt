@@ -62,6 +62,8 @@ impl<F: Files> Files for Headed<'_, F> {
 
     ghost contents = { λ h. headed (texts h.tables.now) (F.contents h.files.now) };
 
+    ghost reasons = { λ h. F.reasons h.files.now };
+
     fn open(&self, name: &str) -> Result<Self::Reader, Reason> {
         let source = self.files.open(name)?;
         Ok(HeadedReader {

@@ -1,6 +1,6 @@
 //! Telling every line in error of the lists of a command, in the pass that reads them, and keeping what the others say.
 ghost use Rattle.std.specs.Prelude.{◌≡◌, ◌∷◌, ◌++◌, ◌+◌, drop, false, length, map, option_copied, take, true, MatchResult, IfErr, IfOk, OnErr};
-ghost use Rattle.netset_commands.specs.Causes.{Cause, FileMayFail, ReadCause, TextFails};
+ghost use Rattle.netset_commands.specs.Causes.{Cause, FileFails, ReadCause, TextFails};
 ghost use Rattle.netset_commands.specs.Keeping.{AddsBy, AreKept, IsNothingSaid, KeepsLine, KeepsListLines, KeepsList, good_bytes, lined, list_named};
 ghost use Rattle.netset_commands.specs.Loading.{AreListsLoaded, IsUnloaded};
 
@@ -217,7 +217,7 @@ fn keep_list<'a, M: Memory, F: Sources, E: Sink>(
     err: &mut E,
 ) -> Result<(Kept<'a>, bool), CommandError<'a>>
     ensures keeps { KeepsList takes_file (F.contents sources.now file.now) kind file.now skips (E.state err.old) (E.state err.new) result }
-    ensures cause { IfErr result (Cause (FileMayFail (F.contents sources.now)) (M.refused memory.new)) }
+    ensures cause { IfErr result (Cause (FileFails (F.contents sources.now) (F.reasons sources.now)) (M.refused memory.new)) }
 {
     let begun = begin_file(sources, file)?;
     if takes_file && begun.is_stored() {
@@ -298,6 +298,8 @@ impl<F: Sources> Sources for Loaded<'_, F> {
 
     ghost contents = { λ s. F.contents s };
 
+    ghost reasons = { λ s. F.reasons s };
+
     fn open(&self, name: &str) -> Result<F::Reader, Reason> {
         self.sources.open(name)
     }
@@ -330,7 +332,7 @@ pub fn load<'a, M: Memory, F: Sources, E: Sink>(
         (λ loaded. AreListsLoaded takes_file skips (F.contents sources.now) kind (map (λ name. name.now) names.now)
         (E.state err.old) (E.state err.new) loaded.0.items loaded.1)
         (IsUnloaded (lined takes_file (F.contents sources.now)) kind (map (λ name. name.now) names.now) (E.state err.old) (E.state err.new)) }
-    ensures cause { IfErr result (Cause (FileMayFail (F.contents sources.now)) (M.refused memory.new)) }
+    ensures cause { IfErr result (Cause (FileFails (F.contents sources.now) (F.reasons sources.now)) (M.refused memory.new)) }
 {
     let mut lists = Vec::new(memory.alloc());
     let mut found = false;

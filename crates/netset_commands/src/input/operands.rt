@@ -1,7 +1,7 @@
 //! Reading an operand that is a network, an address or the name of a file.
 ghost use Rattle.std.specs.Prelude.{◌≡◌, map, IfErr};
 ghost use Rattle.netset_commands.specs.Answering.{ReadsListed, ReadsOperand, ReadsPool, operand_error};
-ghost use Rattle.netset_commands.specs.Causes.{Cause, FileMayFail};
+ghost use Rattle.netset_commands.specs.Causes.{Cause, FileFails};
 
 use crate::errors::{ArgumentError, CommandError};
 use crate::input::files::Sources;
@@ -31,7 +31,7 @@ pub fn read_listed<'a, M: Memory, F: Sources>(
     operand: &'a str,
 ) -> Result<Sets, CommandError<'a>>
     ensures reads { ReadsListed (F.contents sources.now) operand.now result }
-    ensures cause { IfErr result (Cause (FileMayFail (F.contents sources.now)) (M.refused memory.new)) }
+    ensures cause { IfErr result (Cause (FileFails (F.contents sources.now) (F.reasons sources.now)) (M.refused memory.new)) }
 {
     match read_file(memory, sources, operand) {
         Ok(sets) => Ok(sets),
@@ -47,7 +47,7 @@ pub fn read_operand<'a, M: Memory, F: Sources>(
     operand: &'a str,
 ) -> Result<Sets, CommandError<'a>>
     ensures reads { ReadsOperand (F.contents sources.now) operand.now result }
-    ensures cause { IfErr result (Cause (FileMayFail (F.contents sources.now)) (M.refused memory.new)) }
+    ensures cause { IfErr result (Cause (FileFails (F.contents sources.now) (F.reasons sources.now)) (M.refused memory.new)) }
 {
     match operand.parse::<IpCidr>() {
         Ok(network) => {
@@ -67,7 +67,7 @@ pub fn read_pool<'a, M: Memory, F: Sources>(
     used: &[&'a str],
 ) -> Result<Several, CommandError<'a>>
     ensures reads { ReadsPool (F.contents sources.now) pool.now (map (λ file. file.now) used.now) result }
-    ensures cause { IfErr result (Cause (FileMayFail (F.contents sources.now)) (M.refused memory.new)) }
+    ensures cause { IfErr result (Cause (FileFails (F.contents sources.now) (F.reasons sources.now)) (M.refused memory.new)) }
 {
     let first = read_operand(memory, sources, pool)?;
     let others = read_all(memory, sources, used)?;

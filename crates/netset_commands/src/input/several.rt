@@ -1,6 +1,6 @@
 //! Reading the lists of files, each as a set.
 ghost use Rattle.std.specs.Prelude.{◌∷◌, map, IfErr, MatchResult};
-ghost use Rattle.netset_commands.specs.Causes.{Cause, FileMayFail};
+ghost use Rattle.netset_commands.specs.Causes.{Cause, FileFails};
 ghost use Rattle.netset_commands.specs.Commands.{read_files};
 ghost use Rattle.netset_commands.specs.Answering.{AddsFile, AreRead, GivesList, ReadsAddresses, ReadsBoth, ReadsFile, ReadsSeveral};
 ghost use Rattle.netset_commands.specs.Program.{IsUnread};
@@ -31,7 +31,7 @@ fn add_opened<'a, M: Memory, F: Sources>(
     lists: &mut Lists,
 ) -> Result<(), CommandError<'a>>
     ensures adds { AddsFile (F.contents sources.now file.now) file.now lists.old lists.new result }
-    ensures cause { IfErr result (Cause (FileMayFail (F.contents sources.now)) (M.refused memory.new)) }
+    ensures cause { IfErr result (Cause (FileFails (F.contents sources.now) (F.reasons sources.now)) (M.refused memory.new)) }
 {
     let reader = match sources.open(file) {
         Ok(reader) => reader,
@@ -53,7 +53,7 @@ fn add_file<'a, M: Memory, F: Sources>(
     lists: &mut Lists,
 ) -> Result<(), CommandError<'a>>
     ensures adds { AddsFile (F.contents sources.now file.now) file.now lists.old lists.new result }
-    ensures cause { IfErr result (Cause (FileMayFail (F.contents sources.now)) (M.refused memory.new)) }
+    ensures cause { IfErr result (Cause (FileFails (F.contents sources.now) (F.reasons sources.now)) (M.refused memory.new)) }
 {
     match sources.kept(file) {
         Some(Given::Lines(Said::Networks(kept))) => {
@@ -72,7 +72,7 @@ pub fn read_file<'a, M: Memory, F: Sources>(
     file: &'a str,
 ) -> Result<Sets, CommandError<'a>>
     ensures reads { ReadsFile (F.contents sources.now file.now) file.now result }
-    ensures cause { IfErr result (Cause (FileMayFail (F.contents sources.now)) (M.refused memory.new)) }
+    ensures cause { IfErr result (Cause (FileFails (F.contents sources.now) (F.reasons sources.now)) (M.refused memory.new)) }
 {
     let mut lists = Lists::new(memory.alloc());
     add_file(memory, sources, file, &mut lists)?;
@@ -86,7 +86,7 @@ fn read_given<'a, M: Memory, F: Sources>(
     file: &'a str,
 ) -> Result<Given<Sets>, CommandError<'a>>
     ensures gives { GivesList (F.contents sources.now file.now) file.now result }
-    ensures cause { IfErr result (Cause (FileMayFail (F.contents sources.now)) (M.refused memory.new)) }
+    ensures cause { IfErr result (Cause (FileFails (F.contents sources.now) (F.reasons sources.now)) (M.refused memory.new)) }
 {
     let begun = begin_file(sources, file)?;
     if begun.is_stored() {
@@ -107,7 +107,7 @@ fn give_list<'a, M: Memory, F: Sources>(
     file: &'a str,
 ) -> Result<Given<Sets>, CommandError<'a>>
     ensures gives { GivesList (F.contents sources.now file.now) file.now result }
-    ensures cause { IfErr result (Cause (FileMayFail (F.contents sources.now)) (M.refused memory.new)) }
+    ensures cause { IfErr result (Cause (FileFails (F.contents sources.now) (F.reasons sources.now)) (M.refused memory.new)) }
 {
     match sources.kept(file) {
         Some(Given::Lines(Said::Networks(kept))) => {
@@ -132,7 +132,7 @@ pub fn read_addresses<'a, M: Memory, F: Sources>(
     file: &'a str,
 ) -> Result<Sets, CommandError<'a>>
     ensures reads { ReadsAddresses (F.contents sources.now file.now) file.now result }
-    ensures cause { IfErr result (Cause (FileMayFail (F.contents sources.now)) (M.refused memory.new)) }
+    ensures cause { IfErr result (Cause (FileFails (F.contents sources.now) (F.reasons sources.now)) (M.refused memory.new)) }
 {
     match give_list(memory, sources, file)? {
         Given::Lines(sets) => Ok(sets),
@@ -153,7 +153,7 @@ pub fn read_all<'a, M: Memory, F: Sources>(
 ) -> Result<Vec<Sets>, CommandError<'a>>
     ensures reads { MatchResult result (λ sets. AreRead (F.contents sources.now) (map (λ file. file.now) files.now) sets.items)
         (IsUnread (F.contents sources.now) (map (λ file. file.now) files.now)) }
-    ensures cause { IfErr result (Cause (FileMayFail (F.contents sources.now)) (M.refused memory.new)) }
+    ensures cause { IfErr result (Cause (FileFails (F.contents sources.now) (F.reasons sources.now)) (M.refused memory.new)) }
 {
     let mut sets = Vec::new(memory.alloc());
     for file in files {
@@ -171,7 +171,7 @@ pub fn read_both<'a, M: Memory, F: Sources>(
     new: &'a str,
 ) -> Result<(Sets, Sets), CommandError<'a>>
     ensures reads { ReadsBoth (F.contents sources.now) old.now new.now result }
-    ensures cause { IfErr result (Cause (FileMayFail (F.contents sources.now)) (M.refused memory.new)) }
+    ensures cause { IfErr result (Cause (FileFails (F.contents sources.now) (F.reasons sources.now)) (M.refused memory.new)) }
 {
     let these = read_file(memory, sources, old)?;
     let those = read_file(memory, sources, new)?;
@@ -186,7 +186,7 @@ pub fn read_named<'a, M: Memory, F: Sources>(
     files: &[&'a str],
 ) -> Result<Several, CommandError<'a>>
     ensures reads { ReadsSeveral (F.contents sources.now) (file.now ∷ map (λ file. file.now) files.now) result }
-    ensures cause { IfErr result (Cause (FileMayFail (F.contents sources.now)) (M.refused memory.new)) }
+    ensures cause { IfErr result (Cause (FileFails (F.contents sources.now) (F.reasons sources.now)) (M.refused memory.new)) }
 {
     let first = read_file(memory, sources, file)?;
     let others = read_all(memory, sources, files)?;
@@ -200,7 +200,7 @@ pub fn read_several<'a, M: Memory, F: Sources>(
     files: &[&'a str],
 ) -> Result<Several, CommandError<'a>>
     ensures reads { ReadsSeveral (F.contents sources.now) (read_files (map (λ file. file.now) files.now)) result }
-    ensures cause { IfErr result (Cause (FileMayFail (F.contents sources.now)) (M.refused memory.new)) }
+    ensures cause { IfErr result (Cause (FileFails (F.contents sources.now) (F.reasons sources.now)) (M.refused memory.new)) }
 {
     match files.split_first() {
         Some((file, files)) => read_named(memory, sources, file, files),

@@ -72,7 +72,7 @@ impl<'a> Stored<'a> {
         bytes: &'a [u8],
     ) -> Result<Stored<'a>, CommandError<'n>>
         ensures checks { ChecksFile name.now bytes.now result }
-        ensures cause { IfErr result (Cause (λ _. ⊥) (M.refused memory.new)) }
+        ensures cause { IfErr result (Cause (λ _ _. ⊥) (M.refused memory.new)) }
     {
         let made = Stored::of_bytes(memory.alloc(), bytes);
         match memory.watch(made)? {

@@ -3,7 +3,7 @@ ghost use Rattle.std.specs.Prelude.{◌≡◌, Bool, List, ℕ, Option, None, So
 ghost use Rattle.cidr.specs.declared.addr.ip.IpAddr.{IpAddr as Address};
 ghost use Rattle.cidr.specs.declared.family.Family.{Family as AddressFamily};
 ghost use Rattle.cidr_io.specs.Collecting.{Collects};
-ghost use Rattle.netset_commands.specs.Causes.{Cause, FileMayFail};
+ghost use Rattle.netset_commands.specs.Causes.{Cause, FileFails};
 ghost use Rattle.cidr_lists.specs.LookUps.{found_line};
 ghost use Rattle.netset_commands.specs.KeptLines.{IsRowOf};
 ghost use Rattle.netset_commands.specs.LookUps.{GivesRows, GivesTable, HasAnswer, LooksUp, PushesFound, ReadsFileRows, answer_of, ReadsTable, unread};
@@ -232,7 +232,7 @@ fn read_opened<'a, M: Memory, F: Sources>(
     file: &'a str,
 ) -> Result<Rows, CommandError<'a>>
     ensures reads { ReadsFileRows form (F.contents sources.now file.now) file.now result }
-    ensures cause { IfErr result (Cause (FileMayFail (F.contents sources.now)) (M.refused memory.new)) }
+    ensures cause { IfErr result (Cause (FileFails (F.contents sources.now) (F.reasons sources.now)) (M.refused memory.new)) }
 {
     let reader = match sources.open(file) {
         Ok(reader) => reader,
@@ -252,7 +252,7 @@ fn read_given<'a, M: Memory, F: Sources>(
     file: &'a str,
 ) -> Result<Given<Rows>, CommandError<'a>>
     ensures gives { GivesRows form (F.contents sources.now file.now) file.now result }
-    ensures cause { IfErr result (Cause (FileMayFail (F.contents sources.now)) (M.refused memory.new)) }
+    ensures cause { IfErr result (Cause (FileFails (F.contents sources.now) (F.reasons sources.now)) (M.refused memory.new)) }
 {
     let begun = begin_file(sources, file)?;
     if begun.is_stored() {
@@ -273,7 +273,7 @@ fn give_rows<'a, M: Memory, F: Sources>(
     file: &'a str,
 ) -> Result<Given<Rows>, CommandError<'a>>
     ensures gives { GivesRows form (F.contents sources.now file.now) file.now result }
-    ensures cause { IfErr result (Cause (FileMayFail (F.contents sources.now)) (M.refused memory.new)) }
+    ensures cause { IfErr result (Cause (FileFails (F.contents sources.now) (F.reasons sources.now)) (M.refused memory.new)) }
 {
     match sources.kept(file) {
         Some(Given::Lines(Said::Rows(said, kept))) if is_same_form(*said, form) => {
@@ -298,7 +298,7 @@ pub fn give_table<'a, M: Memory, F: Sources>(
     file: &'a str,
 ) -> Result<Given<Table>, CommandError<'a>>
     ensures gives { GivesTable form (F.contents sources.now file.now) file.now result }
-    ensures cause { IfErr result (Cause (FileMayFail (F.contents sources.now)) (M.refused memory.new)) }
+    ensures cause { IfErr result (Cause (FileFails (F.contents sources.now) (F.reasons sources.now)) (M.refused memory.new)) }
 {
     match give_rows(memory, sources, form, file)? {
         Given::Lines(rows) => {
@@ -318,7 +318,7 @@ fn rows_of<'a, M: Memory, F: Sources>(
     file: &'a str,
 ) -> Result<Rows, CommandError<'a>>
     ensures reads { ReadsFileRows form (F.contents sources.now file.now) file.now result }
-    ensures cause { IfErr result (Cause (FileMayFail (F.contents sources.now)) (M.refused memory.new)) }
+    ensures cause { IfErr result (Cause (FileFails (F.contents sources.now) (F.reasons sources.now)) (M.refused memory.new)) }
 {
     match sources.kept(file) {
         Some(Given::Lines(Said::Rows(said, kept))) if is_same_form(*said, form) => {
@@ -338,7 +338,7 @@ pub fn read_table<'a, M: Memory, F: Sources>(
     file: &'a str,
 ) -> Result<Table, CommandError<'a>>
     ensures reads { ReadsTable form (F.contents sources.now file.now) file.now result }
-    ensures cause { IfErr result (Cause (FileMayFail (F.contents sources.now)) (M.refused memory.new)) }
+    ensures cause { IfErr result (Cause (FileFails (F.contents sources.now) (F.reasons sources.now)) (M.refused memory.new)) }
 {
     let rows = rows_of(memory, sources, form, file)?;
     let table = Table::of_rows(memory.alloc(), rows);

@@ -20,6 +20,6 @@ returns-in-Ok-clause-refused g c =
     let few : length rows < 2 ^ 31 = omega arith in
     let networks : key_networks g.C.Number.Word.value c.as_slice.result.now ≡ numbered_rows f w rows =
     ap (key_networks g.C.Number.Word.value) c.as_slice.ensures.value ∙ c.in-Ok.ensures.networks in
-    refused_result w (length rows) (key_networks g.C.Number.Word.value c.as_slice.result.now) c.build.result
+    refused_result w _ _ (length rows) (key_networks g.C.Number.Word.value c.as_slice.result.now) c.build.result
     (ap length networks ∙ length-map rows (λ (row : g.row.C.Denot × g.row.V.Denot). numbered w (f row.0))) few
     (subst (AreAscendingNetworks w) (sym networks) (rows_ascend w f g.C.Ord.cmp g.met.C.NetworkBits.ordered rows c.requires c.in-Ok.ensures.fit)) c.build.ensures.refused

@@ -1,5 +1,5 @@
 use Rattle.std.proofs.Common.{inr, refl}
-use Rattle.netset_commands.specs.Causes.{FileMayFail}
+use Rattle.netset_commands.specs.Causes.{FileFails}
 use Rattle.netset_commands.specs.Command.{single_request}
 use Rattle.netset_commands.specs.declared.program.TheConstants.{VERSION}
 use Rattle.netset_commands.specs.Table.{help_text}
@@ -122,16 +122,16 @@ returns-in-Class-clause-cause g c = rw c.in-Class.is c.class.ensures.cause
 
 pub returns-in-Single-clause-cause : goal.returns-in-Single-clause-cause
 returns-in-Single-clause-cause g c =
-    rw c.in-Single.is (single_cause (FileMayFail (g.F.Sources.contents c.args.sources.now)) (g.M.Memory.refused c.args.memory.now) (g.F.Sources.contents c.args.sources.now)
+    rw c.in-Single.is (single_cause (FileFails (g.F.Sources.contents c.args.sources.now) (g.F.Sources.reasons c.args.sources.now)) (g.M.Memory.refused c.args.memory.now) (g.F.Sources.contents c.args.sources.now)
     (single_request c.in-Single.single) _ _ c.answer_single.result (c.answer_single.ensures (g.F.Sources.contents c.args.sources.now)))
 
 pub returns-in-Help-clause-cause : goal.returns-in-Help-clause-cause
 returns-in-Help-clause-cause g c =
-    rw c.in-Help.is (output_cause (FileMayFail (g.F.Sources.contents c.args.sources.now)) (g.M.Memory.refused c.args.memory.now) _ _ c.by_output.result c.by_output.ensures)
+    rw c.in-Help.is (output_cause (FileFails (g.F.Sources.contents c.args.sources.now) (g.F.Sources.reasons c.args.sources.now)) (g.M.Memory.refused c.args.memory.now) _ _ c.by_output.result c.by_output.ensures)
 
 pub returns-in-Version-clause-cause : goal.returns-in-Version-clause-cause
 returns-in-Version-clause-cause g c =
-    rw c.in-Version.is (output_cause (FileMayFail (g.F.Sources.contents c.args.sources.now)) (g.M.Memory.refused c.args.memory.now) _ _ c.by_output-in-Version.result
+    rw c.in-Version.is (output_cause (FileFails (g.F.Sources.contents c.args.sources.now) (g.F.Sources.reasons c.args.sources.now)) (g.M.Memory.refused c.args.memory.now) _ _ c.by_output-in-Version.result
     c.by_output-in-Version.ensures)
 
 pub returns-in-Lists-clause-leaves : goal.returns-in-Lists-clause-leaves

@@ -11,7 +11,7 @@ use Rattle.netset_commands.proofs.program.answer_once.Goals as goal
 pub returns-then-name_input_twice-clause-runs : goal.returns-then-name_input_twice-clause-runs
 returns-then-name_input_twice-clause-runs g c = inl
     (run_none c.args.reading (g.F.Files.contents c.args.files.now)
-    (record { memory = g.M.Memory.refused c.files.new.memory; folder = g.D.Folder.refused c.args.folder.now }) (request_of c.args.command)
+    (record { memory = g.M.Memory.refused c.files.new.memory; folder = g.D.Folder.refused c.args.folder.now; files = g.F.Files.reasons c.args.files.now }) (request_of c.args.command)
     (g.O.Output.closed c.args.out.now)
     (g.O.Sink.state c.args.out.now) (g.E.Sink.state c.args.err.now) (g.E.Sink.state c.report-then-name_input_twice.new.err)
     c.report-then-name_input_twice.result c.name_input_twice.result (bytes_of c.in-Ok.names.items) c.read_twice.result c.in-Ok.ensures.names
@@ -21,13 +21,13 @@ returns-then-name_input_twice-clause-runs g c = inl
 pub returns-clause-runs : goal.returns-clause-runs
 returns-clause-runs g c = inl
     (run_once c.args.reading (g.F.Files.contents c.args.files.now)
-    (record { memory = g.M.Memory.refused c.answer_read.new.memory; folder = g.D.Folder.refused c.answer_read.new.folder }) (request_of c.args.command)
+    (record { memory = g.M.Memory.refused c.answer_read.new.memory; folder = g.D.Folder.refused c.answer_read.new.folder; files = g.F.Files.reasons c.args.files.now }) (request_of c.args.command)
     (g.O.Output.closed c.answer_read.new.out)
     (g.O.Sink.state c.args.out.now) (g.O.Sink.state c.answer_read.new.out) (g.E.Sink.state c.args.err.now) (g.E.Sink.state c.answer_read.new.err)
     c.answer_read.result c.name_input_twice.result (bytes_of c.in-Ok.names.items) c.in-Ok.ensures.names
     (rw c.as_slice.ensures.value at c.name_input_twice.ensures) c.if-name_input_twice.false
     (subst (λ (k : List (List ℕ)). RunsRequest c.args.reading.at_fault (contents_in c.args.reading.list_form (headed k (g.F.Files.contents c.args.files.now)))
-    (record { memory = g.M.Memory.refused c.answer_read.new.memory; folder = g.D.Folder.refused c.answer_read.new.folder }) (request_of c.args.command)
+    (record { memory = g.M.Memory.refused c.answer_read.new.memory; folder = g.D.Folder.refused c.answer_read.new.folder; files = g.F.Files.reasons c.args.files.now }) (request_of c.args.command)
     (g.O.Output.closed c.answer_read.new.out)
     (g.O.Sink.state c.args.out.now) (g.O.Sink.state c.answer_read.new.out) (g.E.Sink.state c.args.err.now) (g.E.Sink.state c.answer_read.new.err)
     c.answer_read.result) (ap bytes_of c.as_slice-2.ensures.value ∙ c.in-Ok-tables.ensures.names) c.answer_read.ensures.runs))

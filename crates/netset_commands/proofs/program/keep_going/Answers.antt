@@ -14,7 +14,7 @@ pub returns-in-Ok-default-true-clause-goes : goal.returns-in-Ok-default-true-cla
 returns-in-Ok-default-true-clause-goes g c = inr (inl (
   c.in_default.ensures,
   lines_in_error (g.F.Sources.contents c.args.sources.now) (request_of c.args.command) c.kind.result c.takes_file.result (bytes_of c.read_lists-names.result.now) c.args.skips
-      (record { memory = g.M.Memory.refused c.load.new.memory; folder = g.D.Folder.refused c.args.folder.now }) (g.O.Output.closed c.args.out.now)
+      (record { memory = g.M.Memory.refused c.load.new.memory; folder = g.D.Folder.refused c.args.folder.now; files = g.F.Sources.reasons c.args.sources.now }) (g.O.Output.closed c.args.out.now)
       (g.O.Sink.state c.args.out.now) (g.E.Sink.state c.args.err.now) (g.E.Sink.state c.load.new.err) c.kind.ensures c.takes_file.ensures (c.read_lists-names.ensures (rw c.as_slice.ensures.value c.in-Ok.ensures.names)) c.in-Ok-default-true.lists.items
       c.if-skips.false (rw (c.in-Ok-default-true.field-0-1-test) at c.in-Ok-default-true.ensures.loads),
 ))
@@ -23,7 +23,7 @@ pub returns-then-skips-clause-goes : goal.returns-then-skips-clause-goes
 returns-then-skips-clause-goes g c = inr (inl (
   c.in_default.ensures,
   lines_skipped (g.F.Sources.contents c.args.sources.now) (request_of c.args.command) c.kind.result c.takes_file.result (bytes_of c.read_lists-names.result.now) c.args.skips
-      (record { memory = g.M.Memory.refused c.answer_good.new.memory; folder = g.D.Folder.refused c.args.folder.now }) (g.O.Output.closed c.answer_good.new.out)
+      (record { memory = g.M.Memory.refused c.answer_good.new.memory; folder = g.D.Folder.refused c.args.folder.now; files = g.F.Sources.reasons c.args.sources.now }) (g.O.Output.closed c.answer_good.new.out)
       (g.O.Sink.state c.args.out.now) (g.E.Sink.state c.args.err.now) (g.E.Sink.state c.load.new.err) c.kind.ensures c.takes_file.ensures (c.read_lists-names.ensures (rw c.as_slice.ensures.value c.in-Ok.ensures.names)) c.in-Ok-default-true.lists.items
       (g.O.Sink.state c.answer_good.new.out) (g.E.Sink.state c.answer_good.new.err) c.answer_good.result
       c.if-skips.true (rw (c.in-Ok-default-true.field-0-1-test) at c.in-Ok-default-true.ensures.loads) (rw c.as_slice-then-skips.ensures.value at c.answer_good.ensures.runs (g.D.Folder.refused c.args.folder.now)),
@@ -33,7 +33,7 @@ pub returns-in-Ok-default-false-clause-goes : goal.returns-in-Ok-default-false-c
 returns-in-Ok-default-false-clause-goes g c = inr (inl (
   c.in_default.ensures,
   no_line_in_error (g.F.Sources.contents c.args.sources.now) (request_of c.args.command) c.kind.result c.takes_file.result (bytes_of c.read_lists-names.result.now) c.args.skips
-      (record { memory = g.M.Memory.refused c.answer-answered.new.memory; folder = g.D.Folder.refused c.answer-answered.new.folder }) (g.O.Output.closed c.answer-answered.new.out)
+      (record { memory = g.M.Memory.refused c.answer-answered.new.memory; folder = g.D.Folder.refused c.answer-answered.new.folder; files = g.F.Sources.reasons c.args.sources.now }) (g.O.Output.closed c.answer-answered.new.out)
       (g.O.Sink.state c.args.out.now) (g.E.Sink.state c.args.err.now) (g.E.Sink.state c.load.new.err) c.kind.ensures c.takes_file.ensures (c.read_lists-names.ensures (rw c.as_slice.ensures.value c.in-Ok.ensures.names)) c.in-Ok-default-false.lists.items
       (g.O.Sink.state c.answer-answered.new.out) (g.E.Sink.state c.report-in-Ok-default-false.new.err) c.answer-answered.result c.report-in-Ok-default-false.result
       (rw (c.in-Ok-default-false.field-0-1-test) at c.in-Ok-default-false.ensures.loads)
@@ -45,7 +45,7 @@ pub returns-clause-goes : goal.returns-clause-goes
 returns-clause-goes g c = inr (inl (
   c.in_default.ensures,
   not_loaded (g.F.Sources.contents c.args.sources.now) (request_of c.args.command) c.kind.result c.takes_file.result (bytes_of c.read_lists-names.result.now) c.args.skips
-      (record { memory = g.M.Memory.refused c.load.new.memory; folder = g.D.Folder.refused c.args.folder.now }) (g.O.Output.closed c.args.out.now)
+      (record { memory = g.M.Memory.refused c.load.new.memory; folder = g.D.Folder.refused c.args.folder.now; files = g.F.Sources.reasons c.args.sources.now }) (g.O.Output.closed c.args.out.now)
       (g.O.Sink.state c.args.out.now) (g.E.Sink.state c.args.err.now) (g.E.Sink.state c.load.new.err) c.kind.ensures c.takes_file.ensures (c.read_lists-names.ensures (rw c.as_slice.ensures.value c.in-Ok.ensures.names)) (g.E.Sink.state c.report-in-Err.new.err) c.in-Err.e
       c.report-in-Err.result c.in-Err.ensures.loads c.in-Err.ensures.cause (rw c.is_closed-in-Err.ensures at c.report-in-Err.ensures.says) c.report-in-Err.ensures.status,
 ))
@@ -53,7 +53,7 @@ returns-clause-goes g c = inr (inl (
 pub returns-in-Some-clause-goes : goal.returns-in-Some-clause-goes
 returns-in-Some-clause-goes g c =
     argument_first c.args.skips (g.F.Sources.contents c.args.sources.now) (request_of c.args.command)
-    (record { memory = g.M.Memory.refused c.args.memory.now; folder = g.D.Folder.refused c.args.folder.now }) (g.O.Output.closed c.args.out.now)
+    (record { memory = g.M.Memory.refused c.args.memory.now; folder = g.D.Folder.refused c.args.folder.now; files = g.F.Sources.reasons c.args.sources.now }) (g.O.Output.closed c.args.out.now)
     (g.O.Sink.state c.args.out.now) (g.E.Sink.state c.args.err.now) (g.E.Sink.state c.report.new.err) c.in-Some.e c.report.result c.in-Some.ensures
     (rw c.is_closed.ensures at c.report.ensures.says) c.report.ensures.status
 

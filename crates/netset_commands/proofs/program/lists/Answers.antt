@@ -1,6 +1,6 @@
 use Rattle.std.proofs.Common.{sym, map, ◌∷◌}
 use Rattle.std.proofs.lemmas.Result.{err_from_is_err_and}
-use Rattle.netset_commands.specs.Causes.{FileMayFail}
+use Rattle.netset_commands.specs.Causes.{FileFails}
 use Rattle.netset_commands.proofs.Causes.{output_cause}
 use Rattle.netset_commands.proofs.Combining.{lists_written}
 use Rattle.netset_commands.proofs.program.lists.Goals as goal
@@ -22,4 +22,4 @@ returns-in_err-sets-clause-cause g c =
     rw (is, same) c.in_err-sets.ensures.refused
 
 pub returns-clause-cause : goal.returns-clause-cause
-returns-clause-cause g c = output_cause (FileMayFail (g.F.Sources.contents c.args.sources.now)) _ _ _ c.by_output.result c.by_output.ensures
+returns-clause-cause g c = output_cause (FileFails (g.F.Sources.contents c.args.sources.now) (g.F.Sources.reasons c.args.sources.now)) _ _ _ c.by_output.result c.by_output.ensures

@@ -2,7 +2,7 @@ use Rattle.std.proofs.Common.{[], inl, refl, option_map}
 use Rattle.std.proofs.lemmas.Result.{err_from_is_err_and}
 use Rattle.cidr_lists.specs.Formats.{style_in}
 use Rattle.cidr_lists.specs.Sets.{networks_of}
-use Rattle.netset_commands.specs.Causes.{FileMayFail}
+use Rattle.netset_commands.specs.Causes.{FileFails}
 use Rattle.netset_commands.proofs.AccessLists.{first_unread, permitted_told}
 use Rattle.netset_commands.proofs.Combining.{prints_cause}
 use Rattle.netset_commands.proofs.commands.acl.permitted.Goals as goal
@@ -25,5 +25,5 @@ returns-clause-answers g c =
 
 pub returns-clause-cause : goal.returns-clause-cause
 returns-clause-cause g c =
-    prints_cause (FileMayFail (g.F.Sources.contents c.args.sources.now)) _ (option_map (λ s. style_in s) c.args.style) (networks_of c.in_ok-sets.sets) _ _
+    prints_cause (FileFails (g.F.Sources.contents c.args.sources.now) (g.F.Sources.reasons c.args.sources.now)) _ (option_map (λ s. style_in s) c.args.style) (networks_of c.in_ok-sets.sets) _ _
     c.write_by.result c.write_by.ensures

@@ -16,7 +16,7 @@ returns-in_err-bytes-clause-reads g c =
 pub returns-in_err-bytes-clause-cause : goal.returns-in_err-bytes-clause-cause
 returns-in_err-bytes-clause-cause g c =
     let (y, is, same) = err_from_is_err_and c.from_residual-in_err-bytes.result c.from_residual-in_err-bytes.ensures.1 in
-    rw (is, same) (whole_cause (g.F.Sources.contents c.args.sources.now) c.args.file.now _ (g.M.Memory.refused c.read_whole.new.memory) c.in_err-bytes.field-0.0
+    rw (is, same) (whole_cause (g.F.Sources.contents c.args.sources.now) (g.F.Sources.reasons c.args.sources.now) c.args.file.now _ (g.M.Memory.refused c.read_whole.new.memory) c.in_err-bytes.field-0.0 c.in_ok-begun.ensures.opened
     (opens_begun _ (g.F.Sources.contents c.args.sources.now c.args.file.now) c.in_ok-begun.begun c.in_ok-begun.ensures.told) c.in_err-bytes.ensures.cause)
 
 pub returns-in-Ok-clause-reads : goal.returns-in-Ok-clause-reads

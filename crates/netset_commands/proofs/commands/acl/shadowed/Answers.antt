@@ -1,6 +1,6 @@
 use Rattle.std.proofs.Common.{[], inl, refl, sym}
 use Rattle.std.proofs.lemmas.Result.{err_from_is_err_and}
-use Rattle.netset_commands.specs.Causes.{FileMayFail}
+use Rattle.netset_commands.specs.Causes.{FileFails}
 use Rattle.netset_commands.specs.declared.errors.CommandError.TheVariants as error
 use Rattle.netset_commands.proofs.AccessLists.{first_unread, shadows_told}
 use Rattle.netset_commands.proofs.Causes.{output_cause}
@@ -34,4 +34,4 @@ returns-clause-answers g c =
     (rw c.as_slice-2.ensures.value at c.write_bytes.ensures) c.by_output.ensures
 
 pub returns-clause-cause : goal.returns-clause-cause
-returns-clause-cause g c = output_cause (FileMayFail (g.F.Sources.contents c.args.sources.now)) _ _ _ c.by_output.result c.by_output.ensures
+returns-clause-cause g c = output_cause (FileFails (g.F.Sources.contents c.args.sources.now) (g.F.Sources.reasons c.args.sources.now)) _ _ _ c.by_output.result c.by_output.ensures

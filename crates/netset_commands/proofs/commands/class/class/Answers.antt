@@ -1,4 +1,4 @@
-use Rattle.netset_commands.specs.Causes.{FileMayFail}
+use Rattle.netset_commands.specs.Causes.{FileFails}
 use Rattle.netset_commands.proofs.Causes.{output_cause}
 use Rattle.netset_commands.proofs.Classed.{class_told}
 use Rattle.netset_commands.proofs.commands.class.class.Goals as goal
@@ -10,7 +10,7 @@ returns-in-Ok-clause-answers g c =
     (rw c.as_str.ensures.value at c.write_text.ensures) (rw c.verdict_of.ensures at c.by_output.ensures)
 
 pub returns-in-Ok-clause-cause : goal.returns-in-Ok-clause-cause
-returns-in-Ok-clause-cause g c = output_cause (FileMayFail (g.F.Sources.contents c.args.sources.now)) _ _ _ c.by_output.result c.by_output.ensures
+returns-in-Ok-clause-cause g c = output_cause (FileFails (g.F.Sources.contents c.args.sources.now) (g.F.Sources.reasons c.args.sources.now)) _ _ _ c.by_output.result c.by_output.ensures
 
 pub returns-in-Err-clause-answers : goal.returns-in-Err-clause-answers
 returns-in-Err-clause-answers g c = c.tell_classes.ensures.answers c.in-Err.ensures.value.1

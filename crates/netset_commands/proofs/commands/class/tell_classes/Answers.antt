@@ -23,5 +23,5 @@ returns-clause-answers g c = λ none.
 
 pub returns-in-Err-Reading-clause-cause : goal.returns-in-Err-Reading-clause-cause
 returns-in-Err-Reading-clause-cause g c =
-    rw c.unread.ensures (file_cause (g.F.Sources.contents c.args.sources.now) c.args.file _ (g.M.Memory.refused c.look_all.new.memory) c.in-Err-Reading.e
+    rw c.unread.ensures (file_cause (g.F.Sources.contents c.args.sources.now) (g.F.Sources.reasons c.args.sources.now) c.args.file _ (g.M.Memory.refused c.look_all.new.memory) c.in-Err-Reading.e c.in-Ok.ensures.opened
     (λ text contents. c.in-Ok-new.ensures.left ∙ c.in-Ok.ensures.left text contents) (rw c.in-Err-Reading.field-0-is at c.in-Err-Reading.ensures.cause))

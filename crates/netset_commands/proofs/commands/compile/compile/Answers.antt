@@ -1,7 +1,7 @@
 use Rattle.std.proofs.Common.{inl, inr, refl, sym}
 use Rattle.std.proofs.lemmas.Result.{err_from_is_err_and}
 use Rattle.cidr_lists.specs.Tables.{kept}
-use Rattle.netset_commands.specs.Causes.{FileMayFail}
+use Rattle.netset_commands.specs.Causes.{FileFails}
 use Rattle.netset_commands.proofs.Causes.{same_cause, uncompiled}
 use Rattle.netset_commands.proofs.commands.compile.compile.Goals as goal
 
@@ -33,15 +33,15 @@ returns-in_default-file-clause-compiled g c = inr (
 pub returns-in-Some-clause-cause : goal.returns-in-Some-clause-cause
 returns-in-Some-clause-cause g c =
     uncompiled (g.F.Sources.contents c.args.sources.now)
-    (record { memory = g.M.Memory.refused c.args.memory.now; folder = g.D.Folder.refused c.args.folder.now }) c.args.form c.args.table.now c.args.name.now c.in-Some.e
+    (record { memory = g.M.Memory.refused c.args.memory.now; folder = g.D.Folder.refused c.args.folder.now; files = g.F.Sources.reasons c.args.sources.now }) c.args.form c.args.table.now c.args.name.now c.in-Some.e
     (inl c.in-Some.ensures)
-    (same_cause (FileMayFail (g.F.Sources.contents c.args.sources.now)) (g.M.Memory.refused c.args.memory.now) c.args.table.now c.args.name.now c.in-Some.e c.in-Some.ensures)
+    (same_cause (FileFails (g.F.Sources.contents c.args.sources.now) (g.F.Sources.reasons c.args.sources.now)) (g.M.Memory.refused c.args.memory.now) c.args.table.now c.args.name.now c.in-Some.e c.in-Some.ensures)
 
 pub returns-in_err-rows-clause-cause : goal.returns-in_err-rows-clause-cause
 returns-in_err-rows-clause-cause g c =
     let (y, is, same) = err_from_is_err_and c.from_residual.result c.from_residual.ensures.1 in
     rw (is, same) (uncompiled (g.F.Sources.contents c.args.sources.now)
-    (record { memory = g.M.Memory.refused c.read_table.new.memory; folder = g.D.Folder.refused c.args.folder.now }) c.args.form c.args.table.now c.args.name.now _
+    (record { memory = g.M.Memory.refused c.read_table.new.memory; folder = g.D.Folder.refused c.args.folder.now; files = g.F.Sources.reasons c.args.sources.now }) c.args.form c.args.table.now c.args.name.now _
     (inr c.in_err-rows.ensures.reads) c.in_err-rows.ensures.cause)
 
 pub returns-in_err-file-clause-cause : goal.returns-in_err-file-clause-cause

@@ -1,4 +1,4 @@
-use Rattle.netset_commands.specs.Causes.{FileMayFail}
+use Rattle.netset_commands.specs.Causes.{FileFails}
 use Rattle.netset_commands.specs.declared.commands.describe.Description.TheVariants.{Zones}
 use Rattle.netset_commands.proofs.Causes.{output_cause}
 use Rattle.netset_commands.proofs.Described.{length_described, networks_described}
@@ -15,7 +15,7 @@ returns-in-Some-clause-answers g c =
     (g.O.Sink.state c.write_text.new.out) c.write_text.result c.by_output.result c.in-Some.ensures (rw (c.as_str.ensures.value, c.length_lines.ensures) at c.write_text.ensures) c.by_output.ensures)
 
 pub returns-in-Some-clause-cause : goal.returns-in-Some-clause-cause
-returns-in-Some-clause-cause g c = output_cause (FileMayFail (g.F.Sources.contents c.args.sources.now)) _ _ _ c.by_output.result c.by_output.ensures
+returns-in-Some-clause-cause g c = output_cause (FileFails (g.F.Sources.contents c.args.sources.now) (g.F.Sources.reasons c.args.sources.now)) _ _ _ c.by_output.result c.by_output.ensures
 
 pub returns-in-None-clause-answers : goal.returns-in-None-clause-answers
 returns-in-None-clause-answers g c = rw c.in-Masks.is c.describe_mask.ensures.answers

@@ -1,4 +1,4 @@
-use Rattle.netset_commands.specs.Causes.{FileMayFail}
+use Rattle.netset_commands.specs.Causes.{FileFails}
 use Rattle.netset_commands.specs.declared.commands.describe.Description.TheVariants.{Masks}
 use Rattle.netset_commands.proofs.Causes.{output_cause}
 use Rattle.netset_commands.proofs.Described.{mask_described, networks_described}
@@ -10,7 +10,7 @@ returns-in-Some-clause-answers g c =
     (g.O.Sink.state c.write_length.new.out) c.write_length.result c.by_output.result c.in-Some.ensures c.write_length.ensures c.by_output.ensures
 
 pub returns-in-Some-clause-cause : goal.returns-in-Some-clause-cause
-returns-in-Some-clause-cause g c = output_cause (FileMayFail (g.F.Sources.contents c.args.sources.now)) _ _ _ c.by_output.result c.by_output.ensures
+returns-in-Some-clause-cause g c = output_cause (FileFails (g.F.Sources.contents c.args.sources.now) (g.F.Sources.reasons c.args.sources.now)) _ _ _ c.by_output.result c.by_output.ensures
 
 pub returns-in-None-clause-answers : goal.returns-in-None-clause-answers
 returns-in-None-clause-answers g c =

@@ -1,6 +1,6 @@
 use Rattle.std.proofs.Common.{inl, refl}
 use Rattle.std.proofs.lemmas.Result.{err_from_is_err_and}
-use Rattle.netset_commands.specs.Causes.{FileMayFail}
+use Rattle.netset_commands.specs.Causes.{FileFails}
 use Rattle.netset_commands.proofs.Causes.{output_cause}
 use Rattle.netset_commands.proofs.Described.{networks_told}
 use Rattle.netset_commands.proofs.commands.describe.describe_networks.Goals as goal
@@ -11,7 +11,7 @@ returns-clause-describes g c =
     (g.O.Sink.state c.write_told.new.out) c.write_told.result c.by_output.result c.in_ok-sets.ensures.reads c.write_told.ensures c.by_output.ensures
 
 pub returns-clause-cause : goal.returns-clause-cause
-returns-clause-cause g c = output_cause (FileMayFail (g.F.Sources.contents c.args.sources.now)) _ _ _ c.by_output.result c.by_output.ensures
+returns-clause-cause g c = output_cause (FileFails (g.F.Sources.contents c.args.sources.now) (g.F.Sources.reasons c.args.sources.now)) _ _ _ c.by_output.result c.by_output.ensures
 
 pub returns-in_err-sets-clause-describes : goal.returns-in_err-sets-clause-describes
 returns-in_err-sets-clause-describes g c =

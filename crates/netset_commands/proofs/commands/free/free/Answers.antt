@@ -2,7 +2,7 @@ use Rattle.std.proofs.Common.{refl, sym, inl, inr, map, option_map}
 use Rattle.std.proofs.lemmas.Result.{err_from_is_err_and}
 use Rattle.cidr_lists.specs.Formats.{style_in}
 use Rattle.cidr_lists.specs.Sets.{networks_of}
-use Rattle.netset_commands.specs.Causes.{FileMayFail}
+use Rattle.netset_commands.specs.Causes.{FileFails}
 use Rattle.netset_commands.specs.Command.{extent_of}
 use Rattle.netset_commands.proofs.Causes.{argument_cause}
 use Rattle.netset_commands.proofs.Pools.{count_wrong, free_cause, free_written}
@@ -17,7 +17,7 @@ returns-clause-answers g c =
 
 pub returns-clause-cause : goal.returns-clause-cause
 returns-clause-cause g c =
-    free_cause (FileMayFail (g.F.Sources.contents c.args.sources.now)) _ (option_map (λ s. style_in s) c.args.style) (networks_of c.in_ok-rest.rest) c.in-Some.bits c.in_ok-most.most _ _ c.tell_free.result c.tell_free.ensures
+    free_cause (FileFails (g.F.Sources.contents c.args.sources.now) (g.F.Sources.reasons c.args.sources.now)) _ (option_map (λ s. style_in s) c.args.style) (networks_of c.in_ok-rest.rest) c.in-Some.bits c.in_ok-most.most _ _ c.tell_free.result c.tell_free.ensures
 
 pub returns-in_err-most-clause-answers : goal.returns-in_err-most-clause-answers
 returns-in_err-most-clause-answers g c =
@@ -27,7 +27,7 @@ returns-in_err-most-clause-answers g c =
 pub returns-in_err-most-clause-cause : goal.returns-in_err-most-clause-cause
 returns-in_err-most-clause-cause g c =
     let (y, is, same) = err_from_is_err_and c.from_residual.result c.from_residual.ensures.1 in
-    rw (is, same) (argument_cause (FileMayFail (g.F.Sources.contents c.args.sources.now)) _ _ c.in_err-most.field-0.0 c.in_err-most.ensures)
+    rw (is, same) (argument_cause (FileFails (g.F.Sources.contents c.args.sources.now) (g.F.Sources.reasons c.args.sources.now)) _ _ c.in_err-most.field-0.0 c.in_err-most.ensures)
 
 pub returns-in_err-several-clause-answers : goal.returns-in_err-several-clause-answers
 returns-in_err-several-clause-answers g c =

@@ -2,7 +2,7 @@ use Rattle.std.proofs.Common.{sym, map, option_map, ◌∷◌}
 use Rattle.std.proofs.lemmas.Result.{err_from_is_err_and}
 use Rattle.cidr_lists.specs.Formats.{style_in}
 use Rattle.cidr_lists.specs.Sets.{networks_of}
-use Rattle.netset_commands.specs.Causes.{FileMayFail}
+use Rattle.netset_commands.specs.Causes.{FileFails}
 use Rattle.netset_commands.proofs.Causes.{argument_cause}
 use Rattle.netset_commands.proofs.Combining.{not_in_written, prints_cause}
 use Rattle.netset_commands.proofs.commands.inside.not_in.Goals as goal
@@ -17,7 +17,7 @@ returns-clause-answers g c =
 pub returns-in_err-network-clause-cause : goal.returns-in_err-network-clause-cause
 returns-in_err-network-clause-cause g c =
     let (y, is, same) = err_from_is_err_and c.from_residual.result c.from_residual.ensures.1 in
-    rw (is, same) (argument_cause (FileMayFail (g.F.Sources.contents c.args.sources.now)) _ _ c.in_err-network.field-0.0 c.in_err-network.ensures)
+    rw (is, same) (argument_cause (FileFails (g.F.Sources.contents c.args.sources.now) (g.F.Sources.reasons c.args.sources.now)) _ _ c.in_err-network.field-0.0 c.in_err-network.ensures)
 
 pub returns-in_err-several-clause-cause : goal.returns-in_err-several-clause-cause
 returns-in_err-several-clause-cause g c =
@@ -41,5 +41,5 @@ returns-in_err-inside-clause-cause g c =
 
 pub returns-clause-cause : goal.returns-clause-cause
 returns-clause-cause g c =
-    prints_cause (FileMayFail (g.F.Sources.contents c.args.sources.now)) _ (option_map (λ s. style_in s) c.args.style) (networks_of c.in_ok-inside.inside) _ _
+    prints_cause (FileFails (g.F.Sources.contents c.args.sources.now) (g.F.Sources.reasons c.args.sources.now)) _ (option_map (λ s. style_in s) c.args.style) (networks_of c.in_ok-inside.inside) _ _
     c.write_by.result c.write_by.ensures

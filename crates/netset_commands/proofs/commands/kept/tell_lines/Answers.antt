@@ -76,23 +76,23 @@ pub returns-in-Err-clause-cause : goal.returns-in-Err-clause-cause
 returns-in-Err-clause-cause g c =
     let known = left_known c.args.telling c.args.place (g.T.LookUps.rows c.args.table.now) c.args.reader.now.left c.loop-number.reader.left (g.S.Sink.state c.args.out.now) (g.S.Sink.state c.loop-number.out)
     c.loop-number.number c.loop-number.block c.loop-number.found c.loop-number.invariant in
-    stop_cause (λ name. (name ≡ c.args.file.now) × TextFails c.args.reader.now.left) (g.M.Memory.refused c.next_part.new.memory) _ _ _ _ _ c.stop.ensures
-    (cause_weaker (λ name. (name ≡ c.args.file.now) × NoLineFails c.loop-number.reader.left) (λ name. (name ≡ c.args.file.now) × TextFails c.args.reader.now.left)
-    (g.M.Memory.refused c.next_part.new.memory) _ (λ name k. (k.0, told_fails c.args.reader.now.left c.loop-number.reader.left known k.1)) c.in-Err.ensures.cause)
+    stop_cause (λ name _. (name ≡ c.args.file.now) × TextFails c.args.reader.now.left) (g.M.Memory.refused c.next_part.new.memory) _ _ _ _ _ c.stop.ensures
+    (cause_weaker (λ name _. (name ≡ c.args.file.now) × NoLineFails c.loop-number.reader.left) (λ name _. (name ≡ c.args.file.now) × TextFails c.args.reader.now.left)
+    (g.M.Memory.refused c.next_part.new.memory) _ (λ name why k. (k.0, told_fails c.args.reader.now.left c.loop-number.reader.left known k.1)) c.in-Err.ensures.cause)
 
 pub returns-in-Err-tell_part-clause-cause : goal.returns-in-Err-tell_part-clause-cause
 returns-in-Err-tell_part-clause-cause g c =
-    stop_cause (λ name. (name ≡ c.args.file.now) × TextFails c.args.reader.now.left) (g.M.Memory.refused c.tell_part.new.memory) _ _ _ _ _ c.stop-in-Err-tell_part.ensures
-    (cause_weaker (λ _. ⊥) (λ name. (name ≡ c.args.file.now) × TextFails c.args.reader.now.left) (g.M.Memory.refused c.tell_part.new.memory) _ (λ name never. absurd never)
+    stop_cause (λ name _. (name ≡ c.args.file.now) × TextFails c.args.reader.now.left) (g.M.Memory.refused c.tell_part.new.memory) _ _ _ _ _ c.stop-in-Err-tell_part.ensures
+    (cause_weaker (λ _ _. ⊥) (λ name _. (name ≡ c.args.file.now) × TextFails c.args.reader.now.left) (g.M.Memory.refused c.tell_part.new.memory) _ (λ name why never. absurd never)
     c.in-Err-tell_part.ensures.cause)
 
 pub returns-then-not-has_more-clause-cause : goal.returns-then-not-has_more-clause-cause
 returns-then-not-has_more-clause-cause g c =
-    output_cause (λ name. (name ≡ c.args.file.now) × TextFails c.args.reader.now.left) (g.M.Memory.refused c.tell_part.new.memory) _ _ c.by_output.result c.by_output.ensures
+    output_cause (λ name _. (name ≡ c.args.file.now) × TextFails c.args.reader.now.left) (g.M.Memory.refused c.tell_part.new.memory) _ _ c.by_output.result c.by_output.ensures
 
 pub returns-clause-cause : goal.returns-clause-cause
 returns-clause-cause g c =
-    stop_cause (λ name. (name ≡ c.args.file.now) × TextFails c.args.reader.now.left) (g.M.Memory.refused c.loop-number.memory) (error.Input c.args.file Unknown) _ _ _ _ c.stop-2.ensures (
+    stop_cause (λ name _. (name ≡ c.args.file.now) × TextFails c.args.reader.now.left) (g.M.Memory.refused c.loop-number.memory) (error.Input c.args.file Unknown) _ _ _ _ c.stop-2.ensures (
       refl,
       numbers_used c.args.telling c.args.place (g.T.LookUps.rows c.args.table.now) c.args.reader.now.left c.loop-number.reader.left (g.S.Sink.state c.args.out.now) (g.S.Sink.state c.loop-number.out)
           c.loop-number.number c.loop-number.block c.loop-number.found c.loop-number.invariant c.loop-number-test.false,

@@ -1,7 +1,7 @@
 use Rattle.std.proofs.Common.{◌∙◌, ap, inl, inr, map, refl, sym, subst}
 use Rattle.std.proofs.lemmas.Result.{err_from_is_err_and}
 use Rattle.cidr_lists.specs.LookUps.{telling_by}
-use Rattle.netset_commands.specs.Causes.{FileMayFail}
+use Rattle.netset_commands.specs.Causes.{FileFails}
 use Rattle.netset_commands.specs.Command.{choice_of}
 use Rattle.netset_commands.specs.Look.{IsUnreadTable}
 use Rattle.netset_commands.specs.Stored.{AreFileBytes, by_family}
@@ -18,7 +18,7 @@ returns-in_err-place-clause-answers g c =
 pub returns-in_err-place-clause-cause : goal.returns-in_err-place-clause-cause
 returns-in_err-place-clause-cause g c =
     let (y, is, same) = err_from_is_err_and c.from_residual.result c.from_residual.ensures.1 in
-    rw (is, same) (argument_cause (FileMayFail (g.F.Sources.contents c.args.sources.now)) (g.M.Memory.refused c.args.memory.now) _ _ c.in_err-place.ensures)
+    rw (is, same) (argument_cause (FileFails (g.F.Sources.contents c.args.sources.now) (g.F.Sources.reasons c.args.sources.now)) (g.M.Memory.refused c.args.memory.now) _ _ c.in_err-place.ensures)
 
 pub returns-in_err-rows-clause-answers : goal.returns-in_err-rows-clause-answers
 returns-in_err-rows-clause-answers g c =
@@ -57,7 +57,7 @@ returns-in_err-check_values-in-Stored-clause-answers g c =
 pub returns-in_err-check_values-in-Stored-clause-cause : goal.returns-in_err-check_values-in-Stored-clause-cause
 returns-in_err-check_values-in-Stored-clause-cause g c =
     let (y, is, same) = err_from_is_err_and c.from_residual-in_err-check_values-in-Stored.result c.from_residual-in_err-check_values-in-Stored.ensures.1 in
-    rw (is, same) (unfit_cause (FileMayFail (g.F.Sources.contents c.args.sources.now)) _ c.args.form.values (by_family c.in_ok-stored-in-Stored.stored) c.args.table.now _
+    rw (is, same) (unfit_cause (FileFails (g.F.Sources.contents c.args.sources.now) (g.F.Sources.reasons c.args.sources.now)) _ c.args.form.values (by_family c.in_ok-stored-in-Stored.stored) c.args.table.now _
     c.in_err-check_values-in-Stored.ensures)
 
 pub returns-in-Lines-clause-answers : goal.returns-in-Lines-clause-answers

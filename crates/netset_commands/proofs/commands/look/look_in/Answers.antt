@@ -8,7 +8,7 @@ pub returns-in-Err-clause-tells : goal.returns-in-Err-clause-tells
 returns-in-Err-clause-tells g c = inl (refl, error.Input c.args.file c.in-Err.why, refl, refl)
 
 pub returns-in-Err-clause-cause : goal.returns-in-Err-clause-cause
-returns-in-Err-clause-cause g c = not_opened (g.F.Sources.contents c.args.sources.now) c.args.file.now (c.in-Err.ensures.none)
+returns-in-Err-clause-cause g c = not_opened (g.F.Sources.contents c.args.sources.now) (g.F.Sources.reasons c.args.sources.now) c.args.file.now c.in-Err.why c.in-Err.ensures.none c.in-Err.ensures.why
 
 pub returns-in_default-clause-tells : goal.returns-in_default-clause-tells
 returns-in_default-clause-tells g c = inl (refl, error.NoMemory, refl, tt)
@@ -21,7 +21,7 @@ returns-then-headed-clause-tells g c =
 
 pub returns-then-headed-clause-cause : goal.returns-then-headed-clause-cause
 returns-then-headed-clause-cause g c =
-    file_causes (g.F.Sources.contents c.args.sources.now) c.args.file.now _ (g.M.Memory.refused c.look_behind.new.memory) c.look_behind.result
+    file_causes (g.F.Sources.contents c.args.sources.now) (g.F.Sources.reasons c.args.sources.now) c.args.file.now _ (g.M.Memory.refused c.look_behind.new.memory) c.look_behind.result c.in-Ok.ensures.opened
     (λ text contents. c.in-Ok-new.ensures.left ∙ c.in-Ok.ensures.left text contents) c.look_behind.ensures.cause
 
 pub returns-clause-tells : goal.returns-clause-tells
@@ -32,5 +32,5 @@ returns-clause-tells g c =
 
 pub returns-clause-cause : goal.returns-clause-cause
 returns-clause-cause g c =
-    file_causes (g.F.Sources.contents c.args.sources.now) c.args.file.now _ (g.M.Memory.refused c.look_left.new.memory) c.look_left.result
+    file_causes (g.F.Sources.contents c.args.sources.now) (g.F.Sources.reasons c.args.sources.now) c.args.file.now _ (g.M.Memory.refused c.look_left.new.memory) c.look_left.result c.in-Ok.ensures.opened
     (λ text contents. c.in-Ok-new.ensures.left ∙ c.in-Ok.ensures.left text contents) c.look_left.ensures.cause

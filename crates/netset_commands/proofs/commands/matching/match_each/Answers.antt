@@ -5,7 +5,7 @@ use Rattle.netset_commands.proofs.EachFile.{first_not_read}
 use Rattle.netset_commands.proofs.Listed.{no_list}
 use Rattle.netset_commands.proofs.MatchedFiles.{matched_each}
 use Rattle.netset_commands.proofs.Causes.{argument_cause}
-use Rattle.netset_commands.specs.Causes.{FileMayFail}
+use Rattle.netset_commands.specs.Causes.{FileFails}
 use Rattle.netset_commands.specs.Command.{choice_of}
 use Rattle.netset_commands.specs.Program.{IsUnread}
 use Rattle.netset_commands.proofs.commands.matching.match_each.Goals as goal
@@ -50,4 +50,4 @@ returns-in_err-column-clause-answers g c =
 pub returns-in_err-column-clause-cause : goal.returns-in_err-column-clause-cause
 returns-in_err-column-clause-cause g c =
     let (y, is, same) = err_from_is_err_and c.from_residual.result c.from_residual.ensures.1 in
-    rw (is, same) (argument_cause (FileMayFail (g.F.Sources.contents c.args.sources.now)) (g.M.Memory.refused c.args.memory.now) _ _ c.in_err-column.ensures)
+    rw (is, same) (argument_cause (FileFails (g.F.Sources.contents c.args.sources.now) (g.F.Sources.reasons c.args.sources.now)) (g.M.Memory.refused c.args.memory.now) _ _ c.in_err-column.ensures)

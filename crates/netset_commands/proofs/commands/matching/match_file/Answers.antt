@@ -13,9 +13,9 @@ pub returns-clause-streams : goal.returns-clause-streams
 returns-clause-streams g c = inr (_, c.in-Ok.ensures.left, rw c.in-Ok-new.ensures.left at c.stream.ensures.streams)
 
 pub returns-in-Err-clause-cause : goal.returns-in-Err-clause-cause
-returns-in-Err-clause-cause g c = not_opened (g.F.Sources.contents c.args.sources.now) c.args.file.now c.in-Err.ensures.none
+returns-in-Err-clause-cause g c = not_opened (g.F.Sources.contents c.args.sources.now) (g.F.Sources.reasons c.args.sources.now) c.args.file.now c.in-Err.why c.in-Err.ensures.none c.in-Err.ensures.why
 
 pub returns-clause-cause : goal.returns-clause-cause
 returns-clause-cause g c =
-    file_causes (g.F.Sources.contents c.args.sources.now) c.args.file.now _ (g.M.Memory.refused c.stream.new.memory) c.stream.result c.in-Ok.ensures.left
+    file_causes (g.F.Sources.contents c.args.sources.now) (g.F.Sources.reasons c.args.sources.now) c.args.file.now _ (g.M.Memory.refused c.stream.new.memory) c.stream.result c.in-Ok.ensures.opened c.in-Ok.ensures.left
     (rw c.in-Ok-new.ensures.left at c.stream.ensures.cause)

@@ -96,14 +96,14 @@ returns-in-Err-clause-cause g c =
     let st = c.loop-number.invariant in
     let known = left_known c.args.matcher.now.headed (Picks c.args.matcher.now.anywhere c.args.matcher.now.column (IsInSets c.args.matcher.now.sets.now) c.args.matcher.now.inverted) (label_of c.args.matcher.now.name) c.args.matcher.now.written c.args.reader.now.left c.loop-number.reader.left (g.S.Sink.state c.args.out.now) (g.S.Sink.state c.loop-number.out)
     c.loop-number.number c.loop-number.gathered.count c.loop-number.gathered.block c.loop-number.long st in
-    stop_cause (λ name. (name ≡ c.args.file.now) × TextFails c.args.reader.now.left) (g.M.Memory.refused c.next_part.new.memory) _ _ _ _ _ c.stop.ensures
-    (cause_weaker (λ name. (name ≡ c.args.file.now) × NoLineFails c.loop-number.reader.left) (λ name. (name ≡ c.args.file.now) × TextFails c.args.reader.now.left)
-    (g.M.Memory.refused c.next_part.new.memory) _ (λ name k. (k.0, told_fails c.args.reader.now.left c.loop-number.reader.left known k.1)) c.in-Err.ensures.cause)
+    stop_cause (λ name _. (name ≡ c.args.file.now) × TextFails c.args.reader.now.left) (g.M.Memory.refused c.next_part.new.memory) _ _ _ _ _ c.stop.ensures
+    (cause_weaker (λ name _. (name ≡ c.args.file.now) × NoLineFails c.loop-number.reader.left) (λ name _. (name ≡ c.args.file.now) × TextFails c.args.reader.now.left)
+    (g.M.Memory.refused c.next_part.new.memory) _ (λ name why k. (k.0, told_fails c.args.reader.now.left c.loop-number.reader.left known k.1)) c.in-Err.ensures.cause)
 
 pub returns-in-Err-take-clause-cause : goal.returns-in-Err-take-clause-cause
 returns-in-Err-take-clause-cause g c =
-    stop_cause (λ name. (name ≡ c.args.file.now) × TextFails c.args.reader.now.left) (g.M.Memory.refused c.next_part.new.memory) _ _ _ _ _ c.stop-in-Err-take.ensures
-    (take_cause (λ name. (name ≡ c.args.file.now) × TextFails c.args.reader.now.left) (g.M.Memory.refused c.next_part.new.memory)
+    stop_cause (λ name _. (name ≡ c.args.file.now) × TextFails c.args.reader.now.left) (g.M.Memory.refused c.next_part.new.memory) _ _ _ _ _ c.stop-in-Err-take.ensures
+    (take_cause (λ name _. (name ≡ c.args.file.now) × TextFails c.args.reader.now.left) (g.M.Memory.refused c.next_part.new.memory)
     (c.args.matcher.now.headed && (c.loop-number.number == 1)) (Picks c.args.matcher.now.anywhere c.args.matcher.now.column (IsInSets c.args.matcher.now.sets.now) c.args.matcher.now.inverted) (label_of c.args.matcher.now.name) c.args.matcher.now.written c.args.file.now
     c.loop-number.number c.next_part.new.reader.line (g.S.Sink.state c.catch_up.new.out) (g.S.Sink.state c.take.new.out) c.catch_up.new.self.block
     c.take.new.self.block _ (rw c.line-in-loop-number.ensures at c.in-Err-take.ensures).1)
@@ -111,13 +111,13 @@ returns-in-Err-take-clause-cause g c =
 pub returns-then-is_done-clause-cause : goal.returns-then-is_done-clause-cause
 returns-then-is_done-clause-cause g c =
     let (verdict, w, counted, writes, is) = c.finish.ensures in
-    rw c.told_behind.ensures (behind_cause (λ name. (name ≡ c.args.file.now) × TextFails c.args.reader.now.left) (g.M.Memory.refused c.next_part.new.memory) c.args.file
+    rw c.told_behind.ensures (behind_cause (λ name _. (name ≡ c.args.file.now) × TextFails c.args.reader.now.left) (g.M.Memory.refused c.next_part.new.memory) c.args.file
     c.first_long-long.result c.finish.result
-    (output_cause (λ name. (name ≡ c.args.file.now) × TextFails c.args.reader.now.left) (g.M.Memory.refused c.next_part.new.memory) verdict w c.finish.result is))
+    (output_cause (λ name _. (name ≡ c.args.file.now) × TextFails c.args.reader.now.left) (g.M.Memory.refused c.next_part.new.memory) verdict w c.finish.result is))
 
 pub returns-clause-cause : goal.returns-clause-cause
 returns-clause-cause g c =
-    stop_cause (λ name. (name ≡ c.args.file.now) × TextFails c.args.reader.now.left) (g.M.Memory.refused c.loop-number.memory) (error.Input c.args.file Unknown) _ _ _ _ c.stop-2.ensures (
+    stop_cause (λ name _. (name ≡ c.args.file.now) × TextFails c.args.reader.now.left) (g.M.Memory.refused c.loop-number.memory) (error.Input c.args.file Unknown) _ _ _ _ c.stop-2.ensures (
       refl,
       numbers_used c.args.matcher.now.headed (Picks c.args.matcher.now.anywhere c.args.matcher.now.column (IsInSets c.args.matcher.now.sets.now) c.args.matcher.now.inverted) (label_of c.args.matcher.now.name) c.args.matcher.now.written c.args.reader.now.left c.loop-number.reader.left (g.S.Sink.state c.args.out.now) (g.S.Sink.state c.loop-number.out)
           c.loop-number.number c.loop-number.gathered.count c.loop-number.gathered.block c.loop-number.long c.loop-number.invariant c.loop-number-test.false,

@@ -1,7 +1,7 @@
 use Rattle.std.proofs.Common.{codes, inl, refl}
 use Rattle.std.proofs.lemmas.Result.{err_from_is_err_and}
 use Rattle.cidr_lists.specs.Tables.{kept}
-use Rattle.netset_commands.specs.Causes.{FileMayFail}
+use Rattle.netset_commands.specs.Causes.{FileFails}
 use Rattle.netset_commands.proofs.FewestTold.{fewest_answered, fewest_cause, hole_refused, not_refused}
 use Rattle.netset_commands.proofs.commands.smallest.smallest.Goals as goal
 
@@ -29,4 +29,4 @@ returns-clause-answers g c =
 
 pub returns-clause-cause : goal.returns-clause-cause
 returns-clause-cause g c =
-    fewest_cause (FileMayFail (g.F.Sources.contents c.args.sources.now)) c.args.holes _ _ _ _ c.tell_fewest.result c.tell_fewest.ensures
+    fewest_cause (FileFails (g.F.Sources.contents c.args.sources.now) (g.F.Sources.reasons c.args.sources.now)) c.args.holes _ _ _ _ c.tell_fewest.result c.tell_fewest.ensures

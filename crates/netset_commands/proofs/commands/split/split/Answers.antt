@@ -1,6 +1,6 @@
 use Rattle.std.proofs.Common.{option_map}
 use Rattle.cidr_lists.specs.Formats.{style_in}
-use Rattle.netset_commands.specs.Causes.{FileMayFail}
+use Rattle.netset_commands.specs.Causes.{FileFails}
 use Rattle.netset_commands.proofs.Pools.{network_cause, split_in_list, split_in_network}
 use Rattle.netset_commands.proofs.commands.split.split.Goals as goal
 
@@ -11,7 +11,7 @@ returns-in-Ok-clause-answers g c =
 
 pub returns-in-Ok-clause-cause : goal.returns-in-Ok-clause-cause
 returns-in-Ok-clause-cause g c =
-    network_cause (FileMayFail (g.F.Sources.contents c.args.sources.now)) _ (option_map (λ s. style_in s) c.args.style) c.in-Ok.network c.args.len.now _ _ c.split_network.result c.split_network.ensures
+    network_cause (FileFails (g.F.Sources.contents c.args.sources.now) (g.F.Sources.reasons c.args.sources.now)) _ (option_map (λ s. style_in s) c.args.style) c.in-Ok.network c.args.len.now _ _ c.split_network.result c.split_network.ensures
 
 pub returns-in-Err-clause-answers : goal.returns-in-Err-clause-answers
 returns-in-Err-clause-answers g c =

@@ -2,7 +2,7 @@ use Rattle.std.proofs.Common.{inl, inr, refl, None, option_map}
 use Rattle.std.proofs.lemmas.Result.{err_from_is_err_and}
 use Rattle.cidr_lists.specs.Formats.{style_in}
 use Rattle.cidr_lists.specs.Sets.{networks_of}
-use Rattle.netset_commands.specs.Causes.{FileMayFail}
+use Rattle.netset_commands.specs.Causes.{FileFails}
 use Rattle.netset_commands.proofs.Pools.{free_cause, list_split}
 use Rattle.netset_commands.proofs.commands.split.split_list.Goals as goal
 
@@ -13,7 +13,7 @@ returns-clause-splits g c =
 
 pub returns-clause-cause : goal.returns-clause-cause
 returns-clause-cause g c =
-    free_cause (FileMayFail (g.F.Sources.contents c.args.sources.now)) _ (option_map (λ s. style_in s) c.args.style) (networks_of c.in_ok-sets.sets) c.in-Some.bits None _ _ c.tell_free.result c.tell_free.ensures
+    free_cause (FileFails (g.F.Sources.contents c.args.sources.now) (g.F.Sources.reasons c.args.sources.now)) _ (option_map (λ s. style_in s) c.args.style) (networks_of c.in_ok-sets.sets) c.in-Some.bits None _ _ c.tell_free.result c.tell_free.ensures
 
 pub returns-in_err-sets-clause-splits : goal.returns-in_err-sets-clause-splits
 returns-in_err-sets-clause-splits g c =

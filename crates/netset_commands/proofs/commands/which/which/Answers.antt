@@ -1,6 +1,6 @@
 use Rattle.std.proofs.Common.{inl, inr, refl, map}
 use Rattle.std.proofs.lemmas.Result.{err_from_is_err_and}
-use Rattle.netset_commands.specs.Causes.{FileMayFail}
+use Rattle.netset_commands.specs.Causes.{FileFails}
 use Rattle.netset_commands.proofs.AddressLines.{lines_answered}
 use Rattle.netset_commands.proofs.Causes.{argument_cause, output_cause}
 use Rattle.netset_commands.proofs.commands.which.which.Goals as goal
@@ -13,7 +13,7 @@ returns-clause-answers g c =
     (rw (c.verdict_of.ensures, c.some_has-found.ensures, c.as_slice.ensures.value) at c.by_output.ensures)
 
 pub returns-clause-cause : goal.returns-clause-cause
-returns-clause-cause g c = output_cause (FileMayFail (g.F.Sources.contents c.args.sources.now)) _ _ _ c.by_output.result c.by_output.ensures
+returns-clause-cause g c = output_cause (FileFails (g.F.Sources.contents c.args.sources.now) (g.F.Sources.reasons c.args.sources.now)) _ _ _ c.by_output.result c.by_output.ensures
 
 pub returns-in_err-address-clause-answers : goal.returns-in_err-address-clause-answers
 returns-in_err-address-clause-answers g c =
@@ -23,7 +23,7 @@ returns-in_err-address-clause-answers g c =
 pub returns-in_err-address-clause-cause : goal.returns-in_err-address-clause-cause
 returns-in_err-address-clause-cause g c =
     let (y, is, same) = err_from_is_err_and c.from_residual.result c.from_residual.ensures.1 in
-    rw (is, same) (argument_cause (FileMayFail (g.F.Sources.contents c.args.sources.now)) _ _ c.in_err-address.field-0.0 c.in_err-address.ensures)
+    rw (is, same) (argument_cause (FileFails (g.F.Sources.contents c.args.sources.now) (g.F.Sources.reasons c.args.sources.now)) _ _ c.in_err-address.field-0.0 c.in_err-address.ensures)
 
 pub returns-in_err-entries-clause-answers : goal.returns-in_err-entries-clause-answers
 returns-in_err-entries-clause-answers g c =

@@ -5,7 +5,7 @@ use Rattle.netset_commands.proofs.EachFile.{list_read}
 use Rattle.netset_commands.proofs.input.several.add_opened.Goals as goal
 
 pub returns-in-Err-clause-cause : goal.returns-in-Err-clause-cause
-returns-in-Err-clause-cause g c = not_opened (g.F.Sources.contents c.args.sources.now) c.args.file.now (c.in-Err.ensures.none)
+returns-in-Err-clause-cause g c = not_opened (g.F.Sources.contents c.args.sources.now) (g.F.Sources.reasons c.args.sources.now) c.args.file.now c.in-Err.why c.in-Err.ensures.none c.in-Err.ensures.why
 
 pub returns-in-Err-Line-clause-adds : goal.returns-in-Err-Line-clause-adds
 returns-in-Err-Line-clause-adds g c = (
@@ -17,7 +17,7 @@ returns-in-Err-Line-clause-adds g c = (
 
 pub returns-in-Err-Input-clause-cause : goal.returns-in-Err-Input-clause-cause
 returns-in-Err-Input-clause-cause g c =
-    file_fails (g.F.Sources.contents c.args.sources.now) c.args.file.now _ c.in-Ok.ensures.left (rw c.in-Err-Input.field-0-is at c.in-Err-Input.ensures.cause)
+    file_fails (g.F.Sources.contents c.args.sources.now) (g.F.Sources.reasons c.args.sources.now) c.args.file.now _ _ c.in-Ok.ensures.opened c.in-Ok.ensures.left (rw c.in-Err-Input.field-0-is at c.in-Err-Input.ensures.cause)
 
 pub returns-in-Err-NoMemory-clause-cause : goal.returns-in-Err-NoMemory-clause-cause
 returns-in-Err-NoMemory-clause-cause g c = rw c.in-Err-NoMemory.field-0-is at c.in-Err-NoMemory.ensures.cause

@@ -9,7 +9,7 @@ use Rattle.netset_commands.proofs.input.several.read_given.Goals as goal
 pub returns-in_err-bytes-clause-cause : goal.returns-in_err-bytes-clause-cause
 returns-in_err-bytes-clause-cause g c =
     let (y, is, same) = err_from_is_err_and c.from_residual-in_err-bytes.result c.from_residual-in_err-bytes.ensures.1 in
-    rw (is, same) (whole_cause (g.F.Sources.contents c.args.sources.now) c.args.file.now _ (g.M.Memory.refused c.read_whole.new.memory) c.in_err-bytes.field-0.0
+    rw (is, same) (whole_cause (g.F.Sources.contents c.args.sources.now) (g.F.Sources.reasons c.args.sources.now) c.args.file.now _ (g.M.Memory.refused c.read_whole.new.memory) c.in_err-bytes.field-0.0 c.in_ok-begun.ensures.opened
     (opens_begun _ (g.F.Sources.contents c.args.sources.now c.args.file.now) c.in_ok-begun.begun c.in_ok-begun.ensures.told) c.in_err-bytes.ensures.cause)
 
 pub returns-then-is_stored-clause-gives : goal.returns-then-is_stored-clause-gives
@@ -35,5 +35,5 @@ returns-clause-gives g c =
 
 pub returns-clause-cause : goal.returns-clause-cause
 returns-clause-cause g c =
-    rw c.unread.ensures (file_cause (g.F.Sources.contents c.args.sources.now) c.args.file _ (g.M.Memory.refused c.read_list.new.memory) c.in-Err.e
+    rw c.unread.ensures (file_cause (g.F.Sources.contents c.args.sources.now) (g.F.Sources.reasons c.args.sources.now) c.args.file _ (g.M.Memory.refused c.read_list.new.memory) c.in-Err.e c.in_ok-begun.ensures.opened
     (opens_begun _ (g.F.Sources.contents c.args.sources.now c.args.file.now) c.in_ok-begun.begun c.in_ok-begun.ensures.told) c.in-Err.ensures.cause)
