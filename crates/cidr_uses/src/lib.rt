@@ -1,5 +1,5 @@
-//! Parts of small programs, written by the public calls of `cidr`, `cidr_table`, `cidr_forwarding`, `cidr_fib`,
-//! `cidr_lookup`, `cidr_arrays`, `cidr_sets` and `cidr_ext` only and proved from their public contracts only.
+//! Parts of small programs, written by the public calls of `cidr`, `cidr_table`, `cidr_forwarding`, `cidr_lookup`,
+//! `cidr_arrays`, `cidr_sets` and `cidr_ext` only and proved from their public contracts only.
 #![tactic(auto)]
 
 pub mod access_list;

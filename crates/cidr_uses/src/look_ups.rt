@@ -4,6 +4,7 @@ ghost use Rattle.cidr_table.specs.model.LastRows.{AreLastRows};
 ghost use Rattle.cidr_table.specs.model.Prefixes.{IsLookedUp, AreMatching, AreShortestFirst};
 
 use cidr::NetworkBits;
+use cidr_lookup::{Keyed, ReadyTable, TableError};
 use cidr_table::LpmTable;
 use cidr_table::laws::look_ups::look_ups_have_one_result;
 use std::alloc::{AllocError, Global};
@@ -34,16 +35,19 @@ pub fn row_or_default<C: NetworkBits + Copy, V: Copy>(
 }
 
 /// The rows of the longest matches of two networks, for which the table is made ready once.
-pub fn two_rows<C: NetworkBits + Copy, V: Copy>(
+pub fn two_rows<C: Keyed, V: Copy>(
     alloc: Global,
-    routes: &LpmTable<C, V>,
+    routes: LpmTable<C, V>,
     one: &C,
     other: &C,
-) -> Result<(Option<(C, V)>, Option<(C, V)>), AllocError>
-    ensures one { IfOk result (λ rows. IsLookedUp C.bits (C.bits one.now) routes.now.rows rows.0) }
-    ensures other { IfOk result (λ rows. IsLookedUp C.bits (C.bits other.now) routes.now.rows rows.1) }
+) -> Result<(Option<(C, V)>, Option<(C, V)>), TableError>
+    ensures one { IfOk result (λ rows. IsLookedUp C.bits (C.bits one.now) routes.rows rows.0) }
+    ensures other { IfOk result (λ rows. IsLookedUp C.bits (C.bits other.now) routes.rows rows.1) }
 {
-    let ready = routes.lookups(alloc)?;
+    let ready = match ReadyTable::new(alloc, routes) {
+        Ok(ready) => ready,
+        Err((_, error)) => return Err(error),
+    };
     Ok((ready.lookup(one).copied(), ready.lookup(other).copied()))
 }
 
@@ -74,17 +78,15 @@ pub fn covering_rows<C: NetworkBits + Copy, V: Copy + Drop>(
     Ok(rows)
 }
 
-/// The rows that the table itself returns and that its rows made ready return, which are the same.
-pub fn rows_of_both_look_ups<C: NetworkBits + Copy, V: Copy>(
-    alloc: Global,
-    routes: &LpmTable<C, V>,
+/// The rows that a table itself returns and that the table made ready returns, which are the same.
+pub fn rows_of_both_look_ups<C: Keyed, V: Copy>(
+    ready: &ReadyTable<C, V>,
     asked: &C,
-) -> Result<(Option<(C, V)>, Option<(C, V)>), AllocError>
-    ensures { IfOk result (λ rows. rows.0 ≡ rows.1) }
+) -> (Option<(C, V)>, Option<(C, V)>)
+    ensures { result.0 ≡ result.1 }
 {
     look_ups_have_one_result::<C, V>();
-    let ready = routes.lookups(alloc)?;
-    let one = routes.lookup(asked).copied();
+    let one = ready.table().lookup(asked).copied();
     let other = ready.lookup(asked).copied();
-    Ok((one, other))
+    (one, other)
 }

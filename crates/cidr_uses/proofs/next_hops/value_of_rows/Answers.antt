@@ -9,5 +9,5 @@ returns-clause-value g c =
     let bits = g.C.BitString.bits in (
       c.from_rows.result.rows,
       c.from_rows.ensures.rows,
-      subst (λ (t : StoredRows g.row.C.Denot ℕ). IsValueLookedUp bits (bits c.args.asked.now) t.rows c.find.result) c.in-Ok.ensures.ok c.find.ensures,
+      subst (λ (t : StoredRows g.row.C.Denot ℕ). IsValueLookedUp bits (bits c.args.asked.now) t.rows c.value.result) c.in-Ok.ensures.ok c.value.ensures,
     )
