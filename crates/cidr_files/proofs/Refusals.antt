@@ -1,5 +1,5 @@
 -- Rows that are written, and why others are not.
-use Rattle.std.proofs.Common.{subst, arith, ℕ, List, length}
+use Rattle.std.proofs.Common.{subst, arith, ℕ, length}
 use Rattle.cidr_arrays.specs.Arrays.{key_networks}
 use Rattle.cidr_arrays.proofs.Numbers.{length_networks}
 use Rattle.cidr_lookup.specs.Tables.{IsLookupTable, IsTableRefused}

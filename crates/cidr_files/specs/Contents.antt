@@ -1,11 +1,11 @@
 -- What is written in a file.
-use Rattle.std.specs.Prelude.{◌≡◌, ◌⊎◌, ℕ, ◌^◌, ◌<◌, ◌≤◌, List, [], ◌∷◌, ◌++◌, Some, length, map, ⊤}
+use Rattle.std.specs.Prelude.{◌≡◌, ◌⊎◌, ℕ, ◌^◌, ◌<◌, ◌≤◌, List, [], ◌∷◌, ◌++◌, length, map, ⊤}
 use Rattle.std.specs.Int.{from_le_bytes, w32}
 use Rattle.cidr_arrays.specs.Arrays.{key_networks}
 use Rattle.cidr_arrays.specs.declared.key.Key.{Key}
 use Rattle.cidr_lookup.specs.Tables.{IsLookupTable, IsTableRefused, ipv4_steps, ipv6_steps}
 use Rattle.cidr_lookup.specs.declared.table.LookupTable.{LookupTable}
-use Rattle.cidr_lookup.specs.declared.table.TableError.TheVariants.{TooMany, Refused, TooLarge, NoMemory}
+use Rattle.cidr_lookup.specs.declared.table.TableError.TheVariants.{TooMany, NoMemory}
 use Rattle.cidr_files.specs.Layout.{ipv4_counts, ipv4_parts, ipv6_counts, ipv6_parts, magic, version, wide_word}
 use Rattle.cidr_files.specs.Spelling.{wide_bytes, word_bytes}
 use Rattle.cidr_files.specs.Tables.{AreOffsets, stored_networks, offsets_in, part_at}

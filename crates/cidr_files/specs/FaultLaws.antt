@@ -1,5 +1,5 @@
 -- A file of tables has no fault, if its rows and words are few enough: what is refused then is memory.
-use Rattle.std.proofs.Common.{◌≡◌, refl, ap, arith, inl, inr, ℕ, ◌^◌, ◌<◌, ◌⊎◌, List, length}
+use Rattle.std.proofs.Common.{◌≡◌, refl, ap, arith, inl, inr, ℕ, ◌⊎◌, List}
 use Rattle.cidr_lookup.specs.FaultLaws as lookup
 use Rattle.cidr_lookup.specs.declared.checking.Fault.{Fault as LookupFault}
 use Rattle.cidr_lookup.specs.declared.checking.Fault.TheVariants.{Steps, TooLong, Keys, First, Word}

@@ -4,7 +4,7 @@ use Rattle.std.specs.Int.{from_le_bytes, w32}
 use Rattle.cidr_arrays.specs.Arrays.{key_networks}
 use Rattle.cidr_lookup.specs.Tables.{IsLookupTable}
 use Rattle.cidr_lookup.proofs.Tables.{one_table}
-use Rattle.cidr_files.specs.Contents.{AreContents, IsFileOfRows, counts_of, file_bytes, head_of, key_addresses, lengths_of, parts_written}
+use Rattle.cidr_files.specs.Contents.{AreContents, IsFileOfRows, counts_of, head_of, key_addresses, lengths_of, parts_written}
 use Rattle.cidr_files.specs.Layout.{wide_word}
 use Rattle.cidr_files.specs.Spelling.{wide_bytes, word_bytes}
 use Rattle.cidr_files.specs.Written.{joined_parts, spelled}

@@ -1,11 +1,11 @@
 -- The words of a table fit in 32 bits, if there are fewer than 2 ^ 31.
-use Rattle.std.proofs.Common.{◌≡◌, refl, sym, ap, subst, ◌∙◌, arith, inl, inr, ℕ, zero, suc, ◌+◌, ◌-◌, ◌*◌, ◌/◌, ◌%◌, ◌^◌, ◌<◌, ◌⊎◌, if◌then◌else◌, List, [], ◌∷◌, ◌++◌, length, get_or, length-append}
+use Rattle.std.proofs.Common.{◌≡◌, refl, sym, ap, subst, arith, inl, inr, ℕ, zero, suc, ◌+◌, ◌-◌, ◌*◌, ◌/◌, ◌%◌, ◌^◌, ◌<◌, List, [], ◌∷◌, ◌++◌, length, get_or, length-append}
 use Rattle.std.proofs.lemmas.Bool.{cases_lt, cond_both}
 use Rattle.std.proofs.lemmas.List.{get_or_append_left, get_or-append_right}
 use Rattle.std.proofs.lemmas.Nat.{mod_below, pow_pos, shr_below}
 use Rattle.cidr_lookup.specs.Nodes.{AreEntries, IsEntry, begins_run, marks, node, runs}
 use Rattle.cidr_lookup.specs.Tables.{IsAnswer, IsLookupTable}
-use Rattle.cidr_lookup.proofs.Entries.{all_grow, grows}
+use Rattle.cidr_lookup.proofs.Entries.{grows}
 use Rattle.cidr_lookup.proofs.Nodes.{marks_fit}
 
 -- each of the words fits
