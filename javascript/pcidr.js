@@ -9,10 +9,10 @@
 // copies the answer out. Values and lists lie in JavaScript's memory, so that nothing has to be given back; a table alone keeps
 // memory of the module, which goes with it. What a parameter of the module would cut is refused with a RangeError.
 
-// The errors of pcidr.h, in the order of their numbers from 1 on.
+// The errors of pcidr.h, in the order of their numbers from 1 on; there is none of the number 16.
 const ERRORS = ["NotUtf8", "Address", "Length", "LengthTooLong", "HostPart", "Truncated", "Tag", "Any", "Family", "NoValue", "NoRoom",
-    "NoMemory", "Wrapped", "NotAddress", "TooMany", "Shift", "NoTable", "NoFile", "OtherVersion", "Short", "Long", "Values", "None",
-    "NoSlash", "Mask", "Scattered", "LineTooLong", "TwoFamilies", "Reversed"];
+    "NoMemory", "Wrapped", "NotAddress", "TooMany", null, "NoTable", "NoFile", "OtherVersion", "Short", "Long", "Values", "None",
+    "NoSlash", "Mask", "Scattered", "LineTooLong", "TwoFamilies", "Reversed", "Present"];
 const OK = 0, NO_VALUE = 10, NO_ROOM = 11, NO_MEMORY = 12, NONE = 23;
 
 /** What the library refuses: `code` is the number of the error in pcidr.h. */
@@ -24,7 +24,7 @@ export class PcidrError extends Error {
     }
 }
 /** A class for each error, as `errors.HostPartError`. */
-export const errors = Object.freeze(Object.fromEntries(ERRORS.map((word) => {
+export const errors = Object.freeze(Object.fromEntries(ERRORS.filter((word) => word).map((word) => {
     const name = `${word}Error`;
     const kind = { [name]: class extends PcidrError {} }[name];
     Object.defineProperty(kind.prototype, "name", { value: name, configurable: true, writable: true });

@@ -1,7 +1,7 @@
 //! A call that breaks the condition on its caller panics, in every build: what `conditions` has, call by call.
 
-use cidr::{drive, AnyIpCidr, BitString, End, IpInet, Ipv4Cidr, Ipv4Inet, Ipv6Inet};
-use cidr_sets::{slices, AddressSpace};
+use cidr::{AnyIpCidr, BitString, End, FamilyCidr, IpInet, Ipv4Cidr, Ipv4Inet, Ipv6Inet, drive};
+use cidr_sets::slices;
 use cidr_table::{least_cover_in_place, LpmTable};
 use std::panic::catch_unwind;
 

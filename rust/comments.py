@@ -5,9 +5,12 @@ goes on with values of one before it is given them, if they are those of GIVEN, 
 that of BODIES, and others are shown and not run.
 
 A call without an example in the sources has that of the file `examples`, and a call of a trait that of a type, by the trait.
+`sections.py` has what the page of a call says besides.
 """
 import re
 from pathlib import Path
+
+import sections
 
 LINE = re.compile(r"\s*//[/!] ?")
 SHOWN = re.compile(r"(\s*)(\S.*?)\s+// (.*)$")
@@ -20,10 +23,9 @@ HEADS = {
     "cidr_table": ["use cidr::{errors::*, *};", "use cidr_table::{alloc::*, *};"],
     "cidr_sets": ["use cidr::*;", "use cidr_table::Probe;", "use cidr_sets::{access::*, alloc::*, *};"],
     "cidr_forwarding": ["use cidr::*;", "use cidr_table::*;", "use cidr_support::alloc::Global;", "use cidr_forwarding::*;"],
-    "cidr_arrays": ["use cidr_arrays::*;", "use core::net::Ipv4Addr;"],
-    "cidr_lookup": ["use cidr::Ipv4Cidr;", "use cidr_arrays::Key;", "use cidr_lookup::*;", "use cidr_support::alloc::Global;",
-                    "use cidr_table::LpmTable;", "use core::net::Ipv4Addr;"],
-    "cidr_files": ["use cidr_arrays::{Key, Word};", "use cidr_files::*;", "use cidr_support::{alloc::Global, vec::Vec};",
+    "cidr_lookup": ["use cidr::Ipv4Cidr;", "use cidr_lookup::*;", "use cidr_support::alloc::Global;", "use cidr_table::LpmTable;",
+                    "use core::net::Ipv4Addr;"],
+    "cidr_files": ["use cidr_files::*;", "use cidr_lookup::{Address, Key};", "use cidr_support::{alloc::Global, vec::Vec};",
                    "use core::net::{Ipv4Addr, Ipv6Addr};",
                    "fn name<'a>(table: &Table<'a>, address: Ipv4Addr) -> Option<&'a str> {",
                    "    core::str::from_utf8(lookup(&table.ipv4, address.to_bits().to_le_bytes())?.1).ok()", "}"],
@@ -69,19 +71,11 @@ GIVEN = {
 }
 # Examples that go on with other values, by how their first line begins: what they are given. Without a line they are shown.
 ROUTES_OF_ONE = 'let mut routes: Routes = [("10.0.0.0/8".parse()?, 1)].into_iter().collect();'
-READY_OF_ONE = f"{ROUTES_OF_ONE}\nlet ready = routes.into_lookups(Global).map_err(|_| AllocError)?;"
 OTHERS = {
     "let mut rows = routes.into_iter();":
         'let routes: Routes = [("0.0.0.0/0".parse()?, 1), ("10.0.0.0/8".parse()?, 2)].into_iter().collect();',
     "routes.for_each_mut(": 'let mut routes: Routes = [("10.0.0.0/8".parse()?, 9)].into_iter().collect();',
     "routes.retain(": ROUTES_OF_ONE,
-    "let ready = routes.into_lookups(": ROUTES_OF_ONE,
-    'ready.lookup(&"10.1.2.5"': READY_OF_ONE,
-    "ready.table()": READY_OF_ONE,
-    "let mut routes = ready.into_table()": READY_OF_ONE,
-    'ready.lookup(&"10.1.2.4"':
-        'let routes: Routes = [("10.0.0.0/8".parse()?, 1), ("10.1.0.0/16".parse()?, 3)].into_iter().collect();\n'
-        "let ready = routes.lookups(Global)?;",
     "set.ranges()":
         'let set = ["10.0.0.1".parse()?, "10.0.0.2/31".parse()?, "10.0.0.4/31".parse()?, "10.0.0.6".parse()?];\n'
         "let set: NetworkSet<Ipv4Cidr> = set.into_iter().collect();",
@@ -174,13 +168,15 @@ CALLS_OF = {
 }
 # What is said of proofs and of other crates, and what of it holds in Rust.
 SAID = [
-    (", and where a `u32` for each row is enough, the forwarding table of `cidr_fib`, which seldom reads a row and takes less time", ""),
+    (", and where all are of one family, a `ReadyTable` of `cidr_lookup`, which reads one row at most and takes less time", ""),
     ("has to prove", "has to ensure"),
     (", and `laws` has laws for the proofs of callers", ""),
     (": [`laws::networks`](crate::laws::networks) says both", ""),
     ("In the examples, which stand in programs of the repository, a value behind `//` is what its line prints.",
      "Conditions on the caller, as that of `+`, are asserted: a call that breaks one panics."),
     ("proof of the caller shows to stay", "caller knows to stay"),
+    ("It takes no step, unlike `Iterator::count`.", "It takes no step.\n    ///\n"
+     "    /// It hides `Iterator::count`, which takes a step for each and returns a `usize`: call that as `Iterator::count(walk)`."),
 ]
 KEYWORDS = set("as break const continue else false fn for if in let loop match mut return self true type use while".split())
 
@@ -209,9 +205,12 @@ def by_trait(line, trait, type_name, call, takes):
     return f"{trait}::{call}({taken}{value}{'' if arguments.startswith(')') else ', '}{arguments}" if found else line
 
 
-def with_examples(texts, crate):
-    """The files of a library with an example of each call that has none in the sources."""
-    listed, calls_of = listed_examples(), CALLS_OF.get(crate, {})
+def with_examples(texts, crate, module="crate"):
+    """The files of a library with an example of each call that has none in the sources, and with the sections of its calls.
+
+    `module` has its generic types.
+    """
+    listed, calls_of, known = listed_examples(), CALLS_OF.get(crate, {}), sections.conditions()
     examples = {
         (type_name, call): [LINE.sub("", line, count=1) for line in found.split("\n")[:-1]]
         for place, type_name in calls_of.values()
@@ -220,13 +219,13 @@ def with_examples(texts, crate):
     }
     made = {}
     for place, text in texts.items():
-        out = []
+        out, file = [], f"{crate}/{place.with_suffix('')}"
         for block in re.split(r"^(?=(?:pub )?(?:trait|impl)\b)", text, flags=re.M):
             trait = block.partition("pub trait ")[2].partition(":")[0] if block.startswith("pub trait ") else ""
 
             def with_one(found):
                 comment, between, call, takes = found.groups()
-                lines = listed.pop((f"{crate}/{place.with_suffix('')}", call), None)
+                lines = listed.pop((file, call), None)
                 if "```" not in comment and trait in calls_of:
                     type_name = calls_of[trait][1]
                     lines = [by_trait(line, trait, type_name, call, takes) for line in examples[type_name, call]]
@@ -236,7 +235,8 @@ def with_examples(texts, crate):
                 return comment + "".join(f"{lead} {line}".rstrip() + "\n" for line in ["", "```", *lines, "```"]) + between
 
             out.append(COMMENTED.sub(with_one, block))
-        made[place] = "".join(out)
+        shown = {name: listed.pop((file, name)) for of, name in [*listed] if of == file and name[0].isupper()}
+        made[place] = sections.with_aliases(sections.with_calls("".join(out), file, known), shown, module)
     if left := [key for key in listed if key[0].startswith(f"{crate}/")]:
         raise ValueError(f"rust/examples: no call {left}")
     return made

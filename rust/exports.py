@@ -30,12 +30,10 @@ def crossing(name, kind):
     """How a parameter is written in C's call, and how it is passed on."""
     if kind == "Global":
         return "", "Global"
-    if kind == "&CTable<'_>":
-        return f"{name}: *const Table", f"&(*{name}).parts()"
     if found := re.fullmatch(r"&(mut )?\[(\w+)\]", kind):
         how = "mut" if found[1] else "const"
         return f"{name}: *{how} {found[2]}, {name}_len: usize", f"slice{'_mut' if found[1] else ''}({name}, {name}_len)"
-    if found := re.fullmatch(r"&(mut )?([\w<'_>]+)", kind):
+    if found := re.fullmatch(r"&(mut )?(\w+)", kind):
         how = "mut" if found[1] else "const"
         return f"{name}: *{how} {found[2]}", f"&{'mut ' if found[1] else ''}*{name}"
     return f"{name}: {kind}", name
@@ -49,9 +47,8 @@ HEAD = """//! The calls for C. Each passes on what it is given, which is as the 
 
 def written(calls, homes):
     """The text of `exports.rs`."""
-    uses = {f"use crate::{homes[name]}::{name};" for _, _, of, _ in calls for _, kind in of for name in re.findall(r"\bC\w+", kind)
-            if name != "CTable"}
-    uses |= {"use cidr_arrays::Halves;", "use cidr_support::alloc::Global;", "use crate::pointers::{slice, slice_mut, Table};"}
+    uses = {f"use crate::{homes[name]}::{name};" for _, _, of, _ in calls for _, kind in of for name in re.findall(r"\bC\w+", kind)}
+    uses |= {"use cidr_lookup::Halves;", "use cidr_support::alloc::Global;", "use crate::pointers::{slice, slice_mut};"}
     text = []
     for module, name, of, gives in calls:
         crossed = [crossing(*each) for each in of]

@@ -135,6 +135,7 @@ RULES = [
     ("`collect` of an allocator", r"\.collect\(alloc\)", ".collect_in(alloc)"),
     ("strings and lists of a fixed room are of `cidr_support`", r"\barrayvec::", "cidr_support::arrayvec::"),
     ("the crates need no operating system", r"\bstd::", "core::"),
+    ("a call of `str` that Rust has from 1.87 on", r"(?<!::)\bstr::from_utf8\(", "core::str::from_utf8("),
 ]
 
 
@@ -243,11 +244,15 @@ def with_assertions(text, conditions):
     return with_lines(lines, added)
 
 
+# Longer functions that are inlined: each is called for each octet of an address.
+INLINED = ("octet_of", "take_octet", "read_octet")
+
+
 def with_hints(text, longest=8):
     """Rattle inlines short functions across crates, and rustc those with this attribute."""
     lines, added = text.split("\n"), {}
-    for _name, indent, first, opened, last in functions(lines):
-        if last - opened <= longest and not lines[first - 1].lstrip().startswith("#[inline"):
+    for name, indent, first, opened, last in functions(lines):
+        if (last - opened <= longest or name in INLINED) and not lines[first - 1].lstrip().startswith("#[inline"):
             added[first - 1] = [f"{indent}#[inline]"]
     return with_lines(lines, added)
 

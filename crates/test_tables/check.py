@@ -1,5 +1,5 @@
 #!/usr/bin/env python3
-"""Judges smallest tables with the same forwarding that a program writes, and what forwarding tables find.
+"""Judges smallest tables with the same forwarding that a program writes, and what tables made ready find.
 
     check.py PROGRAM            a part of the tables, within seconds
     check.py PROGRAM whole      all of them, also beside crates/cidr_bench/beside/smallest.rs, which needs `rustc`
@@ -151,15 +151,15 @@ def tables_of_many_rows(count):
             family = numbers.randrange(2) if kind == "any" else kind == "ipv6"
             length = numbers.randrange(129 if family else 33)
             address = (numbers.getrandbits(128) & few) >> 128 - length << 128 - length
-            rows[family << 128 | address, 1 + length] = numbers.randrange((1 << 32) - 2)
+            rows[family << 128 | address, 1 + length] = numbers.getrandbits(32)
         if kind == "any" and numbers.randrange(2):
             rows[0, 0] = numbers.randrange(4)
         yield kind, rows
 
 
-def table_of_parts(count, turns=1):
-    """Networks of IPv4, so many that their ranges are kept by parts, and short ones among them. One in so many turns may
-    have more than 24 bits: where few do, these are blocks."""
+def table_of_routes(count, turns):
+    """Networks of IPv4, so many that most blocks of addresses have nodes, and short ones among them. One in so many turns
+    may have more than 24 bits, so that nodes are of up to three or four steps."""
     numbers = random.Random(20261128)
     rows = {}
     for index in range(count):
@@ -283,10 +283,9 @@ def main():
         subprocess.run(["rustc", "-O", "--edition", "2021", "-o", beside, source], check=True)
     differ = judge(program, "forwardings of three bits", forwardings_of_three_bits(1 if whole else 29), beside)
     differ += judge(program, "random nested tables", random_tables(*((100_000, 50) if whole else (1_000, 10))), beside)
-    differ += judge_found(program, "forwarding tables", tables_of_many_rows(3_000 if whole else 90))
-    differ += judge_found(program, "a forwarding table by parts", table_of_parts(900_000 if whole else 50_000))
+    differ += judge_found(program, "look-ups", tables_of_many_rows(3_000 if whole else 90))
+    differ += judge_found(program, "look-ups in many rows", table_of_routes(900_000 if whole else 50_000, 16))
     if whole:
-        differ += judge_found(program, "a forwarding table by blocks", table_of_parts(900_000, 16))
         differ += judge(program, "different values", different_values(900_000), beside)
     sys.exit(differ > 0)
 

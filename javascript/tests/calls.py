@@ -14,8 +14,8 @@ import re
 import sys
 
 WIDTHS = {"uint8_t": 1, "uint32_t": 4, "uint64_t": 8, "size_t": 8, "char": 1, "pcidr_value": 24, "pcidr_halves": 16, "pcidr_special": 32,
-          "pcidr_range": 48, "pcidr_rule": 32, "pcidr_row": 32, "pcidr_table": 56, "pcidr_file": 144, "pcidr_found": 16}
-POINTERS = (0, 8, 16, 32)  # where a pcidr_table has addresses
+          "pcidr_range": 48, "pcidr_rule": 32, "pcidr_row": 32, "pcidr_table": 48, "pcidr_table_sizes": 32, "pcidr_file": 144, "pcidr_found": 16}
+POINTERS = (0, 16)  # where a pcidr_table has addresses
 r = random.Random(85)
 
 
@@ -192,48 +192,55 @@ def file_of(library):
 
 
 def table_of(library, family, made):
-    """The arrays of a look-up table."""
-    shift, entries = (r.choice((24, 16, 31)), r.choice((0, 5, 257))) if family == 4 else (r.choice((96, 112, 64)), r.choice((0, 5, 257)))
-    room, width = 2 * len(made) + 1, 4 if family == 4 else 16
+    """The arrays of a look-up table, and how many steps it has."""
     call = Call(f"pcidr_ipv{family}_table_build")
     call.add_memory(b"".join(made)), call.add_number(len(made), 8)
-    for w in (width, 4):
-        call.add_memory(bytes(room * w)), call.add_number(room, 8)
-    call.add_memory(bytes(entries * 4)), call.add_number(entries, 8), call.add_number(shift, 4), call.add_memory(bytes(8))
+    for _ in range(2):
+        call.add_memory(bytes(1 << 14)), call.add_number(1 << 12, 8)
+    call.add_memory(bytes(32))
     code, after = call.run(library, False)
     assert code == 0, code
-    count = int.from_bytes(after[4][:8], "little")
-    return after[1][:count * width], after[2][:count * 4], after[3][:entries * 4], count, entries, shift
+    first, words, _, steps = (int.from_bytes(after[3][at:at + 8], "little") for at in range(0, 32, 8))
+    return after[1][:first * 4], after[2][:words * 4], steps
+
+
+def address_in(made, family):
+    """An address, mostly one of a network of these."""
+    if not made or r.random() < 0.3:
+        return value("address")
+    return r.choice(made)[:16] + bytes((32 if family == 4 else 192,)) + bytes(7)
 
 
 def table_call(library, name, parameters):
     family = 4 if "ipv4" in name else 6
     made = ascending(family)
-    starts, answers, level, count, entries, shift = table_of(library, family, made)
-    if r.random() < 0.2 and answers:
-        answers = bytes(b ^ (r.randrange(256) if r.random() < 0.1 else 0) for b in answers)
+    first, words, steps = table_of(library, family, made)
+    if r.random() < 0.2:
+        first, words = (bytes(b ^ (r.randrange(256) if r.random() < 0.1 else 0) for b in array) for array in (first, words))
+    if r.random() < 0.1:
+        steps = r.choice((0, steps + 1, 21, 22, number(32)))
     call = Call(name)
-    asked = [value("address") for _ in range(r.randrange(6))]
+    asked = [address_in(made, family) for _ in range(r.randrange(6))]
     room = len(asked) + r.randrange(2)
-    table = (bytes(24) + count.to_bytes(8, "little") + bytes(8) + entries.to_bytes(8, "little") + shift.to_bytes(4, "little") + len(made).to_bytes(4, "little"))
+    is_built = name.endswith("build")
+    sizes = [max(len(array) // 4 + (r.choice((0, 0, -1, 1)) if is_built else 0), 0) for array in (first, words)]
+    table = bytes(32) + steps.to_bytes(4, "little") + len(made).to_bytes(4, "little") + bytes(8)
     for kind, const, is_pointer, word in parameters:
         if word == "table":
-            at = call.lead_to(answers)
-            call.add_memory(table, [(0, None), (8, None), (16, at), (32, None)])
+            call.add_memory(table, [(at, None) for at in POINTERS])
         elif word == "address":
-            call.add_memory(value())
+            call.add_memory(address_in(made, family))
         elif is_pointer:
-            call.add_memory({"networks": b"".join(made), "starts": starts, "answers": answers, "level": level, "asked": b"".join(asked),
-                             "out": out_of(4 * room), "count": bytes(8)}[word])
+            rooms = {"first": out_of(4 * sizes[0]), "words": out_of(4 * sizes[1])} if is_built else {"first": first, "words": words}
+            call.add_memory({"networks": b"".join(made), **rooms, "sizes": out_of(32), "asked": b"".join(asked), "out": out_of(4 * room)}[word])
         else:
-            width = 16 if family == 6 else 4
-            call.add_number({"networks_len": len(made), "starts_len": count, "answers_len": count, "level_len": entries, "shift": shift,
-                             "rows": len(made), "asked_len": len(asked), "out_len": room - r.randrange(2) if room else 0}[word], WIDTHS[kind])
+            call.add_number({"networks_len": len(made), "first_len": sizes[0], "words_len": sizes[1], "steps": steps,
+                             "asked_len": len(asked), "out_len": room - r.randrange(2) if room else 0}[word], WIDTHS[kind])
     return call
 
 
 def made_call(library, name, parameters):
-    if "_table_" in name and name != "pcidr_table_room":
+    if name.startswith(("pcidr_ipv4_table_", "pcidr_ipv6_table_")):
         return table_call(library, name, parameters)
     call, counts, ends = Call(name), {}, []
     content, where = file_of(library) if name.startswith(("pcidr_file_", "pcidr_set_has")) and not name.endswith("write") else (b"", b"")
@@ -246,7 +253,7 @@ def made_call(library, name, parameters):
             call.add_number(counts[word.removesuffix("_len")], width)
         elif not is_pointer:
             call.add_number({"len": r.choice((r.randrange(34), r.randrange(256))), "high": r.choice((0, 0, number(64))), "low": r.choice((0, 1, 7, number(64))),
-                             "host_bits": r.randrange(6), "code": r.randrange(40), "index": r.choice((0, 1, 9, 200)), "rows": r.getrandbits(32)}[word], width)
+                             "host_bits": r.randrange(6), "code": r.randrange(40), "index": r.choice((0, 1, 9, 200))}[word], width)
         elif word == "text":
             made = text(name)
             counts[word] = len(made)

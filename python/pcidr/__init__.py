@@ -32,7 +32,7 @@ if TYPE_CHECKING:
     )
     from pcidr._tables import Matches, StoredTable, Table
 
-__version__ = "0.3.0"
+__version__ = "0.4.0"
 
 __all__ = [
     "Address",

@@ -8,7 +8,7 @@ if TYPE_CHECKING:
     from collections.abc import Callable
     from typing import Any
 
-VERSION = 0x000300
+VERSION = 0x000400
 TEXT_ROOM = 44
 MESSAGE_ROOM = 100
 MASK_ROOM = 80
@@ -43,7 +43,6 @@ class Code:
     WRAPPED = 13
     NOT_ADDRESS = 14
     TOO_MANY = 15
-    SHIFT = 16
     NO_TABLE = 17
     NO_FILE = 18
     OTHER_VERSION = 19
@@ -57,6 +56,7 @@ class Code:
     LINE_TOO_LONG = 27
     TWO_FAMILIES = 28
     REVERSED = 29
+    PRESENT = 30
 
 
 class Value(Structure):
@@ -130,24 +130,32 @@ class Row(Structure):
 class Table(Structure):
     """`pcidr_table`."""
 
-    ipv4_starts: int | None
-    ipv6_starts: int | None
-    answers: int | None
-    ranges: int
-    level: int | None
-    level_len: int
-    shift: int
+    first: int | None
+    first_len: int
+    words: int | None
+    words_len: int
+    steps: int
     rows: int
+    family: int
     _fields_ = [
-        ("ipv4_starts", c_void_p),
-        ("ipv6_starts", c_void_p),
-        ("answers", c_void_p),
-        ("ranges", c_size_t),
-        ("level", c_void_p),
-        ("level_len", c_size_t),
-        ("shift", c_uint32),
+        ("first", c_void_p),
+        ("first_len", c_size_t),
+        ("words", c_void_p),
+        ("words_len", c_size_t),
+        ("steps", c_uint32),
         ("rows", c_uint32),
+        ("family", c_uint32),
     ]
+
+
+class TableSizes(Structure):
+    """`pcidr_table_sizes`."""
+
+    first: int
+    words: int
+    place: int
+    steps: int
+    _fields_ = [("first", c_size_t), ("words", c_size_t), ("place", c_size_t), ("steps", c_uint32)]
 
 
 class FileTable(Structure):
@@ -318,6 +326,9 @@ def signatures() -> dict[str, tuple[Any, list[Any]]]:
         "rows_find": (c_uint32, [c_void_p, c_size_t, POINTER(Value), POINTER(c_size_t)]),
         "rows_longest": (c_uint32, [c_void_p, c_size_t, POINTER(Value), POINTER(c_size_t)]),
         "rows_covered": (c_uint32, [c_void_p, c_size_t, POINTER(Value), POINTER(c_size_t), POINTER(c_size_t)]),
+        "rows_covering": (c_uint32, [c_void_p, c_size_t, POINTER(Value), c_void_p, c_size_t, POINTER(c_size_t)]),
+        "rows_insert": (c_uint32, [c_void_p, c_size_t, POINTER(c_size_t), POINTER(Value), POINTER(c_size_t)]),
+        "rows_remove": (c_uint32, [c_void_p, c_size_t, POINTER(c_size_t), POINTER(Value), POINTER(c_size_t)]),
         "covering": (c_uint32, [c_void_p, c_size_t, POINTER(Value), c_void_p, c_size_t, POINTER(c_size_t)]),
         "covered": (c_uint32, [c_void_p, c_size_t, POINTER(Value), c_void_p, c_size_t, POINTER(c_size_t)]),
         "permits": (c_uint32, [c_void_p, c_size_t, POINTER(Value)]),
@@ -326,7 +337,6 @@ def signatures() -> dict[str, tuple[Any, list[Any]]]:
         "deciding": (c_uint32, [c_void_p, c_size_t, POINTER(Value), c_void_p, c_size_t, POINTER(c_size_t)]),
         "smallest": (c_uint32, [c_void_p, c_size_t, c_void_p, c_size_t, POINTER(c_size_t)]),
         "forwards_same": (c_uint32, [c_void_p, c_size_t, c_void_p, c_size_t, POINTER(c_uint32)]),
-        "table_room": (c_size_t, [c_uint32]),
         "ipv4_table_build": (c_uint32, [
             c_void_p,
             c_size_t,
@@ -334,10 +344,7 @@ def signatures() -> dict[str, tuple[Any, list[Any]]]:
             c_size_t,
             c_void_p,
             c_size_t,
-            c_void_p,
-            c_size_t,
-            c_uint32,
-            POINTER(c_size_t),
+            POINTER(TableSizes),
         ]),
         "ipv6_table_build": (c_uint32, [
             c_void_p,
@@ -346,33 +353,10 @@ def signatures() -> dict[str, tuple[Any, list[Any]]]:
             c_size_t,
             c_void_p,
             c_size_t,
-            c_void_p,
-            c_size_t,
-            c_uint32,
-            POINTER(c_size_t),
+            POINTER(TableSizes),
         ]),
-        "ipv4_table_check": (c_uint32, [
-            c_void_p,
-            c_size_t,
-            c_void_p,
-            c_size_t,
-            c_void_p,
-            c_size_t,
-            c_void_p,
-            c_size_t,
-            c_uint32,
-        ]),
-        "ipv6_table_check": (c_uint32, [
-            c_void_p,
-            c_size_t,
-            c_void_p,
-            c_size_t,
-            c_void_p,
-            c_size_t,
-            c_void_p,
-            c_size_t,
-            c_uint32,
-        ]),
+        "ipv4_table_check": (c_uint32, [c_void_p, c_size_t, c_void_p, c_size_t, c_void_p, c_size_t, c_uint32]),
+        "ipv6_table_check": (c_uint32, [c_void_p, c_size_t, c_void_p, c_size_t, c_void_p, c_size_t, c_uint32]),
         "ipv4_table_lookup": (c_uint32, [c_void_p, c_size_t, c_void_p, c_size_t, POINTER(Table), POINTER(Value)]),
         "ipv6_table_lookup": (c_uint32, [c_void_p, c_size_t, c_void_p, c_size_t, POINTER(Table), POINTER(Value)]),
         "ipv4_table_lookup_each": (c_uint32, [
@@ -380,10 +364,7 @@ def signatures() -> dict[str, tuple[Any, list[Any]]]:
             c_size_t,
             c_void_p,
             c_size_t,
-            c_void_p,
-            c_size_t,
-            c_uint32,
-            c_uint32,
+            POINTER(Table),
             c_void_p,
             c_size_t,
             c_void_p,
@@ -394,10 +375,7 @@ def signatures() -> dict[str, tuple[Any, list[Any]]]:
             c_size_t,
             c_void_p,
             c_size_t,
-            c_void_p,
-            c_size_t,
-            c_uint32,
-            c_uint32,
+            POINTER(Table),
             c_void_p,
             c_size_t,
             c_void_p,
@@ -529,6 +507,9 @@ class Calls:
         rows_find: Callable[[Any, int, Any, Any], int]
         rows_longest: Callable[[Any, int, Any, Any], int]
         rows_covered: Callable[[Any, int, Any, Any, Any], int]
+        rows_covering: Callable[[Any, int, Any, Any, int, Any], int]
+        rows_insert: Callable[[Any, int, Any, Any, Any], int]
+        rows_remove: Callable[[Any, int, Any, Any, Any], int]
         covering: Callable[[Any, int, Any, Any, int, Any], int]
         covered: Callable[[Any, int, Any, Any, int, Any], int]
         permits: Callable[[Any, int, Any], int]
@@ -537,15 +518,14 @@ class Calls:
         deciding: Callable[[Any, int, Any, Any, int, Any], int]
         smallest: Callable[[Any, int, Any, int, Any], int]
         forwards_same: Callable[[Any, int, Any, int, Any], int]
-        table_room: Callable[[int], int]
-        ipv4_table_build: Callable[[Any, int, Any, int, Any, int, Any, int, int, Any], int]
-        ipv6_table_build: Callable[[Any, int, Any, int, Any, int, Any, int, int, Any], int]
-        ipv4_table_check: Callable[[Any, int, Any, int, Any, int, Any, int, int], int]
-        ipv6_table_check: Callable[[Any, int, Any, int, Any, int, Any, int, int], int]
+        ipv4_table_build: Callable[[Any, int, Any, int, Any, int, Any], int]
+        ipv6_table_build: Callable[[Any, int, Any, int, Any, int, Any], int]
+        ipv4_table_check: Callable[[Any, int, Any, int, Any, int, int], int]
+        ipv6_table_check: Callable[[Any, int, Any, int, Any, int, int], int]
         ipv4_table_lookup: Callable[[Any, int, Any, int, Any, Any], int]
         ipv6_table_lookup: Callable[[Any, int, Any, int, Any, Any], int]
-        ipv4_table_lookup_each: Callable[[Any, int, Any, int, Any, int, int, int, Any, int, Any, int], int]
-        ipv6_table_lookup_each: Callable[[Any, int, Any, int, Any, int, int, int, Any, int, Any, int], int]
+        ipv4_table_lookup_each: Callable[[Any, int, Any, int, Any, Any, int, Any, int], int]
+        ipv6_table_lookup_each: Callable[[Any, int, Any, int, Any, Any, int, Any, int], int]
         file_open: Callable[[Any, int, Any], int]
         file_check: Callable[[Any, int], int]
         file_lookup: Callable[[Any, int, Any, Any, Any], int]

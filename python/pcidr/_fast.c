@@ -707,16 +707,18 @@ static PyType_Slot network_slots[] = {
 
 /* ---- look-ups of one address, in the arrays of a table or in the bytes of a file */
 
-static uint32_t (*ipv4_row)(const uint32_t *, size_t, const uint32_t *, size_t, const pcidr_table *, const pcidr_value *);
-static uint32_t (*ipv6_row)(const pcidr_halves *, size_t, const uint32_t *, size_t, const pcidr_table *,
-                            const pcidr_value *);
+typedef uint32_t (*row_of)(const uint32_t *, size_t, const uint32_t *, size_t, const pcidr_table *, const pcidr_value *);
+
+static row_of ipv4_row, ipv6_row;
 static uint32_t (*file_row)(const uint8_t *, size_t, const pcidr_file *, const pcidr_value *, pcidr_found *);
 static uint32_t (*file_has)(const uint8_t *, size_t, const pcidr_file *, const pcidr_value *);
+static uint32_t (*rows_longest)(const pcidr_value *, size_t, const pcidr_value *, size_t *);
 
 typedef struct {
     PyObject_HEAD
     PyObject *kept;    /* what has the memory */
-    PyObject *rows[2]; /* of each family */
+    PyObject *rows[2]; /* of each family; or of rows that change their list, and what has their number */
+    const size_t *count; /* the number of these, or null */
     pcidr_table tables[2];
     const uint8_t *bytes; /* or null: then the tables are asked */
     size_t bytes_len;
@@ -754,6 +756,7 @@ static void finder_dealloc(PyObject *self) {
  * after an exception. */
 static int asked(PyObject *given, pcidr_value *value) {
     PyObject *class = (PyObject *)Py_TYPE(given);
+    value->tag = NO_TAG;
     if (PyUnicode_Check(given)) {
         if (read_string(networks.read, given, value)) return -1;
     } else if (class == address_class || class == network_class) {
@@ -764,13 +767,26 @@ static int asked(PyObject *given, pcidr_value *value) {
     return value->tag == 32 ? 0 : value->tag == 192 ? 1 : 2;
 }
 
+/* Of rows that change, the one of the longest network that a network is in, or None. Nothing else runs meanwhile. */
+static PyObject *row_around(finder *it, const pcidr_value *network) {
+    Py_buffer memory; /* which may be another one at each call */
+    size_t index;
+    if (PyObject_GetBuffer(it->kept, &memory, PyBUF_SIMPLE)) return NULL;
+    uint32_t code = rows_longest(memory.buf, *it->count, network, &index);
+    PyBuffer_Release(&memory);
+    PyObject *row = code ? Py_None : PyList_GetItem(it->rows[0], (Py_ssize_t)index);
+    Py_XINCREF(row);
+    return row;
+}
+
 /* The row of an address, which is the last one of its family's where it is in none; NotImplemented for what is none. */
 static PyObject *finder_call(PyObject *self, PyObject *given) {
     finder *it = (finder *)self;
     pcidr_value value;
     int family = asked(given, &value);
     if (family < 0) return NULL;
-    if (family == 2 || !it->kept) return Py_NewRef(Py_NotImplemented);
+    if (it->count && it->kept && value.tag != NO_TAG) return row_around(it, &value);
+    if (family == 2 || !it->kept || it->count) return Py_NewRef(Py_NotImplemented);
     PyObject *rows = it->rows[family];
     if (it->bytes) {
         pcidr_found found;
@@ -780,8 +796,7 @@ static PyObject *finder_call(PyObject *self, PyObject *given) {
         return made;
     }
     const pcidr_table *of = &it->tables[family];
-    uint32_t row = family ? ipv6_row(of->ipv6_starts, of->ranges, of->level, of->level_len, of, &value)
-                          : ipv4_row(of->ipv4_starts, of->ranges, of->level, of->level_len, of, &value);
+    uint32_t row = (family ? ipv6_row : ipv4_row)(of->first, of->first_len, of->words, of->words_len, of, &value);
     PyObject *made = PyTuple_GetItem(rows, row == PCIDR_NO_ROW ? PyTuple_Size(rows) - 1 : (Py_ssize_t)row);
     Py_XINCREF(made);
     return made;
@@ -837,6 +852,19 @@ static PyObject *table_finder(PyObject *module, PyObject *arguments) {
         PyErr_SetString(PyExc_ValueError, "rows and arrays differ");
         Py_CLEAR(made);
     }
+    return (PyObject *)made;
+}
+
+/* Of rows that change: the array of their networks, their number, which lies in one place, and the list of the rows. */
+static PyObject *rows_finder(PyObject *module, PyObject *arguments) {
+    (void)module;
+    PyObject *networks, *count, *rows;
+    Py_buffer number;
+    if (!PyArg_ParseTuple(arguments, "OOO!", &networks, &count, &PyList_Type, &rows)) return NULL;
+    if (PyObject_GetBuffer(count, &number, PyBUF_SIMPLE)) return NULL;
+    finder *made = finder_made(networks, rows, count);
+    if (made) made->count = number.buf;
+    PyBuffer_Release(&number);
     return (PyObject *)made;
 }
 
@@ -937,7 +965,7 @@ static PyObject *connect(PyObject *module, PyObject *arguments) {
         {"pcidr_print_exploded_address", &exploded_address}, {"pcidr_print_exploded_host", &exploded_host},
         {"pcidr_print_host_with_mask", &host_with_mask}, {"pcidr_special_entry", &special_entry},
         {"pcidr_print_host_with_host_mask", &host_with_host_mask}, {"pcidr_nth_by_value", &nth},
-        {"pcidr_overlaps", &overlaps},
+        {"pcidr_overlaps", &overlaps},               {"pcidr_rows_longest", &rows_longest},
     };
     for (size_t place = 0; place < sizeof calls / sizeof *calls; place++) {
         void *found = dlsym(library, calls[place].name);
@@ -969,6 +997,7 @@ static PyMethodDef functions[] = {
     {"register", take, METH_VARARGS, "Takes the classes, functions and counts of the module."},
     {"table_finder", table_finder, METH_VARARGS, "What looks up addresses in the arrays of a table."},
     {"file_finder", file_finder, METH_VARARGS, "What looks up addresses in the bytes of a file."},
+    {"rows_finder", rows_finder, METH_VARARGS, "What looks up networks in rows that change."},
     {"put_values", put_values, METH_VARARGS, "Writes the values of a list of objects into memory."},
     {"each_value", each_value, METH_VARARGS, "A list of objects of a class, one for each value in memory."},
     {NULL, NULL, 0, NULL},

@@ -7,20 +7,19 @@ import mmap
 import os
 import stat
 from array import array
-from bisect import bisect_left
 from ctypes import byref
 from itertools import accumulate
 
 from pcidr._calls import Code, File, FileTable, Found, Value
 from pcidr._kinds import file_finder
-from pcidr._library import PACKED, Unpacked, answers, calls, check, key_of, message
+from pcidr._library import PACKED, Unpacked, answers, calls, check, message
 
 TYPE_CHECKING = False
 if TYPE_CHECKING:
     from collections.abc import Callable, Iterable, Sequence
     from typing import Any, Union
 
-    from pcidr._library import Buffer, Call, Key, Values
+    from pcidr._library import Buffer, Call, Values
 
     Path = Union[str, "os.PathLike[str]"]
 NO_TAG = 63
@@ -73,14 +72,6 @@ class Part:
         """A row's value."""
         begin, offsets = self._values, self._offsets
         return self._content[begin + offsets[row] : begin + offsets[row + 1]]
-
-    def find(self, key: Key) -> int | None:
-        """The row of exactly this network."""
-        row = bisect_left(range(self.rows), key, key=self._key)
-        return row if row < self.rows and self._key(row) == key else None
-
-    def _key(self, row: int) -> Key:
-        return key_of(self.network(row))
 
     def put(self, words: memoryview, octets: memoryview) -> None:
         """Writes all networks, into the words and bytes of values."""

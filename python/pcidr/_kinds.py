@@ -17,6 +17,7 @@ __all__ = [
     "each_of",
     "file_finder",
     "register",
+    "rows_finder",
     "table_finder",
     "values_of",
 ]
@@ -38,9 +39,10 @@ if TYPE_CHECKING or not IS_FAST:
     # what looks up an address in C, which is left to the callers here
     table_finder: Any = None
     file_finder: Any = None
+    rows_finder: Any = None
 else:
     from pcidr._calls import Value
-    from pcidr._fast import OfAddress, OfHost, OfNetwork, Shown, file_finder, table_finder
+    from pcidr._fast import OfAddress, OfHost, OfNetwork, Shown, file_finder, rows_finder, table_finder
 
     def register(address, network, *others):
         """Takes the classes and functions of the module."""

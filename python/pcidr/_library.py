@@ -18,30 +18,25 @@ from pcidr._calls import (
     TEXT_ROOM,
     Calls,
     Code,
-    Halves,
     Range,
     Row,
     Table,
+    TableSizes,
     Value,
     signatures,
 )
 
 # The version of the library that the module wants.
-VERSION = (0, 3)
+VERSION = (0, 4)
 # The tags of addresses.
 ADDRESS_TAGS = {32, 192}
-# A first level of this many bits is enough for large tables.
-LEVEL_BITS = 18
 # So many packed addresses are looked up at a time, whose values stay in the nearer caches.
 PACKED = 1 << 13
 
-# A network by which others are looked up, as bytes that are in the order of networks: the family, the halves of its first
-# address, the tag. A `dict` mixes a secret of the process into the hash of bytes, and none into that of numbers.
+# The halves of a network's first address and its tag, as bytes. A `dict` mixes a secret of the process into the hash of bytes,
+# and none into that of numbers.
 Key = bytes
-_KEY = struct.Struct(">BQQB")
-key_at = _KEY.pack
-# By the tags: `any`, then IPv4, then IPv6.
-_FAMILIES = bytes([*[1] * 64, *[2] * 191, 0])
+_key_at = struct.Struct(">QQB").pack
 
 # Modules for types alone are loaded by those who check them: with them, to import this one takes twice as long.
 TYPE_CHECKING = False
@@ -192,30 +187,7 @@ def array(values: Iterable[Value]) -> Values:
 
 def key_of(value: Value) -> Key:
     """The key of a value."""
-    return key_at(_FAMILIES[value.tag], value.high, value.low, value.tag)
-
-
-def value_of(key: Key) -> Value:
-    """The value of a key."""
-    return Value(*_KEY.unpack(key)[1:])
-
-
-def keys_of(values: Values) -> Iterator[Key]:
-    """The keys of an array of values."""
-    tags = tags_of(values)
-    words = memoryview(values).cast("B").cast("Q") if tags else memoryview(b"")
-    return map(key_at, tags.translate(_FAMILIES), words[0::3], words[1::3], tags)
-
-
-def values_at(keys: Sequence[Key]) -> Values:
-    """An array of values, by their keys."""
-    out = (Value * len(keys))()
-    if keys:
-        octets = memoryview(out).cast("B")
-        words, (_, high, low, tags) = octets.cast("Q"), zip(*_KEY.iter_unpack(b"".join(keys)))
-        words[0::3], words[1::3] = memoryview(pack("Q", high)), memoryview(pack("Q", low))
-        octets[16::24] = bytes(tags)
-    return out
+    return _key_at(value.high, value.low, value.tag)
 
 
 def answers(kind: str, count: int) -> tuple[ctypes.Array[ctypes.c_char], Iterable[Any]]:
@@ -232,22 +204,19 @@ class Arrays:
 
     def __init__(self, family: int, networks: Values, first: int, count: int) -> None:
         """The table of those from `first` on, so many, which ascend."""
-        width = 32 if family == 4 else 128
-        number: Any = ctypes.c_uint32 if family == 4 else Halves
-        bits, room = max(1, min(count.bit_length(), LEVEL_BITS)), calls.table_room(count)
-        starts, found = (number * room)(), (ctypes.c_uint32 * room)()
-        level, ranges = (ctypes.c_uint32 * (2**bits + 1))(), ctypes.c_size_t()
         at = ctypes.addressof(networks) + first * ctypes.sizeof(Value)
-        behind = [ctypes.addressof(level), len(level), width - bits]
-        build = getattr(calls, f"ipv{family}_table_build")
-        check(build(at, count, ctypes.addressof(starts), room, ctypes.addressof(found), room, *behind, ranges))
-        begins, places, size = ctypes.addressof(starts), ctypes.addressof(found), ranges.value
-        of_family = (begins, None) if family == 4 else (None, begins)
-        self.table = Table(*of_family, places, size, *behind, count)
-        self._row = calls.quick(f"ipv{family}_table_lookup", [begins, size, *behind[:2], byref(self.table)])
-        each = getattr(calls, f"ipv{family}_table_lookup_each")
-        self._each = partial(each, begins, size, places, size, *behind, count)
-        self._kept = starts, found, level  # which the calls have by their addresses
+        build = partial(getattr(calls, f"ipv{family}_table_build"), at, count)
+        sizes = TableSizes()
+        # without room the call tells how much is enough
+        if (code := build(None, 0, None, 0, sizes)) != Code.NO_ROOM:
+            check(code)
+        entries, words = (ctypes.c_uint32 * sizes.first)(), (ctypes.c_uint32 * sizes.words)()
+        arrays = [ctypes.addressof(entries), len(entries), ctypes.addressof(words), len(words)]
+        check(build(*arrays, sizes))
+        self.table = Table(*arrays, sizes.steps, count, family)
+        self._row = calls.quick(f"ipv{family}_table_lookup", [*arrays, byref(self.table)])
+        self._each = partial(getattr(calls, f"ipv{family}_table_lookup_each"), *arrays, byref(self.table))
+        self._kept = entries, words  # which the calls have by their addresses
 
     def row(self, address: Value) -> int:
         """The row of the longest network that an address is in, or NO_ROW."""

@@ -4,32 +4,17 @@ from __future__ import annotations
 import ctypes
 import os
 import threading
-from bisect import bisect_left
 from collections.abc import ItemsView, Mapping, MutableMapping, Sequence, ValuesView
-from itertools import chain, islice
+from itertools import chain
 from operator import index as integer
-from operator import itemgetter
 
 from pcidr._calls import NO_ROW, Row, Value
 from pcidr._files import file_of, opened, restored, write
 from pcidr._kinds import each_of, table_finder
-from pcidr._library import (
-    ADDRESS_TAGS,
-    Arrays,
-    answers,
-    array,
-    calls,
-    check,
-    filled,
-    key_at,
-    key_of,
-    keys_of,
-    tags_of,
-    value_of,
-    values_at,
-)
+from pcidr._library import ADDRESS_TAGS, Arrays, answers, array, calls, check, filled, tags_of
+from pcidr._rows import ChangingRows, Rows
 from pcidr._sets import listed, values_in
-from pcidr._values import LOW, Network, network_value
+from pcidr._values import Network, network_value
 
 TYPE_CHECKING = False
 if TYPE_CHECKING:
@@ -37,13 +22,13 @@ if TYPE_CHECKING:
     from typing import Any, TypeVar, Union, overload
 
     from pcidr._files import Part, Path, Stored
-    from pcidr._library import Buffer, Key, Values
+    from pcidr._library import Buffer, Values
     from pcidr._values import AnyNetwork
 
     V = TypeVar("V")
     D = TypeVar("D")
     R = TypeVar("R")
-    Rows = Union[Mapping[Any, V], Iterable[tuple[AnyNetwork, V]]]
+    Given = Union[Mapping[Any, V], Iterable[tuple[AnyNetwork, V]]]
 
 
 class _Part:
@@ -61,20 +46,12 @@ class _Snapshot:
 
     __slots__ = ("version", "rows", "networks", "parts", "find")
 
-    def __init__(
-        self,
-        version: object,
-        rows: tuple[tuple[Network, Any], ...],
-        networks: Values,
-        parts: Mapping[int, _Part] = {},
-        find: Any = None,  # what looks up one address in C, where there is the extension
-    ) -> None:
-        self.version, self.rows, self.networks, self.parts, self.find = version, rows, networks, parts, find
-
-    def numbered(self, numbers: dict[Any, int]) -> ctypes.Array[Row]:
-        """The rows with a number for each value, which those have that are not yet among the numbers, too."""
-        found = (numbers.setdefault(value, len(numbers)) for _, value in self.rows)
-        return (Row * len(self.rows))(*map(Row, self.networks, found))
+    def __init__(self, version: object, networks: Values, rows: list[tuple[Network, Any]]) -> None:
+        self.version, self.rows, self.networks = version, rows, networks
+        none = rows[0] if rows and rows[0][0].version is None else None
+        self.parts = {tag: _part(family, networks, rows, none) for tag, family in ((32, 4), (192, 6))}
+        # what looks up one address in C, where there is the extension
+        self.find = _finder(*self.parts.values())
 
     def lookup_each(self, asked: Values) -> list[tuple[Network, Any] | None]:
         """The longest matches of many."""
@@ -92,11 +69,12 @@ class _Snapshot:
         return list(map([*self.rows, None].__getitem__, out))
 
 
-def _parts(rows: tuple[tuple[Network, Any], ...], networks: Values, ipv4: int, ipv6: int) -> dict[int, _Part]:
-    """The rows of each family, of which those of IPv4 and of IPv6 begin at an index."""
-    none = rows[0] if ipv4 else None  # only `any` comes before them
-    of_ipv4 = _Part((*rows[ipv4:ipv6], none), Arrays(4, networks, ipv4, ipv6 - ipv4))
-    return {32: of_ipv4, 192: _Part((*rows[ipv6:], none), Arrays(6, networks, ipv6, len(rows) - ipv6))}
+def _part(family: int, networks: Values, rows: list[tuple[Network, Any]], none: tuple[Network, Any] | None) -> _Part:
+    """The rows of a family, which are in the network of all of its addresses, and behind them one or None."""
+    begin, end = ctypes.c_size_t(), ctypes.c_size_t()
+    check(calls.rows_covered(networks, len(rows), _ALL[family], begin, end))
+    first, size = begin.value, end.value - begin.value
+    return _Part((*rows[first : end.value], none), Arrays(family, networks, first, size))
 
 
 # Held by each change of a table, for a few assignments. It is one for all tables, so that a table has nothing in it
@@ -113,9 +91,8 @@ def _finder(ipv4: _Part, ipv6: _Part) -> Any:
 
 
 _ABSENT: Any = object()
-_ANY = key_of(network_value("any"))
-# What comes before the keys of a family, and behind those before it.
-_IPV4, _IPV6 = b"\1", b"\2"
+# The networks of all addresses.
+_ALL = {4: network_value("0.0.0.0/0"), 6: network_value("::/0")}
 
 
 class _Items(ItemsView[Network, "V"]):
@@ -149,17 +126,18 @@ class _Rows(Mapping[Network, "V"]):
     def _listed(self) -> Iterator[tuple[Network, V]]:
         raise NotImplementedError
 
-    def _value_at(self, key: Key) -> V:
-        """The value at a key, or _ABSENT."""
+    @property
+    def _in_order(self) -> Rows:
+        """The rows as they are asked one by one."""
         raise NotImplementedError
 
     def __getitem__(self, network: AnyNetwork) -> V:
         """The value of exactly this network; `lookup` has the longest match."""
-        key = _key_of(network)
-        value = self._value_at(key)
-        if value is _ABSENT:
-            raise _missing(key)
-        return value
+        value = network_value(network)
+        row: tuple[Network, V] | None = self._in_order.find(value)
+        if row is None:
+            raise _missing(value)
+        return row[1]
 
     if TYPE_CHECKING:
 
@@ -173,12 +151,17 @@ class _Rows(Mapping[Network, "V"]):
 
     def get(self, network: AnyNetwork, /, default: Any = None) -> Any:
         """The value of exactly this network, or the default, also for a string that is no network."""
-        value = self._value_at(_key_or_none(network))
-        return default if value is _ABSENT else value
+        row = self._row(network)
+        return default if row is None else row[1]
 
     def __contains__(self, network: object) -> bool:
         """Whether there is a row of exactly this network. There is none of a string that is no network."""
-        return self._value_at(_key_or_none(network)) is not _ABSENT
+        return self._row(network) is not None
+
+    def _row(self, network: object) -> tuple[Network, V] | None:
+        value = _value_or_none(network)
+        row: tuple[Network, V] | None = value and self._in_order.find(value)
+        return row
 
     def __iter__(self) -> Iterator[Network]:
         return (network for network, _ in self._listed())
@@ -191,29 +174,21 @@ class _Rows(Mapping[Network, "V"]):
         """The rows, in the order of the networks."""
         return _Items(self)
 
-    def _outer(self, value: Value, most: int) -> list[tuple[Network, V]]:
-        """At most so many rows whose network a network is in, the longest first."""
-        raise NotImplementedError
-
-    def _inner(self, value: Value) -> Iterable[tuple[Network, V]]:
-        """The rows whose network is in a network, ascending."""
-        raise NotImplementedError
-
     def covering(self, asked: AnyNetwork) -> list[tuple[Network, V]]:
         """All rows whose network the address, or network, is in, the longest first. They begin with the row of exactly
         this network, where there is one."""
-        return self._outer(network_value(asked), 1 << 8)
+        return self._in_order.covering(network_value(asked))
 
     def covered(self, asked: AnyNetwork) -> list[tuple[Network, V]]:
         """All rows whose network is in this one, ascending. They begin with the row of exactly this network, where
         there is one."""
-        return list(self._inner(network_value(asked)))
+        return self._in_order.covered(network_value(asked))
 
     def parent(self, network: AnyNetwork) -> tuple[Network, V] | None:
         """The row of the longest other network that this one is in, or None. The network needs no row."""
         value = network_value(network)
         own = Network._of(value)
-        return next((row for row in self._outer(value, 2) if row[0] != own), None)
+        return next((row for row in self._in_order.covering(value)[:2] if row[0] != own), None)
 
     def children(self, network: AnyNetwork) -> list[tuple[Network, V]]:
         """The rows whose network is in this one and in none of the others in it, ascending: those whose `parent` it is.
@@ -221,7 +196,7 @@ class _Rows(Mapping[Network, "V"]):
         value = network_value(network)
         found: list[tuple[Network, V]] = []
         own = Network._of(value)
-        for row in self._inner(value):
+        for row in self._in_order.covered(value):
             if row[0] != own and not (found and row[0] in found[-1][0]):
                 found.append(row)
         return found
@@ -278,78 +253,80 @@ class Matches(Sequence["tuple[Network, V] | None"]):
         return f"<{type(self).__name__} of {len(self)} addresses>"
 
 
+def _held(networks: Values, values: list[Any]) -> ChangingRows:
+    """Rows in order, of which the last one of a network counts."""
+    order = filled(ctypes.c_size_t, len(values), calls.table_order, networks, len(values))[:]
+    rows = [*zip(each_of(Network, networks), values)]
+    return ChangingRows(networks, order, [*map(rows.__getitem__, order)])
+
+
+
 class Table(_Rows["V"], MutableMapping[Network, "V"]):
     """A table of networks with a value each: ``Table({"10.0.0.0/8": 1})``, a mapping that can be changed as a `dict`.
 
-    `lookup` gives the longest network that an address, or a network, is in, with its value. `lookup_each` looks up many
-    by one call of the library for each family. Both look in arrays, which the first look-up makes. The first
-    `lookup_each`, or walk over the rows, after a change makes them anew: it lists and sorts all rows. A `lookup` does so
-    once there have been as many changes and such look-ups as rows since they were made, and before that looks in a
-    `dict`, once for each prefix length that the table has had; so it always does for a network that is no address.
+    Its rows stand in an array of the library, in order. `lookup` gives the longest network that an address, or a network, is
+    in, with its value. `lookup_each` looks up many by one call of the library for each family, in a form that it makes first,
+    of all rows; a `lookup` of an address makes it once there have been as many changes and look-ups as rows since it was made,
+    and before that searches the array, as it always does for a network that is no address. A change moves the rows behind it.
 
     Any threads may look up in a table and change it at once, and an interrupt leaves it as it was before the change or
     after it. Each call sees all of a change or nothing of it. Look-ups and walks take no lock, but for the copy of the
-    rows that is made for the list; a walk goes on with the rows that it began with. `update` and `clear` are as many
-    changes as rows.
+    rows that is made for that form; a walk goes on with the rows that it began with. `update` is as many changes as rows,
+    or one where there are none before.
     """
 
-    def __init__(self, rows: Rows[V] = ()) -> None:
-        self._fill(_rows_by_key(rows))
+    def __init__(self, rows: Given[V] = ()) -> None:
+        self._fill(*_given(rows))
 
-    def _fill(self, rows: dict[Key, V]) -> None:
-        self._rows = rows
-        # The tags of all rows, descending, and perhaps of some that were deleted.
-        self._tags = tuple(sorted({key[-1] for key in rows}, reverse=True))
+    def _fill(self, networks: Values, values: list[V]) -> None:
+        """Takes rows, of which the last one of a network counts."""
+        self._held = _held(networks, values)
         # Another object before each change, so that an interrupt behind it is no harm, and after it.
         self._version = object()
         self._snapshot: _Snapshot | None = None
-        # About how many changes and look-ups in the `dict` there have been since the arrays were made. To take the rows was a
+        # About how many changes and look-ups in the array there have been since the other form was made. To take the rows was a
         # change for each.
-        self._since = len(rows)
+        self._since = len(self._held.rows)
+
+    @property
+    def _in_order(self) -> Rows:
+        return self._held
 
     def _now(self) -> _Snapshot:
         """The rows as they are."""
         made = self._snapshot
         if made is None or made.version is not self._version:
             with _changing:
-                version, rows = self._version, self._rows.copy()
-            held = sorted(rows.items(), key=itemgetter(0))
-            keys = [key for key, _ in held]
-            networks = values_at(keys)
-            listed = tuple(zip(each_of(Network, networks), [value for _, value in held]))
-            ipv4, ipv6 = bisect_left(keys, _IPV4), bisect_left(keys, _IPV6)
-            parts = _parts(listed, networks, ipv4, ipv6)
-            made = _Snapshot(version, listed, networks, parts, _finder(*parts.values()))
+                version, copied = self._version, self._held.copy()
+            made = _Snapshot(version, *copied)
             self._snapshot, self._since = made, 0
         return made
 
     def _changed(self, change: Callable[..., R], *arguments: object) -> R:
-        """Changes the rows by one call of their `dict`, and returns its result. Its caller holds the lock, and keeps what
-        goes until the lock is free: values may have finalizers, and these may wait for another thread."""
+        """Changes the rows by a call, and returns its result. Its caller holds the lock, and keeps what goes until the lock is
+        free: values may have finalizers, and these may wait for another thread."""
         self._version = object()
         result = change(*arguments)
         self._version, self._snapshot = object(), None
         self._since += 1
         return result
 
-    def _put(self, put: Callable[[Key, V], R], key: Key, value: V) -> R:
-        """Changes a row, which may be new, by a call of the `dict`."""
+    def _put(self, network: Value, value: V) -> None:
+        row = Network._of(network), value
         with _changing:
-            _kept = self._rows.get(key), self._snapshot
-            if key[-1] not in self._tags:
-                self._tags = tuple(sorted((*self._tags, key[-1]), reverse=True))
-            return self._changed(put, key, value)
+            _kept = self._snapshot
+            _gone = self._changed(self._held.put, network, row)
 
     def __getstate__(self) -> dict[str, Any]:
-        state = {**vars(self), "_rows": _packed(self._now())}
-        for derived in ("_tags", "_version", "_snapshot", "_since"):
+        state = {**vars(self), "_rows": _packed(*self._held.copy())}
+        for derived in ("_held", "_version", "_snapshot", "_since"):
             del state[derived]
         return state
 
     def __setstate__(self, state: dict[str, Any]) -> None:
         others = dict(state)
         rows = others.pop("_rows")  # once they were pairs of a string and a value
-        self._fill(_unpacked(*rows) if isinstance(rows, tuple) else _rows_by_key(rows))
+        self._fill(*(_unpacked(*rows) if isinstance(rows, tuple) else _given(rows)))
         vars(self).update(others)
 
     def __repr__(self) -> str:
@@ -358,7 +335,7 @@ class Table(_Rows["V"], MutableMapping[Network, "V"]):
     def __eq__(self, other: object) -> bool:
         if not isinstance(other, Table):
             return super().__eq__(other)
-        return self._rows.copy() == other._rows.copy()
+        return self._held.rows.copy() == other._held.rows.copy()
 
     @staticmethod
     def open(path: Path, *, check: bool = True, mapped: bool = False) -> StoredTable:
@@ -384,27 +361,42 @@ class Table(_Rows["V"], MutableMapping[Network, "V"]):
         Values are `bytes`, or strings, which are written in UTF-8 and come back as `bytes`; another one raises
         `TypeError`, and a string that is not Unicode, or a row of `any`, `ValueError`.
         """
-        made = self._now()
-        if made.rows and made.rows[0][0].version is None:
+        networks, rows = self._held.copy()
+        if rows and rows[0][0].version is None:
             raise ValueError("a file has no row of 'any': 0.0.0.0/0 and ::/0 are all addresses, too")
-        write(path, file_of(made.networks, [_stored_value(*row) for row in made.rows]))
-
-    def _value_at(self, key: Key) -> V:
-        return self._rows.get(key, _ABSENT)
+        write(path, file_of(networks, [_stored_value(*row) for row in rows]))
 
     def __setitem__(self, network: AnyNetwork, value: V) -> None:
-        self._put(self._rows.__setitem__, _key_of(network), value)
+        self._put(network_value(network), value)
 
     def update(self, rows: Any = (), /, **named: V) -> None:
-        """Sets rows, given as to `Table`, one after the other."""
-        for key, value in (_rows_by_key(rows) | _rows_by_key(named)).items():
-            self._put(self._rows.__setitem__, key, value)
+        """Sets rows, given as to `Table`, one after the other; a table without rows takes all of them by one change."""
+        for given in [_given(rows), _given(named)]:
+            if not self._take(*given):
+                for network, value in zip(*given):
+                    self._put(network, value)
+
+    def _take(self, networks: Values, values: list[V]) -> bool:
+        """Takes rows where there are none, and says whether there were none."""
+        if self._held.rows:
+            return False
+        held = _held(networks, values)
+        with _changing:
+            _kept = self._snapshot
+            if self._held.rows:
+                return False
+            self._changed(setattr, self, "_held", held)
+        return True
 
     def setdefault(self, network: AnyNetwork, default: Any = None, /) -> V:
         """The value of exactly this network, which becomes the default where there is none."""
-        key = _key_of(network)
-        value = self._rows.get(key, _ABSENT)
-        return self._put(self._rows.setdefault, key, default) if value is _ABSENT else value
+        value = network_value(network)
+        row: tuple[Network, V] | None = self._held.find(value)
+        if row is None:
+            with _changing:
+                _kept = self._snapshot
+                row = self._changed(self._held.add, value, (Network._of(value), default))
+        return row[1]
 
     if TYPE_CHECKING:
 
@@ -418,69 +410,64 @@ class Table(_Rows["V"], MutableMapping[Network, "V"]):
 
     def pop(self, network: AnyNetwork, /, default: Any = _ABSENT) -> Any:
         """Deletes the row of exactly this network, and returns its value; where there is none, the default."""
-        key = _key_of(network) if default is _ABSENT else _key_or_none(network)
+        value = network_value(network) if default is _ABSENT else _value_or_none(network)
         with _changing:
-            _kept = self._rows.get(key), self._snapshot
-            value = self._changed(self._rows.pop, key, _ABSENT) if key in self._rows else _ABSENT
-        if value is not _ABSENT:
-            return value
+            _kept = self._snapshot
+            row = self._changed(self._held.remove, value) if value and self._held.find(value) else None
+        if row is not None:
+            return row[1]
         if default is _ABSENT:
-            raise _missing(key)
+            raise _missing(value)
         return default
 
     def __delitem__(self, network: AnyNetwork) -> None:
         self.pop(network)
 
     def popitem(self) -> tuple[Network, V]:
-        """Deletes the row that was added last, and returns it."""
+        """Deletes the row that was added last, and returns it. It goes once through all rows."""
+        row: tuple[Network, V] | None = None
         with _changing:
             _kept = self._snapshot
-            key, value = self._changed(self._rows.popitem)
-        return Network._of(value_of(key)), value
+            while row is None:
+                try:
+                    last = self._held.last_added()
+                except IndexError:
+                    raise KeyError("there is no row") from None
+                row = self._changed(self._held.remove, last[0]._value)
+        return row
+
+    def clear(self) -> None:
+        """Deletes all rows, by one change."""
+        with _changing:
+            _kept = self._snapshot, self._held
+            self._changed(setattr, self, "_held", ChangingRows(array([]), [], []))
 
     def __len__(self) -> int:
-        return len(self._rows)
+        return len(self._held.rows)
 
     def _listed(self) -> Iterator[tuple[Network, V]]:
-        return iter(self._now().rows)
+        return iter(self._held.rows.copy())
 
     def lookup(self, asked: AnyNetwork) -> tuple[Network, V] | None:
         """The longest network that the address is in, with its value, or None."""
-        made = self._snapshot
-        if made is not None and made.find and made.version is self._version:
+        made, held, found = self._snapshot, self._held, NotImplemented
+        is_made = made is not None and made.version is self._version
+        if is_made and made.find:
             found = made.find.row(asked)
-            if found is not NotImplemented:
-                row_of_address: tuple[Network, V] | None = found
-                return row_of_address
-        value = network_value(asked)
-        if value.tag not in ADDRESS_TAGS:
-            return next(iter(self._outer(value, 1)), None)
-        if made is None or made.version is not self._version:
+        elif not is_made:
             self._since += 1
-            if self._since < len(self._rows):
-                return next(iter(self._outer(value, 1)), None)
-            made = self._now()
-        part = made.parts[value.tag]
+        is_small = is_made or self._since < len(held.rows)
+        if found is NotImplemented and is_small and held.find_row:
+            found = held.find_row.row(asked)
+        if found is not NotImplemented:
+            row_found: tuple[Network, V] | None = found
+            return row_found
+        value = network_value(asked)
+        if value.tag not in ADDRESS_TAGS or not is_made and is_small:
+            return held.longest(value)
+        part = self._now().parts[value.tag]
         row = part.arrays.row(value)
         return part.rows[-1 if row == NO_ROW else row]
-
-    def _inner(self, value: Value) -> Iterable[tuple[Network, V]]:
-        made, begin, end = self._now(), ctypes.c_size_t(), ctypes.c_size_t()
-        check(calls.rows_covered(made.networks, len(made.networks), value, begin, end))
-        return made.rows[begin.value : end.value]
-
-    def _outer(self, value: Value, most: int) -> list[tuple[Network, V]]:
-        rows = self._rows
-        while True:
-            version, found = self._version, []
-            for key in _outer_keys(value, self._tags):
-                held = rows.get(key, _ABSENT)
-                if held is not _ABSENT:
-                    found.append((key, held))
-                    if len(found) == most:
-                        break
-            if self._version is version:  # else rows of two versions may be among these
-                return [(Network._of(value_of(key)), held) for key, held in found]
 
     def lookup_each(self, asked: Iterable[AnyNetwork]) -> list[tuple[Network, V] | None]:
         """The same as `lookup` for each of many, by one call of the library for each family."""
@@ -490,9 +477,8 @@ class Table(_Rows["V"], MutableMapping[Network, "V"]):
     def smallest(self) -> Table[V]:
         """A table of the fewest rows that forwards the same: each address has the same value in both, or none. Values that
         are equal are the same; one that can't be a key of a `dict` raises `TypeError`."""
-        made = self._now()
         numbers: dict[V, int] = {}
-        rows = made.numbered(numbers)
+        rows = self._numbered(numbers)
         found, values = filled(Row, len(rows), calls.smallest, rows, len(rows)), list(numbers)
         networks = each_of(Network, array(row.network for row in found))
         return Table(zip(networks, (values[row.value] for row in found)))
@@ -503,9 +489,15 @@ class Table(_Rows["V"], MutableMapping[Network, "V"]):
             raise TypeError(f"no table: {other!r}")
         numbers: dict[V, int] = {}
         answer = ctypes.c_uint32()
-        these, those = self._now().numbered(numbers), other._now().numbered(numbers)
+        these, those = self._numbered(numbers), other._numbered(numbers)
         check(calls.forwards_same(these, len(these), those, len(those), answer))
         return answer.value == 1
+
+    def _numbered(self, numbers: dict[Any, int]) -> ctypes.Array[Row]:
+        """The rows with a number for each value, which those have that are not yet among the numbers, too."""
+        networks, rows = self._held.copy()
+        found = (numbers.setdefault(value, len(numbers)) for _, value in rows)
+        return (Row * len(rows))(*map(Row, networks, found))
 
     def lookup_packed(self, addresses: Buffer, version: int = 4) -> Matches[V]:
         """The same of packed addresses of a family, 4 or 6, which are not copied: `bytes`, or a `bytearray`,
@@ -542,16 +534,36 @@ class _KeptRows(dict[int, "StoredRow | None"]):
         return made
 
 
+class _StoredRows:
+    """The rows of both families by the order of their networks."""
+
+    __slots__ = ("_ipv4", "_ipv6")
+
+    def __init__(self, ipv4: _KeptRows, ipv6: _KeptRows) -> None:
+        self._ipv4, self._ipv6 = ipv4, ipv6
+
+    def __getitem__(self, place: Any) -> Any:
+        if isinstance(place, slice):
+            return list(map(self._made, range(place.start, place.stop)))
+        behind = place - self._ipv4.part.rows
+        return self._ipv4[place] if behind < 0 else self._ipv6[behind]
+
+    def _made(self, place: int) -> StoredRow:
+        """A row, which is not kept."""
+        behind = place - self._ipv4.part.rows
+        return self._ipv4.made(place) if behind < 0 else self._ipv6.made(behind)
+
+
 class StoredTable(_Rows[bytes]):
     """The table in a file, by `Table.open`: a mapping of networks to bytes, which never changes. ``Table(stored)`` has the
     same rows, and can be changed.
 
     Its rows stay in the bytes of the file, of which each look-up reads some; of those that were found last, at most 131,072
-    of a family are kept as objects. Any threads may look up in it, and a child after `fork`, too. It is pickled by its
+    of a family are kept as objects. For networks that are no addresses it makes an array of all networks, of 24 bytes each, once. Any threads may look up in it, and a child after `fork`, too. It is pickled by its
     bytes, which are checked again if they were before, and a map lasts until it is no longer used.
     """
 
-    __slots__ = ("_file", "_is_checked", "_kept", "_find", "__weakref__")
+    __slots__ = ("_file", "_is_checked", "_kept", "_find", "_made", "__weakref__")
     _file: Stored
     _is_checked: bool
     _kept: Mapping[int, _KeptRows]  # by the tags of addresses
@@ -563,6 +575,15 @@ class StoredTable(_Rows[bytes]):
         self._file, self._is_checked = file, is_checked
         self._kept = {tag: _KeptRows(part, is_checked) for tag, part in file.parts.items()}
         self._find = file.finder(*self._kept.values())
+        self._made: Rows | None = None
+
+    @property
+    def _in_order(self) -> Rows:
+        made = self._made
+        if made is None:
+            networks = self._file.networks()
+            made = self._made = Rows(networks, len(networks), _StoredRows(*self._kept.values()))
+        return made
 
     def __getstate__(self) -> tuple[bytes, bool]:
         return bytes(self._file.content), self._is_checked
@@ -584,38 +605,15 @@ class StoredTable(_Rows[bytes]):
     def __len__(self) -> int:
         return sum(part.rows for part in self._file.parts.values())
 
-    def _value_at(self, key: Key) -> bytes:
-        row = self._row(key)
-        value: bytes = _ABSENT if row is None else row[1]
-        return value
-
-    def _row(self, key: Key) -> StoredRow | None:
-        """The row of exactly this network."""
-        kept = self._kept[32 if key < _IPV6 else 192]
-        row = kept.part.find(key)
-        return None if row is None else kept[row]
-
     def lookup(self, asked: AnyNetwork) -> StoredRow | None:
-        """The longest network that the address is in, with its value, or None. For a network that is no address it
-        searches once for each length."""
+        """The longest network that the address is in, with its value, or None."""
         found = self._find.row(asked) if self._find else NotImplemented
         if found is not NotImplemented:
             row: StoredRow | None = found
             return row
         value = network_value(asked)
         kept = self._kept.get(value.tag)
-        return next(iter(self._outer(value, 1)), None) if kept is None else kept[self._file.row(value)]
-
-    def _outer(self, value: Value, most: int) -> list[StoredRow]:
-        """It searches once for each length."""
-        tags = range(value.tag, -1 if value.tag < 64 else 63, -1)
-        found = (row for row in map(self._row, _outer_keys(value, tags)) if row is not None)
-        return list(islice(found, most))
-
-    def _inner(self, value: Value) -> Iterable[StoredRow]:
-        for kept in self._kept.values():
-            for row in _places_inside(kept.part.rows, kept.part.network, value):
-                yield kept.made(row)
+        return self._in_order.longest(value) if kept is None else kept[self._file.row(value)]
 
     def lookup_each(self, asked: Iterable[AnyNetwork]) -> list[StoredRow | None]:
         """The same as `lookup` for each of many, by one call of the library where all are addresses."""
@@ -636,33 +634,26 @@ class StoredTable(_Rows[bytes]):
         return Matches(kept.__getitem__, self._file.packed_rows(addresses, version))
 
 
-def _places_inside(count: int, network_at: Callable[[int], Value], outer: Value) -> range:
-    """Where those of so many networks stand that are in a network. They ascend, so that it is one behind the other."""
-    begin = bisect_left(range(count), 1, key=lambda place: calls.compare(network_at(place), outer))
-    end = bisect_left(range(count), True, begin, key=lambda place: calls.contains(outer, network_at(place)) != 1)
-    return range(begin, end)
-
-
-def _packed(made: _Snapshot) -> tuple[bytes, list[Any] | None, tuple[Any, ...]]:
+def _packed(networks: Values, rows: list[tuple[Network, Any]]) -> tuple[bytes, list[Any] | None, tuple[Any, ...]]:
     """Rows as the bytes of a file, which have the values where all are `bytes`, else these beside it, and the value of
     `any`, of which a file has no row."""
-    begin = 1 if made.rows and made.rows[0][0].version is None else 0
-    values = [value for _, value in made.rows[begin:]]
-    networks = array(made.networks[begin:]) if begin else made.networks
+    begin = 1 if rows and rows[0][0].version is None else 0
+    values = [value for _, value in rows[begin:]]
     is_whole = set(map(type, values)) <= {bytes} and sum(map(len, values)) < 1 << 32
-    content = file_of(networks, values if is_whole else [b""] * len(values))
-    return content, None if is_whole else values, tuple(value for _, value in made.rows[:begin])
+    content = file_of(array(networks[begin:]) if begin else networks, values if is_whole else [b""] * len(values))
+    return content, None if is_whole else values, tuple(value for _, value in rows[:begin])
 
 
-def _unpacked(content: bytes, values: list[Any] | None, of_any: tuple[Any, ...]) -> dict[Key, Any]:
+def _unpacked(content: bytes, values: list[Any] | None, of_any: tuple[Any, ...]) -> tuple[Values, list[Any]]:
     """The same rows."""
     stored = restored(content, True)
     if values is None:
         values = [part.value(row) for part in stored.parts.values() for row in range(part.rows)]
-    keys = [*[_ANY] * len(of_any), *keys_of(stored.networks())]
-    if len(keys) != len(of_any) + len(values):
+    octets = bytes(network_value("any")) * len(of_any) + bytes(stored.networks())
+    all_values = [*of_any, *values]
+    if len(octets) != len(all_values) * ctypes.sizeof(Value):
         raise ValueError("other counts of networks and values")
-    return dict(zip(keys, (*of_any, *values)))
+    return (Value * len(all_values)).from_buffer_copy(octets), all_values
 
 
 def _stored_value(network: Network, value: object) -> bytes:
@@ -677,37 +668,19 @@ def _stored_value(network: Network, value: object) -> bytes:
         raise ValueError(f"the value of {network} is not Unicode: {value!r}") from error
 
 
-def _rows_by_key(rows: Rows[V]) -> dict[Key, V]:
-    """Rows as a table has them; their networks by one call where all are strings."""
+def _given(rows: Given[V]) -> tuple[Values, list[V]]:
+    """The networks of rows, by one call where all are strings, and their values."""
     given = listed(rows.items() if hasattr(rows, "items") else rows)
-    values = values_in(network for network, _ in given)
-    return dict(zip(keys_of(values), map(itemgetter(1), given)))
+    return values_in(network for network, _ in given), [value for _, value in given]
 
 
-def _key_of(network: object) -> Key:
-    return key_of(network_value(network))
-
-
-def _key_or_none(network: object) -> Key:
-    """The same, and for a string that is no network what is no key."""
+def _value_or_none(network: object) -> Value | None:
+    """The value of a network, and None for a string that is none."""
     try:
-        return _key_of(network)
+        return network_value(network)
     except ValueError:
-        return b""
+        return None
 
 
-def _missing(key: Key) -> KeyError:
-    return KeyError(str(Network._of(value_of(key))))
-
-
-def _outer_keys(value: Value, tags: Iterable[int]) -> Iterator[Key]:
-    """The keys of the networks of some tags, which descend, that this one is in: itself, and `any` as the last."""
-    tag, number = value.tag, value.high << 64 | value.low
-    if tag != 255:
-        family, shortest, width = (1, 0, 32) if tag < 64 else (2, 64, 128)
-        for outer in tags:
-            if shortest <= outer <= tag:
-                rest = width - (outer - shortest)
-                kept = number >> rest << rest
-                yield key_at(family, kept >> 64, kept & LOW, outer)
-    yield _ANY
+def _missing(network: Value) -> KeyError:
+    return KeyError(str(Network._of(network)))

@@ -76,7 +76,7 @@ class Values(unittest.TestCase):
         alike = [place * (2**61 - 1) for place in range(50)]
         for numbers in (numbers, alike):
             table = Table((Address.from_int(number, 6), number) for number in numbers)
-            self.assertEqual((len(table), len(set(map(hash, table._rows)))), (50, 50))
+            self.assertEqual(len(table), 50)
         self.assertEqual(set(map(hash, alike)), {0})
 
     def test_weak_references(self):
@@ -245,10 +245,11 @@ class Values(unittest.TestCase):
 
 class Library(unittest.TestCase):
     def test_another_version_is_refused(self):
-        pcidr._library._check_version(0x000301)
-        for version in (0x000200, 0x000400, 0x010300):
-            with self.assertRaisesRegex(ImportError, "this module wants 0.3"):
-                pcidr._library._check_version(version)
+        major, minor = pcidr._library.VERSION
+        pcidr._library._check_version(65536 * major + 256 * minor + 1)
+        for other in ((major, minor - 1), (major, minor + 1), (major + 1, minor)):
+            with self.assertRaisesRegex(ImportError, f"this module wants {major}.{minor}"):
+                pcidr._library._check_version(65536 * other[0] + 256 * other[1])
 
 
 class Sets(unittest.TestCase):

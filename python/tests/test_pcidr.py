@@ -199,7 +199,7 @@ class Tables(unittest.TestCase):
         rows = {f"10.{i}.0.0/16": i for i in range(20)}
         table = Table(rows)
         self.assertEqual(table.lookup("10.1.0.0/17")[1], 1)
-        self.assertIsNone(table._snapshot)  # which has networks that are no addresses by its `dict`
+        self.assertIsNone(table._snapshot)  # which has networks that are no addresses by its array
         self.assertEqual(table.lookup("10.1.2.3")[1], 1)
         self.assertIsNotNone(table._snapshot)
         table["10.1.0.0/16"] = "other"

@@ -33,13 +33,13 @@ def lookups(table):
 
 
 class AtOpcode:
-    """A trace function that calls `act` once, before one opcode of those that the module executes, counted from 0."""
+    """A trace function that calls `act` once, before one opcode of those that the modules execute, counted from 0."""
 
-    def __init__(self, place, act, path=pcidr._tables.__file__):
-        self.place, self.act, self.path, self.done = place, act, path, False
+    def __init__(self, place, act, *paths):
+        self.place, self.act, self.paths, self.done = place, act, paths, False
 
     def __call__(self, frame, event, argument):
-        if frame.f_code.co_filename != self.path:
+        if frame.f_code.co_filename not in self.paths:
             return None
         frame.f_trace_opcodes = True
         if event == "opcode" and not self.done:
@@ -59,7 +59,8 @@ def at_each_opcode(test, operation, act, outdated=False):
         table.lookup_each([ASKED])
         if outdated:
             table["fe80::/10"] = "later"
-        hook, before = AtOpcode(place, lambda: act(table)), sys.gettrace()
+        hook = AtOpcode(place, lambda: act(table), pcidr._tables.__file__, pcidr._rows.__file__)
+        before = sys.gettrace()
         # `act` may leave a lock locked at places where no signal is handled, and raise where a generator is closed.
         with another_lock(), mock.patch.object(sys, "unraisablehook", lambda _: None):
             sys.settrace(hook)
@@ -174,56 +175,25 @@ class Interleaved(unittest.TestCase):
             self.assertEqual(table.lookup_each(["10.1.200.0"])[0][1], "wide")
 
     def test_a_look_up_beside_a_change_within_a_change(self):
-        """One row is set and another one goes, so that at no time the answer is the third. The look-up begins within the
-        handler's change, finds neither, and has to notice it while the outer change has not ended."""
+        """One row is set and another one goes, so that the answer is the third only where that comes first."""
         def add(table):
             table["10.1.2.0/24"] = "new"
 
         def remove(table):
             del table["10.1.0.0/16"]
 
-        for outer, handler in ((remove, add), (add, remove)):
-            table = rows()
-            table["192.0.2.0/24"] = "another of this length"
-            table._since = -9  # look-ups to come before the arrays are made
-            begun, written, results = threading.Event(), threading.Event(), []
+        for outer, handler, wanted in ((remove, add, {"new"}), (add, remove, {"wide", "new"})):
+            results = []
 
-            def look_up():
-                results.append(table.lookup(ASKED)[1])
+            def act(table):
+                handler(table)
+                table._since = -9  # so that the look-up asks the array, and doesn't wait for the outer change
+                results.append(in_thread(self, lambda: table.lookup(ASKED)[1]))
 
-            reader = threading.Thread(target=look_up, daemon=True)
-
-            class Rows(dict):
-                depth = 0
-
-                def get(self, key, default=None):
-                    found = super().get(key, default)
-                    if threading.current_thread() is reader and not begun.is_set():
-                        begun.set()
-                        written.wait(PATIENCE)
-                    return found
-
-                def write(self, call, *arguments):
-                    Rows.depth += 1
-                    if Rows.depth == 2:
-                        reader.start()
-                        begun.wait(PATIENCE)
-                        return call(*arguments)
-                    handler(table)
-                    result = call(*arguments)
-                    written.set()
-                    reader.join(PATIENCE)
-                    return result
-
-                def __setitem__(self, *arguments):
-                    return self.write(super().__setitem__, *arguments)
-
-                def pop(self, *arguments):
-                    return self.write(super().pop, *arguments)
-
-            table._rows = Rows(table._rows)
-            outer(table)
-            self.assertEqual((Rows.depth, results), (2, ["new"]))
+            for outdated in (False, True):
+                for table, _ in at_each_opcode(self, outer, act, outdated):
+                    self.assertEqual(lookups(table), "new")
+            self.assertEqual(set(results), wanted)
 
     def nested(self):
         """A change within a change, as a handler of a signal makes it."""
@@ -267,7 +237,7 @@ class Interrupted(unittest.TestCase):
             lambda table: table.setdefault("10.1.2.0/24", "new"): {"old", "new"},
             lambda table: table.update({"10.1.0.0/16": "new"}): {"old", "new"},
             lambda table: (table.pop("::/0"), table.popitem()): {"old", "wide"},
-            lambda table: table.clear(): {"old", "wide", None},
+            lambda table: table.clear(): {"old", None},
         }
         for changed, wanted in changes.items():
             seen = set()
@@ -429,14 +399,14 @@ class Threads(unittest.TestCase):
 
     def hooked(self, table, call):
         """What the first look-up of a table returns, where another thread makes a call while the rows are listed."""
-        real, results = pcidr._tables.values_at, []
+        real, results = pcidr._tables._Snapshot, []
 
-        def values_at(keys):
-            with mock.patch.object(pcidr._tables, "values_at", real):
+        def snapshot(*copied):
+            with mock.patch.object(pcidr._tables, "_Snapshot", real):
                 results.append(in_thread(self, call))
-            return real(keys)
+            return real(*copied)
 
-        with mock.patch.object(pcidr._tables, "values_at", values_at):
+        with mock.patch.object(pcidr._tables, "_Snapshot", snapshot):
             first = table.lookup_each([ASKED])[0][1]
         self.assertEqual(len(results), 1)
         return first, results[0]
@@ -472,16 +442,16 @@ class Threads(unittest.TestCase):
         }
         for name, call in calls.items():
             table = rows()
-            before = dict(table._rows)
+            before = dict(table.items())
             with pcidr._tables._changing:
                 thread = threading.Thread(target=call, args=(table,), daemon=True)
                 thread.start()
                 thread.join(0.05)
                 self.assertTrue(thread.is_alive(), name)
-                self.assertEqual((dict(table._rows), table._snapshot), (before, None), name)
+                self.assertEqual((dict(table.items()), table._snapshot), (before, None), name)
             thread.join(PATIENCE)
             self.assertFalse(thread.is_alive(), name)
-            self.assertEqual(dict(table._rows) == before, name == "lookup_each", name)
+            self.assertEqual(dict(table.items()) == before, name == "lookup_each", name)
 
     def test_a_walk_goes_on_with_its_rows(self):
         table = rows()
@@ -515,7 +485,7 @@ class Threads(unittest.TestCase):
         for drop in drops:
             done = []
             # A slow reader has left the rows of an earlier version.
-            table._snapshot = pcidr._tables._Snapshot(object(), ((Network("any"), Value()),), pcidr._tables.values_at([]))
+            table._snapshot = pcidr._tables._Snapshot(object(), pcidr._tables.values_in(["any"]), [(Network("any"), Value())])
             drop(table)
             self.assertEqual(done, [None])
 
@@ -555,16 +525,17 @@ class Forks(unittest.TestCase):
         table, within, begun = rows(), threading.Event(), threading.Event()
         lookups(table)
 
-        class Rows(dict):
-            def __setitem__(self, key, value):
-                within.set()
-                begun.wait(PATIENCE)
-                super().__setitem__(key, value)
+        real = pcidr._rows.ChangingRows.put
 
-        table._rows = Rows(table._rows)
-        writer = threading.Thread(target=change, args=(table,), daemon=True)
-        writer.start()
-        self.assertTrue(within.wait(PATIENCE))
+        def put(rows, *row):
+            within.set()
+            begun.wait(PATIENCE)
+            return real(rows, *row)
+
+        with mock.patch.object(pcidr._rows.ChangingRows, "put", put):
+            writer = threading.Thread(target=change, args=(table,), daemon=True)
+            writer.start()
+            self.assertTrue(within.wait(PATIENCE))
         # The hook that is registered last is the first one before a fork.
         os.register_at_fork(before=begun.set)
         with warnings.catch_warnings():

@@ -9,12 +9,37 @@ NETWORKS = "cidr/network.rs cidr/combined.rs cidr/any.rs inet/host.rs inet/combi
 EDITS = [
     # Addresses are those of `core::net`. They are parsed and printed by the proved functions.
     ("no addresses of its own", "addr.rs", "mod std_net;\n", ""),
+    ("proved printing", "addr.rs", "re:\\Z", '''
+use cidr_support::arrayvec::ArrayString;
+
+/// The printed string of an address, for the crates over this one.
+pub trait AddressToText {
+    fn to_text(&self) -> ArrayString<39>;
+}
+
+impl AddressToText for v4::Ipv4Addr {
+    fn to_text(&self) -> ArrayString<39> {
+        let mut text = ArrayString::new();
+        v4::push_v4(self, &mut text);
+        text
+    }
+}
+
+impl AddressToText for v6::Ipv6Addr {
+    fn to_text(&self) -> ArrayString<39> {
+        let mut text = ArrayString::new();
+        v6::push_v6(self, &mut text);
+        text
+    }
+}
+'''),
     ("numbers of addresses", "internal_traits/address_bits.rs internal_traits/single_bits.rs",
      "use crate::addr::v6::Ipv6Addr;", "use crate::addr::v6::{InHalves, Ipv6Addr};"),
     ("proved parsing", "internal_traits/address_bits.rs", r"re:(Ipv([46])Addr, AddrParseError> \{\n *)text\.parse\(\)",
      r"\1crate::addr::v\2::read_v\2(text)"),
     ("proved printing", "internal_traits/address_bits.rs", r"re:(impl AddressText for Ipv([46])Addr \{.*?) self\.push_to\(text\)",
      r"\1 crate::addr::v\2::push_v\2(self, text)"),
+    ("proved printing", "traits/family_cidr.rs", "use crate::addr::v4::Ipv4Addr;", "use crate::addr::v4::Ipv4Addr;\nuse crate::addr::AddressToText;"),
     ("proved parsing", "parsers/loose.rs parsers/short.rs cidr/combined.rs inet/combined.rs",
      r"re:\b(s|front)\.parse::<IpAddr>\(\)", r"crate::addr::ip::read_ip(\1)"),
     ("proved parsing", "parsers/loose.rs", "s.parse::<Ipv4Addr>()", "crate::addr::v4::read_v4(s)"),
@@ -91,6 +116,7 @@ fn length_error(text: &[u8]) -> ParseIntError {
      '.field("first", &self.first())\n            .field("second", &self.second())'),
     ("`count` of `Iterator`", "inet_iterator.rs", "pub fn count(self)", "pub fn checked_count(self)"),
     ("`count` of `Iterator`", "inet_iterator.rs", "use `count`", "use `checked_count`"),
+    ("`count` of `Iterator`", "inet_iterator.rs", "It takes no step, unlike `Iterator::count`.", "It takes no step. `count` panics there."),
     ("`count` of `Iterator`", "inet_iterator.rs inet_pair/v4.rs inet_pair/v6.rs inet_pair/combined.rs lib.rs traits.rs",
      r"re:\.count\(\)(?= // )", ".checked_count()"),
     ("`count` of `Iterator`", "inet_iterator.rs", "self.inner.count()", "self.inner.checked_count()"),
@@ -104,7 +130,7 @@ fn length_error(text: &[u8]) -> ParseIntError {
      r'''impl<A: Address> Copy for \1<A> where A::InetPair: InetPair<Address = A> {}
 
 impl<A: Address> Clone for \1<A>'''),
-    ("names that the crate has not stand in a module", "lib.rs", "re:pub use addr::error::AddrParseError;\n.*?pub use traits::[^\n]*\n",
+    ("names that the crate has not stand in a module", "lib.rs", "re:pub use addr::error::AddrParseError;\n.*?pub use traits::\\{[^\n]*\n",
      '''#[cfg(feature = "bitstring")]
 mod bitstring_forms;
 #[cfg(feature = "serde")]
@@ -124,13 +150,29 @@ pub use traits::{Address, Cidr, Inet, InetPair};
 /// What is here besides: compact and prefix bytes, strings of bits, and walks from both ends.
 pub mod more {
     pub use crate::bits::{BitString, NetworkBits};
+    pub use crate::cidr::network::Network;
+    pub use crate::inet::host::Host;
+    pub use crate::inet_pair::host_pair::HostPair;
     pub use crate::inet_iterator::driving::{End, drive};
     pub use crate::prefix_bytes::PrefixBytes;
+    pub use crate::traits::family_cidr::FamilyCidr;
     pub use crate::text::with_length::WithLength;
 
     pub mod canon {
         pub use crate::canon::{Canonical, agree};
     }
+}
+
+/// The names that the written crate `cidr` has at its head, for the crates that are written over it.
+#[doc(hidden)]
+pub mod names {
+    pub use crate::addr::error::AddrParseError;
+    pub use crate::addr::ip::IpAddr;
+    pub use crate::addr::v4::Ipv4Addr;
+    pub use crate::addr::v6::Ipv6Addr;
+    pub use crate::addr::AddressToText;
+    pub use crate::more::{canon, *};
+    pub use crate::{errors, parsers, *};
 }
 '''),
     ("names that the crate has not stand in a module", "lib.rs", "pub mod canon;", "mod canon;"),

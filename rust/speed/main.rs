@@ -111,6 +111,8 @@ macro_rules! side {
                     "parse_v4" => d.texts4.iter().map(|t| black_box(t.as_str()).parse::<Ipv4Cidr>().is_ok() as usize).sum(),
                     "parse_v6" => d.texts6.iter().map(|t| black_box(t.as_str()).parse::<Ipv6Cidr>().is_ok() as usize).sum(),
                     "parse_any" => d.texts.iter().map(|t| black_box(t.as_str()).parse::<AnyIpCidr>().is_ok() as usize).sum(),
+                    "refuse_v6_as_v4" => d.texts6.iter().map(|t| black_box(black_box(t.as_str()).parse::<Ipv4Cidr>()).is_err() as usize).sum(),
+                    "refuse_v4_as_v6" => d.texts4.iter().map(|t| black_box(black_box(t.as_str()).parse::<Ipv6Cidr>()).is_err() as usize).sum(),
                     "print_v4" => d.networks4.iter().map(|n| printed(&mut line, black_box(n))).sum(),
                     "print_v6" => d.networks6.iter().map(|n| printed(&mut line, black_box(n))).sum(),
                     "print_host_v6" => d.hosts6.iter().map(|h| printed(&mut line, black_box(h))).sum(),
@@ -158,8 +160,8 @@ impl<T> IsA for T {}
 side!(theirs, real);
 side!(ours, cidr);
 
-const ROWS: [&str; 20] = [
-    "parse_v4", "parse_v6", "parse_any", "print_v4", "print_v6", "print_host_v6", "to_string_v4", "new_v4", "new_v6",
+const ROWS: [&str; 22] = [
+    "parse_v4", "parse_v6", "parse_any", "refuse_v6_as_v4", "refuse_v4_as_v6", "print_v4", "print_v6", "print_host_v6", "to_string_v4", "new_v4", "new_v6",
     "contains_v4", "contains_v6", "cmp_v4", "cmp_v6", "sort_either", "last_address_v4", "last_address_v6", "step_v4", "step_v6",
     "walk_v4", "walk_v6",
 ];

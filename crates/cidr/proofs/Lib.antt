@@ -20,7 +20,6 @@ pub mod NetworkReading
 pub mod Parsing
 pub mod HostBitsIgnored
 pub mod NetworkNumbers
-pub mod LeadingBits
 pub mod SharedBits
 pub mod SingleBits
 pub mod SharedLength

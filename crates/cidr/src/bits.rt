@@ -1,7 +1,7 @@
 //! Networks and hosts as strings of bits.
 ghost use Rattle.std.specs.Prelude.{◌≡◌, ℕ, ◌+◌, ◌-◌, ◌<◌, ◌≤◌, ◌++◌, ◌∷◌, [], List, Bool, Some, length, set, take, slice_get};
 ghost use Rattle.cidr.specs.model.Bits.{bit_cmp};
-ghost use Rattle.cidr.specs.model.BitString.{IsSharedLength, inverted, leading};
+ghost use Rattle.cidr.specs.model.BitString.{IsSharedLength, inverted};
 
 mod any;
 mod host;
@@ -32,15 +32,6 @@ pub trait BitString {
     fn len(&self) -> usize
         ensures value { result ≡ length (bits self.now) }
         ensures fits { result ≤ 129 };
-
-    /// The number that the first 64 bits are, the most significant first, where bits that are missing count as unset.
-    /// Of two values the one with the lower number comes first in the order of their bits.
-    ///
-    /// ```
-    /// "192.168.0.0/16".parse::<Ipv4Cidr>()?.first_bits() >> 48 // 49320
-    /// ```
-    fn first_bits(&self) -> u64
-        ensures { result ≡ leading (bits self.now) };
 
     /// How many more bits can be appended, whichever they are: as many as the prefix length is below 32 or 128.
     ///

@@ -225,4 +225,5 @@ pub use inet_pair::combined::IpInetPair;
 pub use inet_pair::host_pair::{Ipv4InetPair, Ipv6InetPair};
 pub use prefix_bytes::PrefixBytes;
 pub use text::with_length::WithLength;
+pub use traits::family_cidr::FamilyCidr;
 pub use traits::{Address, Cidr, Inet, InetPair};

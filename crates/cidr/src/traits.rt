@@ -25,6 +25,7 @@ use std::hash::Hash;
 use std::str::FromStr;
 
 pub(crate) mod combined;
+pub(crate) mod family_cidr;
 mod one_family;
 pub(crate) mod sealed_types;
 pub(crate) mod v4;

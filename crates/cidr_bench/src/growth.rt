@@ -5,8 +5,8 @@ use crate::changing::time_changes;
 use crate::loading::{rows, time_load, time_rows};
 use crate::routes::{Route, outside_routes};
 use crate::sets::{OfNetworks, OfSets, Operation, sort_lists};
-use cidr::{Ipv4Cidr, Ipv6Cidr};
-use cidr_sets::{AddressSpace, NetworkSet};
+use cidr::{FamilyCidr, Ipv4Cidr, Ipv6Cidr};
+use cidr_sets::NetworkSet;
 use cidr_table::LpmTable;
 use std::alloc::{AllocError, Global};
 use std::io;
@@ -36,7 +36,7 @@ fn time_set<C: Route>(bench: &Bench<'_>, size: usize) -> io::Result<()> {
 }
 
 /// Times the set of networks, in no order and as lists that ascend.
-fn time_made<C: AddressSpace + Copy>(bench: &Bench<'_>, networks: &mut [C]) -> io::Result<()> {
+fn time_made<C: FamilyCidr>(bench: &Bench<'_>, networks: &mut [C]) -> io::Result<()> {
     let alloc = bench.rt.alloc();
     bench.time("from_networks", networks.len(), OfNetworks(alloc, networks))?;
     sort_lists(networks);
@@ -48,7 +48,7 @@ fn time_made<C: AddressSpace + Copy>(bench: &Bench<'_>, networks: &mut [C]) -> i
 }
 
 /// Times tables of networks, and the set of them.
-fn time_networks<C: Route + AddressSpace>(bench: &Bench<'_>, size: usize) -> io::Result<()> {
+fn time_networks<C: Route + FamilyCidr>(bench: &Bench<'_>, size: usize) -> io::Result<()> {
     let mut networks = outside_routes::<C>(bench.rt.alloc(), 0, size)?;
     time_rows(bench, "from_rows", networks.as_slice())?;
     time_table(bench, networks.as_slice())?;
@@ -56,7 +56,7 @@ fn time_networks<C: Route + AddressSpace>(bench: &Bench<'_>, size: usize) -> io:
 }
 
 /// Times the union of two sets that have so many networks together.
-fn time_union<C: Route + AddressSpace>(bench: &Bench<'_>, size: usize) -> io::Result<()> {
+fn time_union<C: Route + FamilyCidr>(bench: &Bench<'_>, size: usize) -> io::Result<()> {
     let half = size / 2;
     let these = set::<C>(bench.rt.alloc(), 0, half)?;
     let those = set::<C>(bench.rt.alloc(), half, half)?;
@@ -64,7 +64,7 @@ fn time_union<C: Route + AddressSpace>(bench: &Bench<'_>, size: usize) -> io::Re
 }
 
 /// Times calls on so many rows or networks of one family.
-fn time<C: Route + AddressSpace>(bench: &Bench<'_>, size: usize) -> io::Result<()> {
+fn time<C: Route + FamilyCidr>(bench: &Bench<'_>, size: usize) -> io::Result<()> {
     time_networks::<C>(bench, size)?;
     time_union::<C>(bench, size)?;
     time_set::<C>(bench, size)

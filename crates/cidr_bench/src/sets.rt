@@ -9,9 +9,9 @@ use crate::changing::time_changes;
 use crate::numbers::folded;
 use crate::routes::{ASKED, Route};
 use crate::values::{mixed, random};
-use cidr::{Ipv4Cidr, Ipv6Cidr, NetworkBits};
-use cidr_fib::ReadySet;
-use cidr_sets::{AddressSpace, NetworkSet};
+use cidr::{FamilyCidr, Ipv4Cidr, Ipv6Cidr, NetworkBits};
+use cidr_lookup::{Keyed, ReadySet};
+use cidr_sets::NetworkSet;
 use std::alloc::{AllocError, Global};
 use std::io;
 
@@ -31,14 +31,10 @@ const OPERATIONS: [(Operation, &str); 3] = [
 
 /// Makes a set of two others.
 #[derive(Drop)]
-pub struct OfSets<'a, C: AddressSpace + Copy>(
-    pub Operation,
-    pub &'a NetworkSet<C>,
-    pub &'a NetworkSet<C>,
-);
+pub struct OfSets<'a, C: FamilyCidr>(pub Operation, pub &'a NetworkSet<C>, pub &'a NetworkSet<C>);
 
 /// The last address of a set, and where it is asked for, the number of its addresses.
-fn set_number<C: AddressSpace + Copy>(set: &NetworkSet<C>, is_counted: bool) -> u32 {
+fn set_number<C: FamilyCidr>(set: &NetworkSet<C>, is_counted: bool) -> u32 {
     let last = match set.as_slice().last() {
         Some(network) => network.ends().1,
         None => 0,
@@ -51,18 +47,14 @@ fn set_number<C: AddressSpace + Copy>(set: &NetworkSet<C>, is_counted: bool) -> 
 }
 
 /// The number of a set that was made, or nothing new where it was not.
-fn with_set<C: AddressSpace + Copy>(
-    made: Result<NetworkSet<C>, AllocError>,
-    round: u32,
-    sum: u32,
-) -> u32 {
+fn with_set<C: FamilyCidr>(made: Result<NetworkSet<C>, AllocError>, round: u32, sum: u32) -> u32 {
     match made {
         Ok(set) => mixed(sum, set_number(&set, round == 0)),
         Err(_) => sum,
     }
 }
 
-impl<C: AddressSpace + Copy> Work for OfSets<'_, C> {
+impl<C: FamilyCidr> Work for OfSets<'_, C> {
     #[inline(never)]
     fn round(&mut self, round: u32, sum: u32) -> u32 {
         let result = match self.0 {
@@ -78,7 +70,7 @@ impl<C: AddressSpace + Copy> Work for OfSets<'_, C> {
 #[derive(Drop)]
 pub struct OfNetworks<'a, C>(pub Global, pub &'a [C]);
 
-impl<C: AddressSpace + Copy> Work for OfNetworks<'_, C> {
+impl<C: FamilyCidr> Work for OfNetworks<'_, C> {
     #[inline(never)]
     fn round(&mut self, round: u32, sum: u32) -> u32 {
         with_set(NetworkSet::from_networks(self.0, self.1), round, sum)
@@ -89,7 +81,7 @@ impl<C: AddressSpace + Copy> Work for OfNetworks<'_, C> {
 #[derive(Drop)]
 struct InTurn<'a, C: NetworkBits + Copy>(Global, &'a [NetworkSet<C>]);
 
-impl<C: AddressSpace + Copy> InTurn<'_, C> {
+impl<C: FamilyCidr> InTurn<'_, C> {
     fn union(&self) -> Result<NetworkSet<C>, AllocError> {
         let mut all = NetworkSet::new(self.0);
         for set in self.1 {
@@ -99,7 +91,7 @@ impl<C: AddressSpace + Copy> InTurn<'_, C> {
     }
 }
 
-impl<C: AddressSpace + Copy> Work for InTurn<'_, C> {
+impl<C: FamilyCidr> Work for InTurn<'_, C> {
     #[inline(never)]
     fn round(&mut self, round: u32, sum: u32) -> u32 {
         with_set(self.union(), round, sum)
@@ -118,9 +110,9 @@ impl<C: NetworkBits + Copy> Call<C> for Contains<'_, C> {
 
 /// Whether a set made ready has an address.
 #[derive(Drop)]
-struct ReadyContains<C: NetworkBits + Copy>(ReadySet<C>);
+struct ReadyContains<C: Keyed>(ReadySet<C>);
 
-impl<C: NetworkBits + Copy> Call<C> for ReadyContains<C> {
+impl<C: Keyed> Call<C> for ReadyContains<C> {
     fn number(&self, asked: &C) -> u32 {
         u32::from(self.0.contains(asked))
     }
@@ -206,7 +198,7 @@ fn asked<C: Route>(alloc: Global, networks: &[C], more: u8) -> Result<Vec<C>, Al
 }
 
 /// Times operations on two sets.
-fn time_operations<C: AddressSpace + Copy>(
+fn time_operations<C: FamilyCidr>(
     bench: &Bench<'_>,
     these: &NetworkSet<C>,
     those: &NetworkSet<C>,
@@ -219,19 +211,15 @@ fn time_operations<C: AddressSpace + Copy>(
 }
 
 /// Times whether a set made ready has addresses, where there is memory for it.
-fn time_ready<C: NetworkBits + Copy>(
-    bench: &Bench<'_>,
-    set: &NetworkSet<C>,
-    asked: &[C],
-) -> io::Result<()> {
-    match ReadySet::new(bench.rt.alloc(), set) {
+fn time_ready<C: Keyed>(bench: &Bench<'_>, set: &NetworkSet<C>, asked: &[C]) -> io::Result<()> {
+    match ReadySet::new(bench.rt.alloc(), set.as_slice()) {
         Ok(ready) => bench.each("set contains, made ready", ReadyContains(ready), asked),
         Err(_) => Ok(()),
     }
 }
 
 /// Times questions of a set.
-fn time_questions<C: AddressSpace + Copy>(
+fn time_questions<C: FamilyCidr + Keyed>(
     bench: &Bench<'_>,
     set: &NetworkSet<C>,
     asked: &[C],
@@ -242,7 +230,7 @@ fn time_questions<C: AddressSpace + Copy>(
 }
 
 /// Times the set of lists that ascend, one behind the other, at once and by unions in turn.
-fn time_lists<C: AddressSpace + Copy>(bench: &Bench<'_>, networks: &[C]) -> io::Result<()> {
+fn time_lists<C: FamilyCidr>(bench: &Bench<'_>, networks: &[C]) -> io::Result<()> {
     let alloc = bench.rt.alloc();
     bench.time(
         "set of 16 lists",
@@ -255,7 +243,7 @@ fn time_lists<C: AddressSpace + Copy>(bench: &Bench<'_>, networks: &[C]) -> io::
 }
 
 /// Times the set of networks in no order, and of lists.
-fn time_makes<C: AddressSpace + Copy>(bench: &Bench<'_>, networks: &mut [C]) -> io::Result<()> {
+fn time_makes<C: FamilyCidr>(bench: &Bench<'_>, networks: &mut [C]) -> io::Result<()> {
     let alloc = bench.rt.alloc();
     bench.time("set of a list", networks.len(), OfNetworks(alloc, networks))?;
     sort_lists(networks);
@@ -264,7 +252,11 @@ fn time_makes<C: AddressSpace + Copy>(bench: &Bench<'_>, networks: &mut [C]) -> 
 
 /// Times a set of ten parts by one of one part, half of whose networks are the last ones of the other. The networks
 /// have so many bits more than those of routing tables, so that fewer of them overlap.
-fn time_two<C: Route + AddressSpace>(bench: &Bench<'_>, part: usize, more: u8) -> io::Result<()> {
+fn time_two<C: Route + FamilyCidr + Keyed>(
+    bench: &Bench<'_>,
+    part: usize,
+    more: u8,
+) -> io::Result<()> {
     let alloc = bench.rt.alloc();
     let most = part.saturating_mul(9);
     let mut these = set_like_routes::<C>(alloc, 0, most, more)?;
@@ -276,7 +268,7 @@ fn time_two<C: Route + AddressSpace>(bench: &Bench<'_>, part: usize, more: u8) -
 }
 
 /// Times two sets, and how sets are made of lists, in a tenth of the rounds.
-fn time<C: Route + AddressSpace>(bench: &Bench<'_>, part: usize, more: u8) -> io::Result<()> {
+fn time<C: Route + FamilyCidr + Keyed>(bench: &Bench<'_>, part: usize, more: u8) -> io::Result<()> {
     time_two::<C>(bench, part, more)?;
     let size = part.saturating_mul(9);
     let mut networks = networks_like_routes::<C>(bench.rt.alloc(), 0, size, more)?;

@@ -4,7 +4,8 @@ use crate::bench::{Bench, Call, Work, named};
 use crate::routes::{ASKED, Route, asked_inside, outside_routes, rows_like_routes, some_keys};
 use crate::values::mixed;
 use cidr::{Ipv4Cidr, Ipv6Cidr, NetworkBits};
-use cidr_table::{Lookups, LpmTable, longest_match};
+use cidr_lookup::{Keyed, ReadyTable};
+use cidr_table::{LpmTable, longest_match};
 use std::alloc::{AllocError, Global};
 use std::io;
 
@@ -44,11 +45,11 @@ impl<C: NetworkBits + Copy> Call<C> for Lookup<'_, C> {
     }
 }
 
-/// The longest match as a row, of rows made ready.
+/// The longest match as a row, of a table made ready.
 #[derive(Drop)]
-struct ReadyLookup<'a, C: NetworkBits + Copy>(Lookups<'a, C, u32>);
+struct ReadyLookup<C: Keyed>(ReadyTable<C, u32>);
 
-impl<C: NetworkBits + Copy> Call<C> for ReadyLookup<'_, C> {
+impl<C: Keyed> Call<C> for ReadyLookup<C> {
     fn number(&self, asked: &C) -> u32 {
         row_number(self.0.lookup(asked))
     }
@@ -119,7 +120,7 @@ struct Tables<C: NetworkBits + Copy> {
     keys: Vec<C>,
 }
 
-impl<C: Route> Tables<C> {
+impl<C: Route + Keyed> Tables<C> {
     fn new(alloc: Global, size: usize) -> Result<Tables<C>, AllocError> {
         let table = LpmTable::from_rows(rows_like_routes::<C>(alloc, size)?);
         let inside = asked_inside(alloc, &table)?;
@@ -140,9 +141,11 @@ impl<C: Route> Tables<C> {
         bench
             .of(of.as_str())
             .each(name, Lookup(&self.table), asked)?;
-        let of = named(bench.of, "by lookups");
-        let ready = ReadyLookup(self.table.lookups(bench.rt.alloc())?);
-        bench.of(of.as_str()).each(name, ready, asked)
+        let of = named(bench.of, "made ready");
+        let Ok(ready) = ReadyTable::new(bench.rt.alloc(), self.table.clone()?) else {
+            return Err(AllocError.into());
+        };
+        bench.of(of.as_str()).each(name, ReadyLookup(ready), asked)
     }
 
     /// Times single rows and rows in a network.
@@ -170,7 +173,7 @@ impl<C: Route> Tables<C> {
 }
 
 /// Times a table of so many rows.
-fn time<C: Route>(bench: &Bench<'_>, size: usize) -> io::Result<()> {
+fn time<C: Route + Keyed>(bench: &Bench<'_>, size: usize) -> io::Result<()> {
     let mut tables = Tables::<C>::new(bench.rt.alloc(), size)?;
     tables.time_all(bench)
 }

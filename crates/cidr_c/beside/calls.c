@@ -8,7 +8,7 @@
 #include <string.h>
 #include <time.h>
 
-enum { MANY = 1024, NETWORKS = 100000, ASKED = 1000000, TURNS = 5, LEVEL_BITS = 17 };
+enum { MANY = 1024, NETWORKS = 100000, ASKED = 1000000, TURNS = 5 };
 
 static const uint8_t ipv4_lengths[32] = {24, 24, 24, 24, 24, 24, 24, 24, 24, 24, 24, 24, 24, 24, 24, 24,
                                          24, 24, 23, 23, 22, 22, 22, 22, 21, 20, 20, 19, 19, 18, 17, 16};
@@ -109,19 +109,18 @@ static void *room_for(size_t count, size_t size) {
 }
 
 static void make_tables(void) {
-    size_t middle = 0, place;
+    size_t middle = 0;
+    pcidr_table_sizes sizes;
     while (middle < rows_len && rows[middle].tag < 64) middle++;
     for (int family = 0; family < 2; family++) {
         pcidr_table *table = &tables[family];
+        const pcidr_value *networks = family ? rows + middle : rows;
         size_t count = family ? rows_len - middle : middle;
-        table->ranges = pcidr_table_room((uint32_t)count);
-        if (family) table->ipv6_starts = room_for(table->ranges, sizeof *table->ipv6_starts);
-        else table->ipv4_starts = room_for(table->ranges, sizeof *table->ipv4_starts);
-        table->answers = room_for(table->ranges, sizeof *table->answers);
-        table->level_len = (1 << LEVEL_BITS) + 1;
-        table->level = room_for(table->level_len, sizeof *table->level);
-        table->shift = (family ? 128 : 32) - LEVEL_BITS;
-        want(pcidr_table_build(table, family ? rows + middle : rows, count, &place));
+        table->family = family ? 6 : 4;
+        if (pcidr_table_build(table, networks, count, &sizes) != PCIDR_NO_ROOM) exit(1);
+        table->first = room_for(sizes.first, sizeof *table->first), table->first_len = sizes.first;
+        table->words = room_for(sizes.words, sizeof *table->words), table->words_len = sizes.words;
+        want(pcidr_table_build(table, networks, count, &sizes));
     }
 }
 

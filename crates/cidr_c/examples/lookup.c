@@ -6,9 +6,17 @@
 
 static const char *const texts[] = {"10.1.2.0/24", "10.0.0.0/8", "192.0.2.0/24", "10.1.0.0/16"};
 
-enum { ROWS = sizeof texts / sizeof *texts, RANGES = 2 * ROWS + 1 };
+enum { ROWS = sizeof texts / sizeof *texts };
 
-static uint32_t starts[RANGES], answers[RANGES];
+/* Builds the table of networks: once without room, which tells how much is enough, and once with it. */
+static int build(pcidr_table *table, const pcidr_value *networks, size_t rows) {
+    pcidr_table_sizes sizes;
+    if (pcidr_table_build(table, networks, rows, &sizes) != PCIDR_NO_ROOM) return 0;
+    table->first = malloc(sizes.first * sizeof *table->first), table->first_len = sizes.first;
+    table->words = malloc(sizes.words * sizeof *table->words), table->words_len = sizes.words;
+    if (!table->first || (!table->words && sizes.words > 0)) return 0;
+    return pcidr_table_build(table, networks, rows, &sizes) == PCIDR_OK;
+}
 
 int main(int argc, char **argv) {
     pcidr_value networks[ROWS], address;
@@ -17,9 +25,8 @@ int main(int argc, char **argv) {
     qsort(networks, ROWS, sizeof *networks, pcidr_order);
 
     pcidr_table table = {0};
-    size_t place;
-    table.ipv4_starts = starts, table.answers = answers, table.ranges = RANGES;
-    if (pcidr_table_build(&table, networks, ROWS, &place) != PCIDR_OK) return 1;
+    table.family = 4;
+    if (!build(&table, networks, ROWS)) return 1;
 
     for (int i = 1; i < argc; i++) {
         char network[PCIDR_TEXT_ROOM] = "none";
@@ -28,5 +35,6 @@ int main(int argc, char **argv) {
         if (row != PCIDR_NO_ROW) pcidr_print_network(&networks[row], network, sizeof network);
         printf("%s is in %s\n", argv[i], network);
     }
+    free(table.first), free(table.words);
     return 0;
 }

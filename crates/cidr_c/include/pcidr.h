@@ -28,7 +28,7 @@ extern "C" {
 #endif
 
 /* The version of this header, as `pcidr_version` returns that of the library: 65536 * major + 256 * minor + patch. */
-#define PCIDR_VERSION 0x000300u
+#define PCIDR_VERSION 0x000400u
 
 /* An address, a host or a network.
  *
@@ -91,11 +91,10 @@ enum {
     PCIDR_NO_MEMORY = 12,      /* there is no memory */
     PCIDR_WRAPPED = 13,        /* the step leaves the network; its result is there all the same */
     PCIDR_NOT_ADDRESS = 14,    /* the string is no address */
-    PCIDR_TOO_MANY = 15,       /* there are more than 2,147,483,647 networks, or words of their look-up table */
-    PCIDR_SHIFT = 16,          /* a shift is not below 32, or 128 in IPv6 */
+    PCIDR_TOO_MANY = 15,       /* there are more than 2,147,483,647 networks, or 1,073,741,823 words of their table */
     PCIDR_NO_TABLE = 17,       /* the arrays are not those of the networks */
     PCIDR_NO_FILE = 18,        /* the bytes are no file of look-up tables */
-    PCIDR_OTHER_VERSION = 19,  /* the file is of another version than 2, such as 1 of an older release: write it anew */
+    PCIDR_OTHER_VERSION = 19,  /* the file is of another version than 3, as of an older release: write it anew */
     PCIDR_SHORT = 20,          /* the file is shorter than its header says */
     PCIDR_LONG = 21,           /* the file is longer than its header says */
     PCIDR_VALUES = 22,         /* the values of rows don't lie one behind the other, or have 2^32 bytes or more */
@@ -105,7 +104,8 @@ enum {
     PCIDR_SCATTERED = 26,      /* it is neither a network mask nor a host mask: its set bits are not all at one end */
     PCIDR_LINE_TOO_LONG = 27,  /* a line of a list has more than 1 MiB */
     PCIDR_TWO_FAMILIES = 28,   /* the ends of a range are of two families */
-    PCIDR_REVERSED = 29        /* the first address of a range is above the last one */
+    PCIDR_REVERSED = 29,       /* the first address of a range is above the last one */
+    PCIDR_PRESENT = 30         /* the network stands there already */
 };
 
 /* Room that is enough for any string of a value, and for any message, with the 0 behind it. */
@@ -658,11 +658,12 @@ uint32_t pcidr_sort_order(const pcidr_value *networks, size_t networks_len, size
 uint32_t pcidr_table_order(const pcidr_value *networks, size_t networks_len, size_t *out, size_t out_len, size_t *count);
 
 /* Rows that change, in an array of networks that ascend, each once, as `pcidr_order` sorts them; their values stand in another
- * array, at the same indexes. A call compares as often as a search by halving does, and allocates nothing. In networks of another
- * order it finds some index that there is, or none; of a value that is no network the bits after its prefix do not count.
+ * array, at the same indexes, and are moved as these are. A call compares as often as a few searches by halving do, and allocates
+ * nothing. In networks of another order it finds some index that there is, or none; of a value that is no network the bits after its
+ * prefix do not count.
  *
- * Where a network stands: 0 and its index, or NONE, and `index` is the one before which it belongs: to insert it, the caller moves
- * the rows from there on. Errors: NO_VALUE, where the asked value is no network, and then `index` is as it was. */
+ * Where a network stands: 0 and its index, or NONE, and `index` is the one before which it belongs. Errors: NO_VALUE, where the
+ * asked value is no network, and then `index` is as it was. */
 uint32_t pcidr_rows_find(const pcidr_value *networks, size_t networks_len, const pcidr_value *asked, size_t *index);
 
 /* The longest network that a network or an address is in: 0 and its index. Errors: NONE, NO_VALUE; `index` is then as it was. */
@@ -671,6 +672,22 @@ uint32_t pcidr_rows_longest(const pcidr_value *networks, size_t networks_len, co
 /* The networks that are in a network, which may be one of them: those from index `from` on and before index `to`. Errors:
  * NO_VALUE, and both are then as they were. */
 uint32_t pcidr_rows_covered(const pcidr_value *networks, size_t networks_len, const pcidr_value *outer, size_t *from, size_t *to);
+
+/* The indexes of all networks that a network or an address is in, ascending, and so the shortest network first: the first `count`
+ * of `out`. What is behind them in `out` stays. At most 130 are found, for which there is always room. Errors: NO_VALUE; NO_ROOM,
+ * and then `count` is how many they are; `out` is as it was. */
+uint32_t pcidr_rows_covering(const pcidr_value *networks, size_t networks_len, const pcidr_value *asked, size_t *out, size_t out_len,
+                             size_t *count);
+
+/* Puts a network, with all of its bytes, in its place among the first `count` of an array: the networks from there on move by one,
+ * `count` becomes one more, and `index` where it stands. Errors: PRESENT where it stands there already, and `index` is where;
+ * NO_VALUE; NO_ROOM where the array has no room for one more, or not even for `count`. Then all else is as it was. */
+uint32_t pcidr_rows_insert(pcidr_value *networks, size_t networks_len, size_t *count, const pcidr_value *network, size_t *index);
+
+/* Takes a network out of the first `count` of an array: the networks behind it move by one, `count` becomes one less, and `index`
+ * where it stood. What is behind all but one stays, the last one of them too. Errors: NONE where it isn't there, NO_VALUE, and
+ * NO_ROOM where the array has no room for `count`. Then all is as it was. */
+uint32_t pcidr_rows_remove(pcidr_value *networks, size_t networks_len, size_t *count, const pcidr_value *network, size_t *index);
 
 /* The indexes of the networks of a list that contain a network or an address, or of those that lie in a network: the first
  * `count` of `out`, ascending. In a list that ascends as `pcidr_order` sorts it the networks that contain it come with the
@@ -742,129 +759,127 @@ uint32_t pcidr_forwards_same(const pcidr_row *these, size_t these_len, const pci
  * It is numbers in memory of the caller, without a pointer among them: any number of threads may look up in it, and it may
  * lie in a file that is mapped read-only. Its rows are the indexes of the networks, which a look-up does not read.
  *
+ * How much room it takes, hangs on the networks. A call that gives none tells how much is enough:
+ *
  *     pcidr_table table = {0};
- *     table.ranges = pcidr_table_room(rows);
- *     table.ipv4_starts = malloc(table.ranges * sizeof *table.ipv4_starts);
- *     table.answers = malloc(table.ranges * sizeof *table.answers);
- *     code = pcidr_table_build(&table, networks, rows, &place);
+ *     pcidr_table_sizes sizes;
+ *     table.family = 4;
+ *     code = pcidr_table_build(&table, networks, rows, &sizes); // PCIDR_NO_ROOM
+ *     table.first = malloc(sizes.first * sizeof *table.first), table.first_len = sizes.first;
+ *     table.words = malloc(sizes.words * sizeof *table.words), table.words_len = sizes.words;
+ *     code = pcidr_table_build(&table, networks, rows, &sizes);
  *     ...
  *     uint32_t row = pcidr_table_lookup(&table, &address);
  *     if (row != PCIDR_NO_ROW) use(networks[row]);
  */
 
-/* Where a table lies. One of `ipv4_starts` and `ipv6_starts` is null, and the other one says which family it is of.
- *
- * The first level makes look-ups in large tables faster: entry i tells where to search for the address with the number
- * i * 2^shift. It may have any number of entries, and none. With 2^bits + 1 of them and a shift of 32 - bits, or 128 - bits
- * in IPv6, each look-up finds its entry. 18 bits are good for 100,000 networks and more; a shift below 64 makes it unused
- * in IPv6. The shift is below 32, or 128 in IPv6, also where there is no level. */
+/* Where a table lies. Networks have one table alone, whatever the room is that it is built into. */
 typedef struct pcidr_table {
-    uint32_t *ipv4_starts;     /* the address that each range begins with */
-    pcidr_halves *ipv6_starts; /* the same in IPv6 */
-    uint32_t *answers;         /* of each range one more than the row, or 0 for none */
-    size_t ranges;             /* how many starts and answers there are */
-    uint32_t *level;           /* the first level */
-    size_t level_len;
-    uint32_t shift;
-    uint32_t rows; /* how many networks there are */
+    uint32_t *first; /* an entry for each block of addresses that have the same first bits */
+    size_t first_len;
+    uint32_t *words; /* the nodes that entries lead to; may be null where there are none */
+    size_t words_len;
+    uint32_t steps; /* how many steps of six bits there are behind the first bits */
+    uint32_t rows;  /* how many networks there are */
+    uint32_t family; /* 6, or another number, as 4, for IPv4 */
 } pcidr_table;
 
-PCIDR_ASSERT(offsetof(pcidr_table, answers) == 2 * sizeof(void *));
-PCIDR_ASSERT(offsetof(pcidr_table, ranges) == 3 * sizeof(void *));
-PCIDR_ASSERT(offsetof(pcidr_table, level) == 4 * sizeof(void *));
-PCIDR_ASSERT(offsetof(pcidr_table, level_len) == 5 * sizeof(void *));
-PCIDR_ASSERT(offsetof(pcidr_table, shift) == 6 * sizeof(void *));
-PCIDR_ASSERT(offsetof(pcidr_table, rows) == 6 * sizeof(void *) + 4);
+PCIDR_ASSERT(offsetof(pcidr_table, first) == 0);
+PCIDR_ASSERT(offsetof(pcidr_table, first_len) == sizeof(void *));
+PCIDR_ASSERT(offsetof(pcidr_table, words) == 2 * sizeof(void *));
+PCIDR_ASSERT(offsetof(pcidr_table, words_len) == 3 * sizeof(void *));
+PCIDR_ASSERT(offsetof(pcidr_table, steps) == 4 * sizeof(void *));
+PCIDR_ASSERT(offsetof(pcidr_table, rows) == 4 * sizeof(void *) + 4);
+PCIDR_ASSERT(offsetof(pcidr_table, family) == 4 * sizeof(void *) + 8);
+
+/* What building a table tells besides its code. */
+typedef struct pcidr_table_sizes {
+    size_t first;   /* how many entries the table has, and so of NO_ROOM how many are room enough */
+    size_t words;   /* how many words, likewise */
+    size_t place;   /* of NO_VALUE: the index of the first value that is refused */
+    uint32_t steps; /* how many steps */
+} pcidr_table_sizes;
+
+PCIDR_ASSERT(offsetof(pcidr_table_sizes, first) == 0);
+PCIDR_ASSERT(offsetof(pcidr_table_sizes, words) == sizeof(size_t));
+PCIDR_ASSERT(offsetof(pcidr_table_sizes, place) == 2 * sizeof(size_t));
+PCIDR_ASSERT(offsetof(pcidr_table_sizes, steps) == 3 * sizeof(size_t));
 
 /* What stands for no row. */
 #define PCIDR_NO_ROW UINT32_MAX
 
-/* How many starts and answers are room enough for a table of so many networks: twice as many, and one more. */
-size_t pcidr_table_room(uint32_t rows);
-
-/* These take the arrays one by one, and the functions below pass those of a `pcidr_table` on. A look-up of one address takes
- * the answers, the shift and the rows from the table, so that all arguments are in registers. */
-uint32_t pcidr_ipv4_table_build(const pcidr_value *networks, size_t networks_len, uint32_t *starts, size_t starts_len,
-                                uint32_t *answers, size_t answers_len, uint32_t *level, size_t level_len, uint32_t shift,
-                                size_t *count);
-uint32_t pcidr_ipv6_table_build(const pcidr_value *networks, size_t networks_len, pcidr_halves *starts, size_t starts_len,
-                                uint32_t *answers, size_t answers_len, uint32_t *level, size_t level_len, uint32_t shift,
-                                size_t *count);
-uint32_t pcidr_ipv4_table_check(const pcidr_value *networks, size_t networks_len, const uint32_t *starts,
-                                size_t starts_len, const uint32_t *answers, size_t answers_len, const uint32_t *level,
-                                size_t level_len, uint32_t shift);
-uint32_t pcidr_ipv6_table_check(const pcidr_value *networks, size_t networks_len, const pcidr_halves *starts,
-                                size_t starts_len, const uint32_t *answers, size_t answers_len, const uint32_t *level,
-                                size_t level_len, uint32_t shift);
-uint32_t pcidr_ipv4_table_lookup(const uint32_t *starts, size_t starts_len, const uint32_t *level, size_t level_len,
+/* These take the arrays one by one, and the functions below pass those of a `pcidr_table` on. A look-up takes the steps and
+ * the rows from the table, and nothing else, so that all arguments of one address are in registers. */
+uint32_t pcidr_ipv4_table_build(const pcidr_value *networks, size_t networks_len, uint32_t *first, size_t first_len,
+                                uint32_t *words, size_t words_len, pcidr_table_sizes *sizes);
+uint32_t pcidr_ipv6_table_build(const pcidr_value *networks, size_t networks_len, uint32_t *first, size_t first_len,
+                                uint32_t *words, size_t words_len, pcidr_table_sizes *sizes);
+uint32_t pcidr_ipv4_table_check(const pcidr_value *networks, size_t networks_len, const uint32_t *first, size_t first_len,
+                                const uint32_t *words, size_t words_len, uint32_t steps);
+uint32_t pcidr_ipv6_table_check(const pcidr_value *networks, size_t networks_len, const uint32_t *first, size_t first_len,
+                                const uint32_t *words, size_t words_len, uint32_t steps);
+uint32_t pcidr_ipv4_table_lookup(const uint32_t *first, size_t first_len, const uint32_t *words, size_t words_len,
                                  const pcidr_table *table, const pcidr_value *address);
-uint32_t pcidr_ipv6_table_lookup(const pcidr_halves *starts, size_t starts_len, const uint32_t *level, size_t level_len,
+uint32_t pcidr_ipv6_table_lookup(const uint32_t *first, size_t first_len, const uint32_t *words, size_t words_len,
                                  const pcidr_table *table, const pcidr_value *address);
-uint32_t pcidr_ipv4_table_lookup_each(const uint32_t *starts, size_t starts_len, const uint32_t *answers,
-                                      size_t answers_len, const uint32_t *level, size_t level_len, uint32_t shift,
-                                      uint32_t rows, const pcidr_value *asked, size_t asked_len, uint32_t *out,
+uint32_t pcidr_ipv4_table_lookup_each(const uint32_t *first, size_t first_len, const uint32_t *words, size_t words_len,
+                                      const pcidr_table *table, const pcidr_value *asked, size_t asked_len, uint32_t *out,
                                       size_t out_len);
-uint32_t pcidr_ipv6_table_lookup_each(const pcidr_halves *starts, size_t starts_len, const uint32_t *answers,
-                                      size_t answers_len, const uint32_t *level, size_t level_len, uint32_t shift,
-                                      uint32_t rows, const pcidr_value *asked, size_t asked_len, uint32_t *out,
+uint32_t pcidr_ipv6_table_lookup_each(const uint32_t *first, size_t first_len, const uint32_t *words, size_t words_len,
+                                      const pcidr_table *table, const pcidr_value *asked, size_t asked_len, uint32_t *out,
                                       size_t out_len);
 
-/* Writes the table of networks. Before it `table->ranges` is for how many ranges there is room, and after PCIDR_OK how many
- * there are; what the arrays have behind these is not specified. Errors: NO_MEMORY; TOO_MANY; SHIFT; NO_VALUE, and `place`
- * is the index of the first value that is no network of the family, or does not come after the one before it; NO_ROOM, and
- * `place` is how many ranges are room enough. Then `table` is as it was, and so are the arrays. Takes O(n), and O(log n) for
- * each entry of the level. Allocates: 8 bytes for each network, or 24 in IPv6. */
+/* Builds the table of networks into the arrays. Before it `first_len` and `words_len` of the table are for how many there is
+ * room, and after PCIDR_OK how many there are; what the arrays have behind these stays. Errors: TOO_MANY networks; NO_VALUE,
+ * and `place` of the sizes is the index of the first value that is no network of the family, or does not come after the one
+ * before it; TOO_MANY words; NO_ROOM, and the sizes are those of the table; NO_MEMORY may come before each. Then `table` is
+ * as it was, and so are the arrays. Takes O(n), also of NO_ROOM. Allocates: while it runs the table, and 24 bytes for each
+ * network, or 64 in IPv6. */
 static inline uint32_t pcidr_table_build(pcidr_table *table, const pcidr_value *networks, size_t networks_len,
-                                         size_t *place) {
-    size_t count = 0;
-    uint32_t code = table->ipv6_starts
-                        ? pcidr_ipv6_table_build(networks, networks_len, table->ipv6_starts, table->ranges,
-                                                 table->answers, table->ranges, table->level, table->level_len,
-                                                 table->shift, &count)
-                        : pcidr_ipv4_table_build(networks, networks_len, table->ipv4_starts, table->ranges,
-                                                 table->answers, table->ranges, table->level, table->level_len,
-                                                 table->shift, &count);
+                                         pcidr_table_sizes *sizes) {
+    uint32_t code = table->family == 6
+                        ? pcidr_ipv6_table_build(networks, networks_len, table->first, table->first_len, table->words,
+                                                 table->words_len, sizes)
+                        : pcidr_ipv4_table_build(networks, networks_len, table->first, table->first_len, table->words,
+                                                 table->words_len, sizes);
     if (code == PCIDR_OK) {
-        table->ranges = count;
+        table->first_len = sizes->first;
+        table->words_len = sizes->words;
+        table->steps = sizes->steps;
         table->rows = (uint32_t)networks_len;
-    } else if (code == PCIDR_NO_VALUE || code == PCIDR_NO_ROOM) {
-        *place = count;
     }
     return code;
 }
 
-/* PCIDR_OK where the arrays, as from a file, are the table of the networks: two passes over these, and one over the arrays
- * and the level. Errors: NO_TABLE where `table->rows` is another number; NO_MEMORY; TOO_MANY; SHIFT; NO_VALUE for a
- * network; NO_TABLE for the arrays. Allocates, as above. */
+/* PCIDR_OK where the arrays, as from a file, are the table of the networks, of any number of steps: it is built anew, and
+ * compared as it goes. Errors: NO_TABLE where `table->rows` is another number, and of the steps; TOO_MANY networks; NO_VALUE
+ * for a network; NO_TABLE for the arrays; NO_MEMORY may come before each. Allocates: while it runs 24 bytes for each network,
+ * or 64 in IPv6. */
 static inline uint32_t pcidr_table_check(const pcidr_table *table, const pcidr_value *networks, size_t networks_len) {
     if (table->rows != networks_len) return PCIDR_NO_TABLE;
-    return table->ipv6_starts
-               ? pcidr_ipv6_table_check(networks, networks_len, table->ipv6_starts, table->ranges, table->answers,
-                                        table->ranges, table->level, table->level_len, table->shift)
-               : pcidr_ipv4_table_check(networks, networks_len, table->ipv4_starts, table->ranges, table->answers,
-                                        table->ranges, table->level, table->level_len, table->shift);
+    return table->family == 6 ? pcidr_ipv6_table_check(networks, networks_len, table->first, table->first_len,
+                                                       table->words, table->words_len, table->steps)
+                              : pcidr_ipv4_table_check(networks, networks_len, table->first, table->first_len,
+                                                       table->words, table->words_len, table->steps);
 }
 
 /* The longest match: the row of the longest network that an address of the table's family is in, and PCIDR_NO_ROW where it
  * is in none, or where the value is no such address. Whatever the arrays hold, nothing outside of them is read, and a row
  * is below `table->rows`. Takes some tens of nanoseconds; neither allocates nor writes. */
 static inline uint32_t pcidr_table_lookup(const pcidr_table *table, const pcidr_value *address) {
-    return table->ipv6_starts
-               ? pcidr_ipv6_table_lookup(table->ipv6_starts, table->ranges, table->level, table->level_len, table, address)
-               : pcidr_ipv4_table_lookup(table->ipv4_starts, table->ranges, table->level, table->level_len, table, address);
+    return table->family == 6
+               ? pcidr_ipv6_table_lookup(table->first, table->first_len, table->words, table->words_len, table, address)
+               : pcidr_ipv4_table_lookup(table->first, table->first_len, table->words, table->words_len, table, address);
 }
 
 /* The same of each of many, at the same index of `out`, whose further places stay. Error: NO_ROOM, and `out` is as it
  * was. Does not allocate. */
 static inline uint32_t pcidr_table_lookup_each(const pcidr_table *table, const pcidr_value *asked, size_t asked_len,
                                                uint32_t *out, size_t out_len) {
-    return table->ipv6_starts
-               ? pcidr_ipv6_table_lookup_each(table->ipv6_starts, table->ranges, table->answers, table->ranges,
-                                              table->level, table->level_len, table->shift, table->rows, asked,
-                                              asked_len, out, out_len)
-               : pcidr_ipv4_table_lookup_each(table->ipv4_starts, table->ranges, table->answers, table->ranges,
-                                              table->level, table->level_len, table->shift, table->rows, asked,
-                                              asked_len, out, out_len);
+    return table->family == 6 ? pcidr_ipv6_table_lookup_each(table->first, table->first_len, table->words,
+                                                             table->words_len, table, asked, asked_len, out, out_len)
+                              : pcidr_ipv4_table_lookup_each(table->first, table->first_len, table->words,
+                                                             table->words_len, table, asked, asked_len, out, out_len);
 }
 
 /* ---- look-up tables in files: the longest match and its value, out of the bytes of a file that is read or mapped

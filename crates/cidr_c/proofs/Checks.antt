@@ -1,20 +1,91 @@
--- Arrays that were built are no wrong ones.
-use Rattle.std.proofs.Common.{◌≡◌, ◌⊎◌, ℕ, List, map, take, inl, inr, refl}
+-- A table that was built is no wrong one, and why none is built.
+use Rattle.std.proofs.Common.{◌≡◌, ◌⊎◌, ℕ, ◌++◌, List, drop, length, take, inl, inr, refl, ap, arith, ◌∙◌}
+use Rattle.std.proofs.Math.Seq.{take-append_seam}
 use Rattle.std.proofs.lemmas.Bool.{cases_eq}
-use Rattle.cidr_arrays.specs.FaultLaws.{no_fault}
-use Rattle.cidr_c.specs.model.Codes.{no_memory}
-use Rattle.cidr_c.specs.model.Tables.{IsBuilt, IsChecked}
+use Rattle.cidr_lookup.specs.FaultLaws.{no_fault}
+use Rattle.cidr_lookup.specs.Tables.{IsTableRefused}
+use Rattle.cidr_lookup.specs.declared.table.TableError.{TableError}
+use Rattle.cidr_lookup.specs.declared.table.TableError.TheVariants.{TooMany, Refused, TooLarge, NoMemory}
+use Rattle.cidr_c.specs.model.Codes.{no_memory, no_room}
+use Rattle.cidr_c.specs.model.Tables.{IsBuilt, IsChecked, table_error_code, words_fault_code}
+use Rattle.cidr_c.specs.declared.tables.CTableSizes.{CTableSizes}
 
-pub accepted : {A : Type 0} (w : ℕ) (value : A → ℕ) (networks : List (ℕ × ℕ)) (starts : List A) (answers level : List ℕ) (shift count ranges code : ℕ)
-    → IsBuilt w value networks starts answers level shift count ranges 0
-    → IsChecked w networks (map value (take ranges starts)) (take ranges answers) level shift code → (code ≡ 0) ⊎ (code ≡ no_memory)
-accepted {A} w value networks starts answers level shift count ranges code built checked = elim (cases_eq code 0) [
+-- ---- what was built
+-- what was put stands in the front
+front : (words room room_new : List ℕ) (n : ℕ) → room_new ≡ words ++ drop (length words) room → n ≡ length words → take n room_new ≡ words
+front words room room_new n is size = rw (is, size) (take-append_seam words (drop (length words) room))
+
+pub accepted : (w padding : ℕ) (steps_of : ℕ → ℕ) (networks : List (ℕ × ℕ)) (first words first_new words_new : List ℕ) (sizes sizes_new : CTableSizes) (code : ℕ)
+    → IsBuilt w padding steps_of networks first words first_new words_new sizes sizes_new 0
+    → IsChecked w padding sizes_new.steps networks (take sizes_new.first first_new) (take sizes_new.words words_new) code → (code ≡ 0) ⊎ (code ≡ no_memory)
+accepted w padding steps_of networks first words first_new words_new sizes sizes_new code built checked = elim (cases_eq code 0) [
   | inl fine ↦ inl fine
   | inr other ↦ elim (cases_eq code no_memory) [
     | inl refused ↦ inr refused
     | inr wrong ↦
-        let (fault, _, is) = checked.fault other wrong in
-        let sizes = built.sizes refl in
-        absurd (no_fault w networks (map value (take ranges starts)) (take ranges answers) level shift fault (built.table refl) sizes.0 sizes.1 is)
+        let (fault, told, is) = checked.fault other wrong in
+        let (entries, nodes, table, put) = built.table (inl refl) in
+        let few = built.few (inl refl) in
+        let first_size = ap (λ (s : CTableSizes). s.first) put.sizes_are in
+        let words_size = ap (λ (s : CTableSizes). s.words) put.sizes_are in
+        let first_is = front entries first first_new sizes_new.first (put.put refl).0 first_size in
+        let words_are = front nodes words words_new sizes_new.words (put.put refl).1 words_size in
+        let steps = ap (λ (s : CTableSizes). s.steps) put.sizes_are in
+        absurd (wrong (told ∙ ap words_fault_code (no_fault w padding sizes_new.steps networks (take sizes_new.first first_new) (take sizes_new.words words_new) fault
+        (rw (steps, first_is, words_are) table) few.0 (rw first_is (omega (arith, few.1, first_size))) (rw words_are (omega (arith, few.2, words_size))) is)))
   ]
 ]
+
+-- ---- why none is built
+-- an error's code is none of a table
+no_table_is : (error : TableError) → (table_error_code error ≡ 0) ⊎ (table_error_code error ≡ no_room) → ⊥
+no_table_is TooMany e = elim e [ inl z ↦ omega (arith, z) | inr z ↦ omega (arith, z) ]
+no_table_is (Refused place) e = elim e [ inl z ↦ omega (arith, z) | inr z ↦ omega (arith, z) ]
+no_table_is TooLarge e = elim e [ inl z ↦ omega (arith, z) | inr z ↦ omega (arith, z) ]
+no_table_is NoMemory e = elim e [ inl z ↦ omega (arith, z) | inr z ↦ omega (arith, z) ]
+
+module _ (w padding : ℕ) (steps_of : ℕ → ℕ) (networks : List (ℕ × ℕ)) (first words : List ℕ) (sizes : CTableSizes) where
+  pub refused_at : (place : ℕ) → IsTableRefused w padding (steps_of (length networks)) networks (Refused place)
+      → IsBuilt w padding steps_of networks first words first words sizes
+      (record { first = sizes.first; words = sizes.words; place = place; steps = sizes.steps }) (table_error_code (Refused place))
+  refused_at place is = record {
+    table = λ e. absurd (no_table_is (Refused place) e);
+    few = λ e. absurd (no_table_is (Refused place) e);
+    many = λ z. absurd (omega (arith, z));
+    refused = λ _. (is.0, is.1, refl);
+    codes = inr (inr (inr (inl refl)));
+    stays = λ _. (refl, refl);
+    sizes_stay = λ e. elim e [ inl z ↦ absurd (omega (arith, z)) | inr z ↦ absurd (omega (arith, z)) ];
+  }
+
+  pub not_built : (error : TableError) → ((place : ℕ) → error ≡ Refused place → ⊥)
+      → IsTableRefused w padding (steps_of (length networks)) networks error
+      → IsBuilt w padding steps_of networks first words first words sizes sizes (table_error_code error)
+  not_built (Refused place) other is = absurd (other place refl)
+  not_built TooMany other is = record {
+    table = λ e. absurd (no_table_is TooMany e);
+    few = λ e. absurd (no_table_is TooMany e);
+    many = λ _. inl is;
+    refused = λ z. absurd (omega (arith, z));
+    codes = inr (inl refl);
+    stays = λ _. (refl, refl);
+    sizes_stay = λ _. refl;
+  }
+  not_built TooLarge other is = record {
+    table = λ e. absurd (no_table_is TooLarge e);
+    few = λ e. absurd (no_table_is TooLarge e);
+    many = λ _. inr is;
+    refused = λ z. absurd (omega (arith, z));
+    codes = inr (inl refl);
+    stays = λ _. (refl, refl);
+    sizes_stay = λ _. refl;
+  }
+  not_built NoMemory other is = record {
+    table = λ e. absurd (no_table_is NoMemory e);
+    few = λ e. absurd (no_table_is NoMemory e);
+    many = λ z. absurd (omega (arith, z));
+    refused = λ z. absurd (omega (arith, z));
+    codes = inr (inr (inl refl));
+    stays = λ _. (refl, refl);
+    sizes_stay = λ _. refl;
+  }

@@ -2,8 +2,8 @@
 use Rattle.std.proofs.Common.{◌≡◌, ℕ, ◌+◌, ◌<◌, List, [], ◌∷◌, ◌++◌, length, map, take, get_or, set, inl, inr, sym, ap, ap₂, ◌∙◌, arith, subst}
 use Rattle.std.proofs.lemmas.Bool.{cases_eq}
 use Rattle.std.proofs.lemmas.List.{take_more, map-append, get_or-map, get_or-set_same, get_or-set_other}
-use Rattle.cidr_arrays.specs.Arrays.{key_networks}
-use Rattle.cidr_arrays.specs.declared.key.Key.{Key}
+use Rattle.cidr_lookup.specs.Keys.{key_networks}
+use Rattle.cidr_lookup.specs.declared.key.Key.{Key}
 use Rattle.cidr_c.specs.declared.values.CValue.{CValue}
 
 -- one key more

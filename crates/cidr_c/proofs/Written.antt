@@ -13,9 +13,9 @@ use Rattle.cidr_files.specs.declared.faults.WriteError.TheVariants.{Table}
 use Rattle.cidr_lookup.specs.Tables.{HasTooManyWords, ipv4_steps, ipv6_steps}
 use Rattle.cidr_lookup.specs.declared.table.TableError.{TableError}
 use Rattle.cidr_lookup.specs.declared.table.TableError.TheVariants.{TooLarge}
-use Rattle.cidr_arrays.specs.Arrays.{key_networks}
-use Rattle.cidr_arrays.specs.declared.key.Key.{Key}
-use Rattle.cidr_arrays.proofs.Numbers.{length_networks}
+use Rattle.cidr_lookup.specs.Keys.{key_networks}
+use Rattle.cidr_lookup.specs.declared.key.Key.{Key}
+use Rattle.cidr_lookup.proofs.Numbers.{length_networks}
 use Rattle.cidr_c.specs.model.Tables.{ipv4_pair, ipv6_pair}
 use Rattle.cidr_c.specs.calls.Writing.{AreTooMany, AreValueOffsets, IsFileOf, IsFileWritten, IsFirstRefusedAt, bytes_of_row, ipv4_networks, ipv4_rows, ipv6_networks}
 use Rattle.cidr_c.specs.declared.values.CValue.{CValue}

@@ -532,6 +532,31 @@ static void rows(void) {
     WANT(pcidr_rows_covered(networks, 5, &inner, &index, &to) == PCIDR_OK && index <= to && to <= 5);
 }
 
+/* Rows are put in, in any order, asked for all around an address, and taken out. */
+static void changing_rows(void) {
+    const char *texts[4] = {"10.1.2.0/24", "::/0", "any", "10.0.0.0/8"};
+    pcidr_value networks[4], sorted[3] = {value("any"), value("10.0.0.0/8"), value("10.1.2.0/24")};
+    pcidr_value address = value("10.1.2.3"), other = value("10.1.0.0/16"), bad = none;
+    size_t count = 0, index = 77, indexes[4] = {9, 9, 9, 9}, found = 7;
+    for (int i = 0; i < 4; i++) {
+        pcidr_value network = value(texts[i]);
+        WANT(pcidr_rows_insert(networks, 4, &count, &network, &index) == PCIDR_OK && count == (size_t)i + 1);
+        WANT(pcidr_rows_insert(networks, 4, &count, &network, &index) == PCIDR_PRESENT && count == (size_t)i + 1);
+    }
+    WANT(index == 1 && memcmp(networks, sorted, sizeof sorted) == 0);
+    WANT(pcidr_rows_insert(networks, 4, &count, &other, &index) == PCIDR_NO_ROOM && count == 4 && index == 1);
+    WANT(pcidr_rows_insert(networks, 4, &count, &bad, &index) == PCIDR_NO_VALUE && index == 1);
+    WANT(pcidr_rows_covering(networks, 4, &address, indexes, 2, &found) == PCIDR_NO_ROOM && found == 3 && indexes[0] == 9);
+    WANT(pcidr_rows_covering(networks, 4, &bad, indexes, 4, &found) == PCIDR_NO_VALUE && found == 3 && indexes[0] == 9);
+    WANT(pcidr_rows_covering(networks, 4, &address, indexes, 4, &found) == PCIDR_OK && found == 3);
+    WANT(indexes[0] == 0 && indexes[1] == 1 && indexes[2] == 2 && indexes[3] == 9);
+    WANT(pcidr_rows_remove(networks, 4, &count, &other, &index) == PCIDR_NONE && count == 4 && index == 1);
+    WANT(pcidr_rows_remove(networks, 4, &count, &bad, &index) == PCIDR_NO_VALUE && count == 4);
+    WANT(pcidr_rows_remove(networks, 3, &count, &sorted[1], &index) == PCIDR_NO_ROOM && count == 4 && index == 1);
+    WANT(pcidr_rows_remove(networks, 4, &count, &sorted[0], &index) == PCIDR_OK && count == 3 && index == 0);
+    WANT(memcmp(networks, sorted + 1, 2 * sizeof *sorted) == 0);
+}
+
 /* The smallest table was made by hand. */
 static void forwarding(void) {
     pcidr_row rows[5], other[5], room[5];
@@ -605,6 +630,7 @@ int main(void) {
     covering();
     ordering();
     rows();
+    changing_rows();
     forwarding();
     access_lists();
     return failures != 0;

@@ -8,6 +8,8 @@
 enum { COUNT = 64, ROOM = 4 * COUNT };
 /* More than any call allocates. */
 enum { TRIES = 10000 };
+/* What memory full of 9 is. */
+#define NINES ((size_t)0x0909090909090909)
 
 static int failures;
 /* How many allocations there are before the one that is refused. */
@@ -24,12 +26,12 @@ static uint8_t held[COUNT];
 static size_t matches[COUNT], count;
 /* Networks that ascend, and room for their table. */
 static pcidr_value ascending[COUNT];
-static uint32_t starts[2 * COUNT + 1], found[2 * COUNT + 1], level[3];
+static uint32_t first[1 << 12], words[1 << 12];
 static pcidr_table table, built;
+static pcidr_table_sizes sizes;
 /* The same of IPv6. */
 static pcidr_value ascending_ipv6[COUNT];
-static pcidr_halves starts_ipv6[2 * COUNT + 1];
-static uint32_t found_ipv6[2 * COUNT + 1], level_ipv6[3];
+static uint32_t first_ipv6[1 << 14], words_ipv6[1 << 12];
 static pcidr_table table_ipv6, built_ipv6;
 /* Their file, and room for it. */
 static uint32_t offsets[COUNT + 1];
@@ -51,9 +53,9 @@ static uint32_t longest_match_each(void) {
     return pcidr_longest_match_each(networks, COUNT, others, COUNT, matches, COUNT);
 }
 
-static const pcidr_value first = {0, 1, 32}, last = {0, 6, 32};
+static const pcidr_value begin = {0, 1, 32}, end = {0, 6, 32};
 static pcidr_rule rules[COUNT];
-static uint32_t summarize(void) { return pcidr_summarize(&first, &last, out, ROOM, &count); }
+static uint32_t summarize(void) { return pcidr_summarize(&begin, &end, out, ROOM, &count); }
 static uint32_t first_free(void) { return pcidr_first_free(networks, COUNT, 9, out); }
 static uint32_t best_free(void) { return pcidr_best_free(networks, COUNT, 9, out); }
 static uint32_t permitted(void) { return pcidr_permitted(rules, COUNT, out, ROOM, &count); }
@@ -89,9 +91,9 @@ static uint32_t read_list(void) {
     return pcidr_read_list(list, sizeof list - 1, PCIDR_HOST_BITS_REFUSED, out, ROOM, &count, &line, told, sizeof told);
 }
 
-static uint32_t build_table(void) { return pcidr_table_build(&table, ascending, COUNT, &count); }
+static uint32_t build_table(void) { return pcidr_table_build(&table, ascending, COUNT, &sizes); }
 static uint32_t check_table(void) { return pcidr_table_check(&built, ascending, COUNT); }
-static uint32_t build_table_ipv6(void) { return pcidr_table_build(&table_ipv6, ascending_ipv6, COUNT, &count); }
+static uint32_t build_table_ipv6(void) { return pcidr_table_build(&table_ipv6, ascending_ipv6, COUNT, &sizes); }
 static uint32_t check_table_ipv6(void) { return pcidr_table_check(&built_ipv6, ascending_ipv6, COUNT); }
 
 static uint32_t write_file(void) {
@@ -113,14 +115,14 @@ static void set_values(void) {
         rows[i].network = networks[i], rows[i].value = i % 3;
         if (i == COUNT - 1) rules[i].network = networks[0];
     }
-    table.ipv4_starts = starts, table.answers = found, table.ranges = 2 * COUNT + 1;
-    table.level = level, table.level_len = 3, table.shift = 31;
+    table.family = 4, table.first = first, table.first_len = 1 << 12, table.words = words, table.words_len = 1 << 12;
     if (build_table() != PCIDR_OK) failures++;
-    built = table, table.ranges = 2 * COUNT + 1;
-    table_ipv6.ipv6_starts = starts_ipv6, table_ipv6.answers = found_ipv6, table_ipv6.ranges = 2 * COUNT + 1;
-    table_ipv6.level = level_ipv6, table_ipv6.level_len = 3, table_ipv6.shift = 127;
+    built = table, table.first_len = table.words_len = 1 << 12;
+    table_ipv6.family = 6, table_ipv6.first = first_ipv6, table_ipv6.first_len = 1 << 14;
+    table_ipv6.words = words_ipv6, table_ipv6.words_len = 1 << 12;
     if (build_table_ipv6() != PCIDR_OK) failures++;
-    built_ipv6 = table_ipv6, table_ipv6.ranges = 2 * COUNT + 1;
+    built_ipv6 = table_ipv6, table_ipv6.first_len = 1 << 14, table_ipv6.words_len = 1 << 12;
+    memset(&sizes, 9, sizeof sizes);
     if (pcidr_set_write(ascending, COUNT, file, sizeof file, &file_len) != PCIDR_OK) failures++;
     memset(written, 0, sizeof written), memset(ranges, 0, sizeof ranges), number.high = 0, number.low = 9;
     line = 9, told[0] = 9;
@@ -133,11 +135,12 @@ static int is_left(void) {
     static const pcidr_value no_values[ROOM];
     static const pcidr_range no_ranges[COUNT];
     if (line != 9 || told[0] != 9) return 0;
+    if (sizes.first != NINES || sizes.words != NINES || sizes.place != NINES || sizes.steps != 0x09090909) return 0;
     if (number.high != 0 || number.low != 9 || memcmp(ranges, no_ranges, sizeof ranges) != 0) return 0;
     for (size_t i = 0; i < sizeof written; i++)
         if (written[i] != 0) return 0;
     for (size_t i = 0; i < COUNT; i++)
-        if (held[i] != 9 || matches[i] != (size_t)0x0909090909090909) return 0;
+        if (held[i] != 9 || matches[i] != NINES) return 0;
     return count == COUNT && memcmp(networks, kept, sizeof kept) == 0 && memcmp(out, no_values, sizeof out) == 0;
 }
 

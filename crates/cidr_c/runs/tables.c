@@ -18,7 +18,7 @@ static int failures;
 enum { MOST = 600, ASKED = 2000 };
 
 static pcidr_value networks[MOST], asked[ASKED];
-static size_t place;
+static pcidr_table_sizes sizes;
 
 static uint64_t random_number(void) {
     static uint64_t state = 1;
@@ -32,37 +32,53 @@ static pcidr_value value_of(const char *text) {
     return value;
 }
 
-static void *room_for(size_t count, size_t size) {
-    void *room = malloc(count > 0 ? count * size : 1);
+/* Memory of just so many words, with nothing behind it. */
+static uint32_t *room_for(size_t count) {
+    uint32_t *room = (uint32_t *)malloc(count > 0 ? count * sizeof *room : 1);
     if (!room) exit(2);
     return room;
 }
 
-/* A table with room for so many ranges, and a first level of 2^bits + 1 entries, or none. */
-static pcidr_table made(int family, size_t ranges, uint32_t bits) {
+/* A table with room for so many entries and words. */
+static pcidr_table made(uint32_t family, size_t first_len, size_t words_len) {
     pcidr_table table = {0};
-    if (family == 4) table.ipv4_starts = (uint32_t *)room_for(ranges, sizeof *table.ipv4_starts);
-    else table.ipv6_starts = (pcidr_halves *)room_for(ranges, sizeof *table.ipv6_starts);
-    table.answers = (uint32_t *)room_for(ranges, sizeof *table.answers);
-    table.ranges = ranges;
-    table.level_len = bits ? ((size_t)1 << bits) + 1 : 0;
-    table.level = (uint32_t *)room_for(table.level_len, sizeof *table.level);
-    table.shift = bits ? (family == 4 ? 32 : 128) - bits : 0;
+    table.family = family;
+    table.first = room_for(first_len), table.first_len = first_len;
+    table.words = room_for(words_len), table.words_len = words_len;
     return table;
 }
 
 static void drop(pcidr_table *table) {
-    free(table->ipv4_starts);
-    free(table->ipv6_starts);
-    free(table->answers);
-    free(table->level);
+    free(table->first);
+    free(table->words);
 }
 
-/* The rows of 10.0.0.0/8, 10.1.0.0/16, 10.1.2.0/24 and 192.0.2.0/24, as they stand on paper. */
+/* The table of networks, in as much room as a call says that it takes. */
+static pcidr_table built(uint32_t family, const pcidr_value *of, size_t count) {
+    pcidr_table table = {0};
+    table.family = family;
+    WANT(pcidr_table_build(&table, of, count, &sizes) == PCIDR_NO_ROOM && !table.first_len && !table.words_len);
+    table = made(family, sizes.first, sizes.words);
+    WANT(pcidr_table_build(&table, of, count, &sizes) == PCIDR_OK);
+    WANT(table.first_len == sizes.first && table.words_len == sizes.words && table.steps == sizes.steps && table.rows == count);
+    return table;
+}
+
+/* The words of 10.0.0.0/8, 10.1.0.0/16, 10.1.2.0/24 and 192.0.2.0/24, as they stand on paper: of fewer than 64 networks in IPv4
+ * there are 64 entries, each for the first six bits of an address, and behind them steps of six, six, six, six and two bits. A
+ * node is two words of marks, a bit for each part that is another than the one before it, and the entries of these, each one more
+ * than a row, 0 for none, or 2^31 and twice the place of a node. */
+#define NODE (1u << 31)
+
 static void worked(void) {
     static const char *const texts[] = {"10.0.0.0/8", "10.1.0.0/16", "10.1.2.0/24", "192.0.2.0/24"};
-    static const uint32_t starts[] = {0, 0x0a000000, 0x0a010000, 0x0a010200, 0x0a010300, 0x0a020000, 0x0b000000, 0xc0000200, 0xc0000300};
-    static const uint32_t answers[] = {0, 1, 2, 3, 2, 1, 0, 4, 0};
+    static const uint32_t words[] = {
+        0, 0xb0000000, 2, 3, 2,                      /* 10.1.0.0/18, by the third byte: part 2 is 10.1.2.0/24 */
+        0, 0x8c800000, 1, NODE, 2, 1,                /* 10.0.0.0/12: parts 4 to 7 are 10.1.0.0/16, and the first is a node */
+        0xc0008000, 0x80000000, 0, NODE + 10, 1, 0,  /* 8.0.0.0/6: parts 32 to 47 are 10.0.0.0/8, and the first is a node */
+        0, 0xb0000000, 0, 4, 0,                      /* 192.0.0.0/18: part 2 is 192.0.2.0/24 */
+        0, 0xc0000000, NODE + 34, 0,                 /* 192.0.0.0/12: the first part is a node */
+        0, 0xc0000000, NODE + 44, 0};                /* 192.0.0.0/6, too */
     static const struct {
         const char *address;
         uint32_t row;
@@ -70,11 +86,10 @@ static void worked(void) {
                   {"9.255.255.255", PCIDR_NO_ROW}, {"192.0.2.255", 3}, {"255.255.255.255", PCIDR_NO_ROW},
                   {"0.0.0.0", PCIDR_NO_ROW}, {"::10.1.2.3", PCIDR_NO_ROW}, {"10.1.2.0/24", PCIDR_NO_ROW}};
     for (size_t i = 0; i < 4; i++) networks[i] = value_of(texts[i]);
-    pcidr_table table = made(4, pcidr_table_room(4), 4);
-    WANT(table.ranges == 9);
-    WANT(pcidr_table_build(&table, networks, 4, &place) == PCIDR_OK && table.ranges == 9 && table.rows == 4);
-    WANT(memcmp(table.ipv4_starts, starts, sizeof starts) == 0 && memcmp(table.answers, answers, sizeof answers) == 0);
-    WANT(table.level[0] == 0 && table.level[1] == 6 && table.level[12] == 6 && table.level[13] == 8 && table.level[16] == 8);
+    pcidr_table table = built(4, networks, 4);
+    WANT(table.first_len == 64 && table.words_len == sizeof words / sizeof *words && table.steps == 5);
+    WANT(memcmp(table.words, words, sizeof words) == 0);
+    for (size_t i = 0; i < 64; i++) WANT(table.first[i] == (i == 2 ? NODE + 22 : i == 48 ? NODE + 52 : 0));
     for (size_t i = 0; i < sizeof wanted / sizeof *wanted; i++) {
         asked[i] = value_of(wanted[i].address);
         WANT(pcidr_table_lookup(&table, &asked[i]) == wanted[i].row);
@@ -84,25 +99,27 @@ static void worked(void) {
     WANT(pcidr_table_lookup_each(&table, asked, 3, out, 2) == PCIDR_NO_ROOM && out[0] == 2 && out[1] == 1);
     WANT(pcidr_table_check(&table, networks, 4) == PCIDR_OK);
     WANT(pcidr_table_check(&table, networks, 3) == PCIDR_NO_TABLE);
-    for (size_t i = 0; i < table.ranges; i++) {
-        table.answers[i] ^= 1;
+    for (size_t i = 0; i < table.first_len; i++) {
+        table.first[i] ^= 1;
         WANT(pcidr_table_check(&table, networks, 4) == PCIDR_NO_TABLE);
-        table.answers[i] ^= 1, table.ipv4_starts[i] ^= 1;
-        WANT(pcidr_table_check(&table, networks, 4) == PCIDR_NO_TABLE);
-        table.ipv4_starts[i] ^= 1;
+        table.first[i] ^= 1;
     }
-    for (size_t i = 0; i < table.level_len; i++) {
-        table.level[i] ^= 1;
+    for (size_t i = 0; i < table.words_len; i++) {
+        table.words[i] ^= 1;
         WANT(pcidr_table_check(&table, networks, 4) == PCIDR_NO_TABLE);
-        table.level[i] ^= 1;
+        table.words[i] ^= 1;
     }
-    table.ranges--;
+    table.steps--;
+    WANT(pcidr_table_check(&table, networks, 4) == PCIDR_NO_TABLE);
+    table.steps = UINT32_MAX;
+    WANT(pcidr_table_check(&table, networks, 4) == PCIDR_NO_TABLE);
+    table.steps = 5, table.words_len--;
     WANT(pcidr_table_check(&table, networks, 4) == PCIDR_NO_TABLE);
     drop(&table);
 }
 
 /* A random network or address of a family, most of them near others. */
-static pcidr_value random_value(int family, int is_address) {
+static pcidr_value random_value(uint32_t family, int is_address) {
     pcidr_value value = {0, 0, 0}, network;
     if (family == 4) {
         value.low = random_number() & 0x0307ffff;
@@ -116,7 +133,7 @@ static pcidr_value random_value(int family, int is_address) {
 }
 
 /* So many networks that ascend, none twice. */
-static size_t random_networks(int family, size_t most) {
+static size_t random_networks(uint32_t family, size_t most) {
     size_t count = 0;
     for (size_t i = 0; i < most; i++) networks[i] = random_value(family, 0);
     qsort(networks, most, sizeof *networks, pcidr_order);
@@ -125,12 +142,11 @@ static size_t random_networks(int family, size_t most) {
     return count;
 }
 
-static void random_tables(int family, size_t most, uint32_t bits) {
+static void random_tables(uint32_t family, size_t most) {
     static size_t matches[ASKED];
     static uint32_t rows[ASKED];
     size_t count = random_networks(family, most);
-    pcidr_table table = made(family, pcidr_table_room((uint32_t)count), bits);
-    WANT(pcidr_table_build(&table, networks, count, &place) == PCIDR_OK);
+    pcidr_table table = built(family, networks, count);
     WANT(pcidr_table_check(&table, networks, count) == PCIDR_OK);
     for (size_t i = 0; i < ASKED; i++) asked[i] = random_value(i % 8 ? family : 10 - family, 1);
     for (size_t i = 0; i < count && i < ASKED; i++) {
@@ -149,54 +165,67 @@ static void random_tables(int family, size_t most, uint32_t bits) {
 /* Each error, in its order. */
 static void errors(void) {
     pcidr_value two[2] = {value_of("10.0.0.0/8"), value_of("10.0.0.0/9")};
-    pcidr_table table = made(4, 5, 1), six = made(6, 5, 1);
-    WANT(pcidr_table_build(&table, two, 2, &place) == PCIDR_OK && table.ranges == 4);
-    WANT(pcidr_table_build(&table, two, 2, &place) == PCIDR_NO_ROOM && place == 5 && table.ranges == 4);
-    table.ranges = 0;
+    pcidr_table table = built(4, two, 2), large = made(4, table.first_len + 1, table.words_len + 2), six = made(6, 0, 0);
+    const pcidr_table_sizes whole = sizes;
+    WANT(whole.first == 64 && whole.words > 0 && whole.steps == 5);
+    large.first[whole.first] = large.words[whole.words] = large.words[whole.words + 1] = 7;
+    WANT(pcidr_table_build(&large, two, 2, &sizes) == PCIDR_OK && large.first_len == whole.first && large.words_len == whole.words);
+    WANT(large.first[whole.first] == 7 && large.words[whole.words] == 7 && large.words[whole.words + 1] == 7);
+    WANT(memcmp(large.first, table.first, 4 * whole.first) == 0 && memcmp(large.words, table.words, 4 * whole.words) == 0);
+    for (int turn = 0; turn < 2; turn++) {
+        pcidr_table small = turn ? made(4, whole.first, whole.words - 1) : made(4, whole.first - 1, whole.words);
+        small.first[0] = small.words[0] = 7, small.rows = 9;
+        memset(&sizes, 0, sizeof sizes);
+        WANT(pcidr_table_build(&small, two, 2, &sizes) == PCIDR_NO_ROOM && small.first[0] == 7 && small.words[0] == 7 && small.rows == 9);
+        WANT(sizes.first == whole.first && sizes.words == whole.words && sizes.steps == whole.steps && sizes.place == 0);
+        drop(&small);
+    }
     two[1] = two[0];
-    WANT(pcidr_table_build(&table, two, 2, &place) == PCIDR_NO_VALUE && place == 1);
+    sizes = whole;
+    WANT(pcidr_table_build(&six, two, 2, &sizes) == PCIDR_NO_VALUE && sizes.place == 0);
+    WANT(pcidr_table_build(&table, two, 2, &sizes) == PCIDR_NO_VALUE && sizes.place == 1);
     two[1] = value_of("::/0");
-    WANT(pcidr_table_build(&table, two, 2, &place) == PCIDR_NO_VALUE && place == 1);
-    WANT(pcidr_table_build(&six, two, 2, &place) == PCIDR_NO_VALUE && place == 0);
+    WANT(pcidr_table_build(&table, two, 2, &sizes) == PCIDR_NO_VALUE && sizes.place == 1);
+    WANT(pcidr_table_build(&six, two, 2, &sizes) == PCIDR_NO_VALUE && sizes.place == 0);
     two[0] = value_of("any");
-    WANT(pcidr_table_build(&table, two, 2, &place) == PCIDR_NO_VALUE && place == 0);
-    WANT(pcidr_table_build(&six, two, 2, &place) == PCIDR_NO_VALUE && place == 0);
+    WANT(pcidr_table_build(&table, two, 2, &sizes) == PCIDR_NO_VALUE && sizes.place == 0);
+    WANT(pcidr_table_build(&six, two, 2, &sizes) == PCIDR_NO_VALUE && sizes.place == 0);
     two[0].low = (uint64_t)1 << 32, two[0].tag = 0;
-    WANT(pcidr_table_build(&table, two, 2, &place) == PCIDR_NO_VALUE && place == 0);
+    WANT(pcidr_table_build(&table, two, 2, &sizes) == PCIDR_NO_VALUE && sizes.place == 0);
     two[0].low = 1, two[0].tag = 31;
-    WANT(pcidr_table_build(&table, two, 2, &place) == PCIDR_NO_VALUE && place == 0);
-    table.shift = 32, six.shift = 128;
-    WANT(pcidr_table_build(&table, two, 2, &place) == PCIDR_SHIFT && pcidr_table_build(&six, two, 2, &place) == PCIDR_SHIFT);
-    six.rows = 2;
-    WANT(pcidr_table_check(&table, two, 2) == PCIDR_SHIFT && pcidr_table_check(&six, two, 2) == PCIDR_SHIFT);
-    drop(&table), drop(&six);
+    WANT(pcidr_table_build(&table, two, 2, &sizes) == PCIDR_NO_VALUE && sizes.place == 0);
+    WANT(sizes.first == whole.first && sizes.words == whole.words && sizes.steps == whole.steps);
+    WANT(memcmp(large.first, table.first, 4 * whole.first) == 0 && memcmp(large.words, table.words, 4 * whole.words) == 0);
+    WANT(pcidr_table_check(&table, two, 2) == PCIDR_NO_VALUE);
+    table.steps = 6;
+    WANT(pcidr_table_check(&table, two, 2) == PCIDR_NO_TABLE);
+    drop(&table), drop(&large), drop(&six);
 
-    pcidr_value address = value_of("10.1.2.3");
-    pcidr_table none = {0};
-    WANT(pcidr_table_build(&none, NULL, 0, &place) == PCIDR_NO_ROOM && place == 1);
-    WANT(pcidr_table_lookup(&none, &address) == PCIDR_NO_ROW);
-    pcidr_halves start = {0, 0};
-    pcidr_table none_wide = {0};
-    pcidr_value wide = value_of("2001:db8::1");
-    none_wide.ipv6_starts = &start;
-    WANT(pcidr_table_lookup(&none_wide, &wide) == PCIDR_NO_ROW && pcidr_table_lookup(&none_wide, &address) == PCIDR_NO_ROW);
-    WANT(pcidr_table_lookup_each(&none, NULL, 0, NULL, 0) == PCIDR_OK);
-    WANT(pcidr_table_lookup_each(&none, &address, 1, NULL, 0) == PCIDR_NO_ROOM);
-    WANT(pcidr_table_room(0) == 1 && pcidr_table_room(UINT32_MAX) == 8589934591u);
+    pcidr_value address = value_of("10.1.2.3"), wide = value_of("2001:db8::1");
+    for (uint32_t family = 4; family <= 6; family += 2) {
+        pcidr_table none = {0}, empty = built(family, NULL, 0);
+        none.family = family;
+        WANT(empty.first_len == (family == 4 ? 64 : 256) && empty.words_len == 0);
+        WANT(pcidr_table_lookup(&none, &address) == PCIDR_NO_ROW && pcidr_table_lookup(&none, &wide) == PCIDR_NO_ROW);
+        WANT(pcidr_table_lookup(&empty, &address) == PCIDR_NO_ROW && pcidr_table_lookup(&empty, &wide) == PCIDR_NO_ROW);
+        WANT(pcidr_table_lookup_each(&none, NULL, 0, NULL, 0) == PCIDR_OK);
+        WANT(pcidr_table_lookup_each(&none, &address, 1, NULL, 0) == PCIDR_NO_ROOM);
+        WANT(pcidr_table_check(&none, NULL, 0) == PCIDR_NO_TABLE && pcidr_table_check(&empty, NULL, 0) == PCIDR_OK);
+        drop(&empty);
+    }
 }
 
 /* Arrays of any numbers, of which none is believed. */
-static void any_arrays(int family) {
-    for (int turn = 0; turn < 300; turn++) {
-        pcidr_table table = made(family, random_number() % 40, (uint32_t)(random_number() % 6));
+static void any_arrays(uint32_t family) {
+    const uint32_t steps = family == 4 ? 3 : 18;
+    for (int turn = 0; turn < 600; turn++) {
+        pcidr_table table = made(family, (size_t)1 << random_number() % 11, random_number() % 40);
         uint64_t most = turn % 2 ? UINT32_MAX : 50;
-        for (size_t i = 0; i < table.ranges; i++) {
-            table.answers[i] = (uint32_t)(random_number() % most);
-            if (family == 4) table.ipv4_starts[i] = (uint32_t)random_number();
-            else table.ipv6_starts[i].high = random_number(), table.ipv6_starts[i].low = random_number();
-        }
-        for (size_t i = 0; i < table.level_len; i++) table.level[i] = (uint32_t)(random_number() % most);
-        if (turn % 3 == 0) table.shift = (uint32_t)random_number();
+        for (size_t i = 0; i < table.first_len; i++)
+            table.first[i] = (uint32_t)(random_number() % 3 ? random_number() % most : 1u << 31 | random_number() % 50);
+        for (size_t i = 0; i < table.words_len; i++)
+            table.words[i] = (uint32_t)(random_number() % 3 ? random_number() % most : 1u << 31 | random_number() % 50);
+        table.steps = turn % 3 ? steps + (uint32_t)(random_number() % 3) : (uint32_t)random_number();
         table.rows = (uint32_t)(random_number() % most);
         for (int i = 0; i < 100; i++) {
             pcidr_value address = random_value(family, 1);
@@ -209,9 +238,8 @@ static void any_arrays(int family) {
 
 int main(void) {
     worked();
-    for (int family = 4; family <= 6; family += 2) {
-        for (uint32_t bits = 0; bits <= 12; bits += 4)
-            for (size_t most = 0; most <= MOST; most += 60) random_tables(family, most, bits);
+    for (uint32_t family = 4; family <= 6; family += 2) {
+        for (size_t most = 0; most <= MOST; most += 50) random_tables(family, most);
         any_arrays(family);
     }
     errors();

@@ -18,64 +18,26 @@ ghost use Rattle.cidr_c.specs.model.Values.{IsAddressValue, address_in};
 use crate::codes::{NO_MEMORY, NO_VALUE};
 use crate::finding::{joined, put_found_address, put_number};
 use crate::values::{CValue, network_of};
-use cidr::{AnyIpCidr, BitString, IpAddr, Ipv4Addr, Ipv4Cidr, Ipv6Addr, Ipv6Cidr};
-use cidr_arrays::Halves;
-use cidr_sets::{AddressSpace, NetworkSet};
+use cidr::{AnyIpCidr, BitString, FamilyCidr, IpAddr, IpCidr, Ipv4Cidr, Ipv6Cidr};
+use cidr_lookup::Halves;
+use cidr_sets::NetworkSet;
 use std::alloc::Global;
 
-/// The networks of one family, as parts of any networks.
-trait OneFamily: AddressSpace {
-    /// The part of a network whose addresses are of the family, if there is one: of `Any` all of them.
-    fn part(network: &AnyIpCidr) -> Option<Self>
-        ensures { MatchOption result (IsApartFrom Self.family (any_bits network.now))
-            (λ own. IsFamilyPart Self.family (any_bits network.now) (Self.bits own)) };
-
-    /// An address.
-    fn to_ip(address: Self::Address) -> IpAddr
-        ensures bits { plain_bits result ≡ Self.address_bits address }
-        ensures family { address_family result ≡ Self.family };
-}
-
-impl OneFamily for Ipv4Cidr {
-    fn part(network: &AnyIpCidr) -> Option<Ipv4Cidr> {
-        match network {
-            AnyIpCidr::Any => Some(Ipv4Cidr::null()),
-            AnyIpCidr::V4(network) => {
-                // the call tells the proof that the prefix length fits
-                network.network_length();
-                Some(*network)
-            }
-            AnyIpCidr::V6(_) => None,
-        }
-    }
-
-    fn to_ip(address: Ipv4Addr) -> IpAddr {
-        IpAddr::V4(address)
-    }
-}
-
-impl OneFamily for Ipv6Cidr {
-    fn part(network: &AnyIpCidr) -> Option<Ipv6Cidr> {
-        match network {
-            AnyIpCidr::Any => Some(Ipv6Cidr::null()),
-            AnyIpCidr::V4(_) => None,
-            AnyIpCidr::V6(network) => {
-                // the call tells the proof that the prefix length fits
-                network.network_length();
-                Some(*network)
-            }
-        }
-    }
-
-    fn to_ip(address: Ipv6Addr) -> IpAddr {
-        IpAddr::V6(address)
+/// The part of a network whose addresses are of the family, if there is one: of `any` all of them.
+fn part_of<C: FamilyCidr>(network: &AnyIpCidr) -> Option<C>
+    ensures { MatchOption result (IsApartFrom C.FAMILY (any_bits network.now))
+        (λ own. IsFamilyPart C.FAMILY (any_bits network.now) (C.bits own)) }
+{
+    match Option::<IpCidr>::from(*network) {
+        Some(network) => C::from_ip(network),
+        None => Some(C::null()),
     }
 }
 
 /// The set of the addresses of a family that some networks have, or the number of the error.
-fn family_set<C: OneFamily + Copy>(alloc: Global, values: &[CValue]) -> Result<NetworkSet<C>, u32>
+fn family_set<C: FamilyCidr>(alloc: Global, values: &[CValue]) -> Result<NetworkSet<C>, u32>
     ensures { MatchResult result
-        (λ set. AreNetworkValues values.now × AreFamilyPart C.family (bits_in values.now) (map C.bits set))
+        (λ set. AreNetworkValues values.now × AreFamilyPart C.FAMILY (bits_in values.now) (map C.bits set))
         (λ code. ((code ≡ no_value) × ¬ (AreNetworkValues values.now)) ⊎ (code ≡ no_memory)) }
 {
     let Ok(mut networks) = Vec::with_capacity(alloc, values.len()) else {
@@ -85,7 +47,7 @@ fn family_set<C: OneFamily + Copy>(alloc: Global, values: &[CValue]) -> Result<N
         let Some(network) = network_of(value) else {
             return Err(NO_VALUE);
         };
-        if let Some(part) = C::part(&network) {
+        if let Some(part) = part_of::<C>(&network) {
             let Ok(()) = networks.push(part) else {
                 return Err(NO_MEMORY);
             };
@@ -95,9 +57,9 @@ fn family_set<C: OneFamily + Copy>(alloc: Global, values: &[CValue]) -> Result<N
 }
 
 /// How many addresses of a family some networks have.
-fn counted<C: OneFamily + Copy>(alloc: Global, networks: &[CValue], count: &mut Halves) -> u32
-    ensures { IsSoughtInMemory (AreNetworkValues networks.now) (HaveCountIn C.family (bits_in networks.now) (2 ^ 128))
-        IsAnyValue ipv6_number (HaveCountIn C.family (bits_in networks.now)) count.old count.new result }
+fn counted<C: FamilyCidr>(alloc: Global, networks: &[CValue], count: &mut Halves) -> u32
+    ensures { IsSoughtInMemory (AreNetworkValues networks.now) (HaveCountIn C.FAMILY (bits_in networks.now) (2 ^ 128))
+        IsAnyValue ipv6_number (HaveCountIn C.FAMILY (bits_in networks.now)) count.old count.new result }
 {
     match family_set::<C>(alloc, networks) {
         Ok(set) => put_number(set.address_count(), count),
@@ -106,7 +68,7 @@ fn counted<C: OneFamily + Copy>(alloc: Global, networks: &[CValue], count: &mut 
 }
 
 /// The address at an index among those of a family that some networks have.
-fn address_at<C: OneFamily + Copy>(
+fn address_at<C: FamilyCidr>(
     alloc: Global,
     networks: &[CValue],
     high: u64,
@@ -114,9 +76,9 @@ fn address_at<C: OneFamily + Copy>(
     out: &mut CValue,
 ) -> u32
     ensures { IsSoughtInMemory (AreNetworkValues networks.now)
-        (IsAtIndexIn C.family (bits_in networks.now) (high * 2 ^ 64 + low) None) IsAddressValue address_in
-        (λ a. (address_family a ≡ C.family)
-        × IsAtIndexIn C.family (bits_in networks.now) (high * 2 ^ 64 + low) (Some (plain_bits a)))
+        (IsAtIndexIn C.FAMILY (bits_in networks.now) (high * 2 ^ 64 + low) None) IsAddressValue address_in
+        (λ a. (address_family a ≡ C.FAMILY)
+        × IsAtIndexIn C.FAMILY (bits_in networks.now) (high * 2 ^ 64 + low) (Some (plain_bits a)))
         out.old out.new result }
 {
     match family_set::<C>(alloc, networks) {
@@ -126,12 +88,12 @@ fn address_at<C: OneFamily + Copy>(
 }
 
 /// The address of a set at an index.
-fn nth_of<C: OneFamily + Copy>(set: &NetworkSet<C>, index: u128) -> Option<IpAddr>
-    ensures at { IsAtIndex (width_of C.family) (map C.bits set.now) index (option_map plain_bits result) }
-    ensures family { IfSome result (λ a. address_family a ≡ C.family) }
+fn nth_of<C: FamilyCidr>(set: &NetworkSet<C>, index: u128) -> Option<IpAddr>
+    ensures at { IsAtIndex (width_of C.FAMILY) (map C.bits set.now) index (option_map plain_bits result) }
+    ensures family { IfSome result (λ a. address_family a ≡ C.FAMILY) }
 {
     match set.nth(index) {
-        Some(address) => Some(C::to_ip(address)),
+        Some(address) => Some(C::to_ip_address(address)),
         None => None,
     }
 }

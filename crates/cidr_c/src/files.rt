@@ -3,22 +3,19 @@ ghost use Rattle.std.specs.Prelude.{◌≡◌, ◌≢◌, ◌⊎◌, ℕ, ◌+�
 ghost use Rattle.std.specs.Int.{from_le_bytes, w32};
 ghost use Rattle.cidr.specs.model.Bits.{bits};
 ghost use Rattle.cidr_table.specs.model.Prefixes.{IsLongestMatch};
-ghost use Rattle.cidr_arrays.specs.Arrays.{prefix_bits, row_of};
+ghost use Rattle.cidr_lookup.specs.Keys.{prefix_bits, row_of};
 ghost use Rattle.cidr_files.specs.Layout.{padded, padded_room, sizes_of, wide_word, words};
 ghost use Rattle.cidr_files.specs.Tables.{AreLookUps, AreOffsets, offsets_in, stored_networks, value_in};
 ghost use Rattle.cidr_c.specs.calls.Calls.{IsYesOrNo};
-ghost use Rattle.cidr_c.specs.model.Files.{AreAnsweredIn, LieInBytes, IsFileChecked, IsFoundInFile, IsFoundInParts, IsInSet, IsInSetAt, IsOpened, bytes_at, file_fault_code, file_in, parts_at, table_error_code, table_fault_code, table_from, words_fault_code};
+ghost use Rattle.cidr_c.specs.model.Files.{AreAnsweredIn, LieInBytes, IsFileChecked, IsFoundInFile, IsFoundInParts, IsInSet, IsInSetAt, IsOpened, bytes_at, file_fault_code, file_in, parts_at, table_fault_code, table_from};
 ghost use Rattle.cidr_c.specs.model.Tables.{no_row};
 ghost use Rattle.cidr_c.specs.model.Values.{IsLow, number_in};
 
-use crate::codes::{
-    LONG, NO_FILE, NO_MEMORY, NO_ROOM, NO_TABLE, NO_VALUE, OK, OTHER_VERSION, SHORT, TOO_MANY,
-    VALUES,
-};
-use crate::tables::NO_ROW;
+use crate::codes::{LONG, NO_FILE, NO_ROOM, OK, OTHER_VERSION, SHORT, VALUES};
+use crate::tables::{NO_ROW, words_fault_code};
 use crate::values::CValue;
 use cidr_files::{Counts, Family, Fault, Ipv4Bytes, Ipv6Bytes, TableFault, checked, counts, open};
-use cidr_lookup::{TableError, find};
+use cidr_lookup::find;
 use std::alloc::Global;
 
 /// The size of the header of a file.
@@ -186,33 +183,6 @@ fn table_fault_code(fault: &TableFault) -> u32
     match fault {
         TableFault::Words(fault) => words_fault_code(fault),
         TableFault::Offsets => VALUES,
-    }
-}
-
-/// The number of what is wrong with its words.
-fn words_fault_code(fault: &cidr_lookup::Fault) -> u32
-    ensures value { result ≡ words_fault_code fault.now }
-    ensures above { 0 < result }
-{
-    match fault {
-        cidr_lookup::Fault::Keys(error) => table_error_code(error),
-        cidr_lookup::Fault::Steps
-        | cidr_lookup::Fault::TooLong
-        | cidr_lookup::Fault::First(_)
-        | cidr_lookup::Fault::Word(_) => NO_TABLE,
-    }
-}
-
-/// The number of why keys have no words.
-fn table_error_code(error: &TableError) -> u32
-    ensures value { result ≡ table_error_code error.now }
-    ensures above { 0 < result }
-{
-    match error {
-        TableError::TooMany => TOO_MANY,
-        TableError::Refused(_) => NO_VALUE,
-        TableError::TooLarge => NO_TABLE,
-        TableError::NoMemory => NO_MEMORY,
     }
 }
 

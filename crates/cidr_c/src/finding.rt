@@ -9,7 +9,7 @@ ghost use Rattle.cidr_c.specs.model.Values.{IsAddressValue, IsIpNetworkValue, Is
 use crate::codes::{NO_ROOM, NONE, OK};
 use crate::values::{CValue, put_address, put_ip_network, put_network};
 use cidr::{AnyIpCidr, IpAddr, IpCidr};
-use cidr_arrays::Halves;
+use cidr_lookup::Halves;
 
 /// Makes the value the network, if there is one.
 #[inline(always)]

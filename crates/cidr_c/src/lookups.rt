@@ -15,7 +15,7 @@ use crate::sets::set_of;
 use crate::values::{CValue, network_of};
 use cidr::AnyIpCidr;
 use cidr_sets::NetworkSet;
-use cidr_table::{Lookups, LpmTable};
+use cidr_table::LpmTable;
 use std::alloc::{AllocError, Global};
 
 /// For each asked network 1, where it lies in the others together, and 0 where not, at its index of `out`: 0, or the
@@ -74,14 +74,11 @@ pub extern "C" fn pcidr_longest_match_each(
     if out.len() < asked.len() {
         return NO_ROOM;
     }
-    let Ok(ready) = table.lookups(alloc) else {
-        return NO_MEMORY;
-    };
     for i in 0..asked.len() {
         let Some(network) = network_of(&asked[i]) else {
             return NO_VALUE;
         };
-        out[i] = index_of(&ready, &network);
+        out[i] = index_of(&table, &network);
     }
     OK
 }
@@ -124,10 +121,10 @@ fn with_indexes(
 }
 
 /// The index of the longest match, or `usize::MAX` where there is none.
-pub fn index_of(ready: &Lookups<'_, AnyIpCidr, usize>, asked: &AnyIpCidr) -> usize
-    ensures { IsRowIndex ready.now asked.now result }
+pub fn index_of(table: &LpmTable<AnyIpCidr, usize>, asked: &AnyIpCidr) -> usize
+    ensures { IsRowIndex table.now.rows asked.now result }
 {
-    match ready.lookup(asked) {
+    match table.lookup(asked) {
         Some(row) => row.1,
         None => usize::MAX,
     }

@@ -12,7 +12,7 @@ use crate::lookups::{index_of, rows_of, table_of};
 use crate::values::{CValue, network_of};
 use cidr::{AnyIpCidr, NetworkBits};
 use cidr_ext::NetworkExt;
-use cidr_table::{Lookups, LpmTable};
+use cidr_table::LpmTable;
 use std::alloc::{AllocError, Global};
 
 /// Rows in the order of their networks, and those of one network by index.
@@ -94,11 +94,11 @@ pub extern "C" fn pcidr_table_order(
 }
 
 /// The index of the row of the smallest network around a network, or `usize::MAX` where there is none.
-fn nearest_of(ready: &Lookups<'_, AnyIpCidr, usize>, network: &AnyIpCidr) -> usize
-    ensures { IsNearestRowIndex ready.now network.now result }
+fn nearest_of(table: &LpmTable<AnyIpCidr, usize>, network: &AnyIpCidr) -> usize
+    ensures { IsNearestRowIndex table.now.rows network.now result }
 {
     match network.parent() {
-        Some(parent) => index_of(ready, &parent),
+        Some(parent) => index_of(table, &parent),
         None => usize::MAX,
     }
 }
@@ -118,14 +118,11 @@ pub extern "C" fn pcidr_nearest_each(alloc: Global, networks: &[CValue], out: &m
     if out.len() < networks.len() {
         return NO_ROOM;
     }
-    let Ok(ready) = table.lookups(alloc) else {
-        return NO_MEMORY;
-    };
     for i in 0..networks.len() {
         let Some(network) = network_of(&networks[i]) else {
             return NO_VALUE;
         };
-        out[i] = nearest_of(&ready, &network);
+        out[i] = nearest_of(&table, &network);
     }
     OK
 }

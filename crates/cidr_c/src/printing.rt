@@ -144,7 +144,7 @@ pub extern "C" fn pcidr_message(code: u32, out: &mut [u8]) -> usize
 /// The version: 65536 for the major one, 256 for the minor one, and the patch.
 #[unsafe(no_mangle)]
 pub extern "C" fn pcidr_version() -> u32
-    ensures { result ≡ 768 }
+    ensures { result ≡ 1024 }
 {
-    0x300
+    0x400
 }

@@ -2,34 +2,49 @@
 ghost use Rattle.std.specs.Prelude.{◌≡◌, ◌≢◌, ◌<◌, ℕ, List, length, map, IfOk, IfSome, MatchOption};
 ghost use Rattle.cidr.specs.model.Bits.{bits};
 ghost use Rattle.cidr_table.specs.model.Prefixes.{IsLongestMatch};
-ghost use Rattle.cidr_arrays.specs.Arrays.{Represents, key_networks, prefix_bits};
-ghost use Rattle.cidr_c.specs.model.Tables.{AreFound, IsBuilt, IsChecked, IsRowFound, fault_code, ipv4_number, ipv4_pair, ipv6_number, ipv6_pair, room_of};
+ghost use Rattle.cidr_lookup.specs.Keys.{key_networks, prefix_bits};
+ghost use Rattle.cidr_lookup.specs.Tables.{IsLookupTable, ipv4_steps, ipv6_steps};
+ghost use Rattle.cidr_c.specs.model.Tables.{AreFound, ArePut, IsBuilt, IsChecked, IsRowFound, ipv4_pair, ipv6_pair, table_error_code, words_fault_code};
 
-use crate::codes::{NO_MEMORY, NO_ROOM, NO_TABLE, NO_VALUE, OK, SHIFT, TOO_MANY};
+use crate::codes::{NO_MEMORY, NO_ROOM, NO_TABLE, NO_VALUE, OK, TOO_MANY};
 use crate::values::CValue;
-use cidr_arrays::{BuildError, Fault, Halves, Key, Word, build, check, fill_level, longest_match};
 use cidr_files::{Ipv4Bytes, Ipv6Bytes};
+use cidr_lookup::{Address, Fault, Halves, Key, LookupTable, TableError, build, check, find};
 use std::alloc::{AllocError, Global};
 
 /// Where a table lies. The calls on whole tables take its parts one by one; a look-up, whose time they count in, takes the
-/// starts and the first level as slices and the rest from here, so that all of its arguments are in registers.
+/// two arrays as slices and the steps and the rows from here, so that all of its arguments are in registers.
 #[repr(C)]
 #[derive(Clone, Copy)]
-pub struct CTable<'a> {
-    /// The starts of an IPv4 table, which are not read from here.
-    pub ipv4_starts: *const u32,
-    /// The starts of an IPv6 table, which are not read from here.
-    pub ipv6_starts: *const Halves,
-    /// Of each range one more than the row, or 0 for none.
-    pub answers: &'a [u32],
-    /// The first level, which is not read from here.
-    pub level: *const u32,
-    /// How many entries it has, which is not read from here.
-    pub level_len: usize,
-    /// The shift of the first level.
-    pub shift: u32,
+pub struct CTable {
+    /// The entries of the blocks of addresses, which are not read from here.
+    pub first: *const u32,
+    /// How many they are, which is not read from here.
+    pub first_len: usize,
+    /// The words of the nodes, which are not read from here.
+    pub words: *const u32,
+    /// How many they are, which is not read from here.
+    pub words_len: usize,
+    /// How many steps of six bits there are behind the first bits.
+    pub steps: u32,
     /// How many networks there are.
     pub rows: u32,
+    /// 4 or 6, which is not read from here.
+    pub family: u32,
+}
+
+/// How large a table is, and which network it can't be built of.
+#[repr(C)]
+#[derive(Clone, Copy)]
+pub struct CTableSizes {
+    /// How many entries of blocks it has.
+    pub first: usize,
+    /// How many words of nodes.
+    pub words: usize,
+    /// The index of the first value that is no network of the family, or out of order.
+    pub place: usize,
+    /// How many steps.
+    pub steps: u32,
 }
 
 /// The row that stands for none.
@@ -39,7 +54,7 @@ pub const NO_ROW: u32 = u32::MAX;
 const NO_LENGTH: u32 = 255;
 
 /// A family of addresses, as values have them.
-pub trait Family: Word {
+pub trait Family: Address {
     ghost use Rattle.cidr_c.specs.declared.values.CValue.{CValue};
 
     /// The number of the address and the prefix length of a value.
@@ -154,304 +169,274 @@ impl Family for Ipv6Bytes {
 }
 
 /// Values as keys.
-pub fn keys_in<W: Family>(alloc: Global, values: &[CValue]) -> Result<Vec<Key<W>>, AllocError>
-    ensures { IfOk result (λ keys. key_networks W.value keys.items ≡ map W.pair values.now) }
+pub fn keys_in<A: Family>(alloc: Global, values: &[CValue]) -> Result<Vec<Key<A>>, AllocError>
+    ensures { IfOk result (λ keys. key_networks A.value keys.items ≡ map A.pair values.now) }
 {
     let mut keys = Vec::with_capacity(alloc, values.len())?;
     for value in values {
-        keys.push(W::key_in(value))?;
+        keys.push(A::key_in(value))?;
     }
     Ok(keys)
 }
 
-/// Writes the table of keys, and returns 0 or the number of the error.
-fn put_table<W: Word>(
-    keys: &[Key<W>],
-    starts: &mut [W],
-    answers: &mut [u32],
-    level: &mut [u32],
-    shift: u32,
-    count: &mut usize,
+/// Builds the table of networks, and puts it into a room.
+fn put_table<A: Family>(
+    alloc: Global,
+    networks: &[CValue],
+    first: &mut [u32],
+    words: &mut [u32],
+    sizes: &mut CTableSizes,
 ) -> u32
-    ensures built { IsBuilt W.width W.value (key_networks W.value keys.now) starts.new answers.new level.new shift count.old count.new result }
-    ensures stays { result ≢ 0 → (starts.new ≡ starts.old) × (answers.new ≡ answers.old) × (level.new ≡ level.old) }
+    ensures { IsBuilt A.width A.padding A.steps (map A.pair networks.now) first.old words.old first.new words.new sizes.old sizes.new result }
 {
-    if keys.len() >= 1 << 31 {
-        return TOO_MANY;
+    let Ok(keys) = keys_in::<A>(alloc, networks) else {
+        return NO_MEMORY;
+    };
+    match build(alloc, keys.as_slice()) {
+        Ok(table) => put_words(&table, first, words, sizes),
+        Err(error) => {
+            if let TableError::Refused(place) = error {
+                sizes.place = place;
+            }
+            table_error_code(&error)
+        }
     }
-    if shift >= W::width() {
-        return SHIFT;
+}
+
+/// Puts the entries and the words of a table into a room, and says how many they are.
+fn put_words(
+    table: &LookupTable,
+    first: &mut [u32],
+    words: &mut [u32],
+    sizes: &mut CTableSizes,
+) -> u32
+    ensures { ArePut table.now.first.items table.now.words.items table.now.steps first.old words.old first.new words.new sizes.old sizes.new result }
+{
+    let entries = table.first.as_slice();
+    let nodes = table.words.as_slice();
+    sizes.first = entries.len();
+    sizes.words = nodes.len();
+    sizes.steps = table.steps;
+    if first.len() < entries.len() || words.len() < nodes.len() {
+        return NO_ROOM;
     }
-    match build(keys, starts, answers) {
-        Ok(ranges) => {
-            fill_level(&starts[..ranges], shift, level);
-            *count = ranges;
-            OK
-        }
-        Err(BuildError::TooMany) => TOO_MANY,
-        Err(BuildError::Refused(place)) => {
-            *count = place;
-            NO_VALUE
-        }
-        Err(BuildError::NoRoom) => {
-            *count = 2 * keys.len() + 1;
-            NO_ROOM
-        }
+    first[..entries.len()].copy_from_slice(entries);
+    words[..nodes.len()].copy_from_slice(nodes);
+    OK
+}
+
+/// The number of why keys have no table.
+pub fn table_error_code(error: &TableError) -> u32
+    ensures value { result ≡ table_error_code error.now }
+    ensures above { 0 < result }
+{
+    match error {
+        TableError::TooMany | TableError::TooLarge => TOO_MANY,
+        TableError::Refused(_) => NO_VALUE,
+        TableError::NoMemory => NO_MEMORY,
+    }
+}
+
+/// The number of what is wrong with the words of a table.
+pub fn words_fault_code(fault: &Fault) -> u32
+    ensures value { result ≡ words_fault_code fault.now }
+    ensures above { 0 < result }
+{
+    match fault {
+        Fault::Keys(error) => table_error_code(error),
+        Fault::Steps | Fault::TooLong | Fault::First(_) | Fault::Word(_) => NO_TABLE,
+    }
+}
+
+/// 0 where arrays are the table of networks, or the number of what is wrong with them.
+fn check_code<A: Family>(
+    alloc: Global,
+    networks: &[CValue],
+    first: &[u32],
+    words: &[u32],
+    steps: u32,
+) -> u32
+    ensures { IsChecked A.width A.padding steps (map A.pair networks.now) first.now words.now result }
+{
+    let Ok(keys) = keys_in::<A>(alloc, networks) else {
+        return NO_MEMORY;
+    };
+    match check(alloc, keys.as_slice(), &first, &words, steps) {
+        Ok(()) => OK,
+        Err(fault) => words_fault_code(&fault),
     }
 }
 
 /// The row of the longest match, or that which stands for none.
 #[inline(always)]
-fn row_in<W: Family>(
-    starts: &[W],
-    answers: &[u32],
-    level: &[u32],
-    shift: u32,
-    rows: u32,
-    asked: &CValue,
-) -> u32
-    ensures { IsRowFound W.width (map W.value starts.now) answers.now level.now shift rows (W.pair asked.now) result }
+fn row_in<A: Family>(first: &[u32], words: &[u32], steps: u32, rows: u32, asked: &CValue) -> u32
+    ensures { IsRowFound A.width A.padding steps rows first.now words.now (A.pair asked.now) result }
 {
-    let Some(address) = W::address_in(asked) else {
+    let Some(address) = A::address_in(asked) else {
         return NO_ROW;
     };
-    match row_of(starts, answers, level, shift, rows as usize, address) {
+    match row_of(first, words, steps, rows, address) {
         Some(row) => row as u32,
         None => NO_ROW,
     }
 }
 
-/// The row of the longest match, put into the place of its call.
+/// The row of the longest match of an address, if it is one of so many.
 #[inline(always)]
-fn row_of<W: Word>(
-    starts: &[W],
-    answers: &[u32],
-    level: &[u32],
-    shift: u32,
-    rows: usize,
-    address: W,
+fn row_of<A: Address>(
+    first: &[u32],
+    words: &[u32],
+    steps: u32,
+    rows: u32,
+    address: A,
 ) -> Option<usize>
     ensures within { IfSome result (λ row. row < rows) }
     ensures longest { (networks : List (ℕ × ℕ)) → length networks ≡ rows
-        → Represents W.width networks (map W.value starts.now) answers.now level.now shift
-        → IsLongestMatch (prefix_bits W.width) (bits W.width (W.value address)) networks result }
+        → IsLookupTable A.width A.padding steps networks first.now words.now
+        → IsLongestMatch (prefix_bits A.width) (bits A.width (A.value address)) networks result }
 {
-    longest_match(starts, answers, level, shift, rows, address)
+    let row = find(&first, &words, steps, address)?;
+    if row >= rows as usize {
+        return None;
+    }
+    Some(row)
 }
 
 /// The rows of many.
-fn put_rows<W: Family>(
-    starts: &[W],
-    answers: &[u32],
-    level: &[u32],
-    shift: u32,
+fn put_rows<A: Family>(
+    first: &[u32],
+    words: &[u32],
+    steps: u32,
     rows: u32,
     asked: &[CValue],
     out: &mut [u32],
 ) -> u32
-    ensures { AreFound W.width (map W.value starts.now) answers.now level.now shift rows (map W.pair asked.now) out.old out.new result }
+    ensures { AreFound A.width A.padding steps rows first.now words.now (map A.pair asked.now) out.old out.new result }
 {
     if out.len() < asked.len() {
         return NO_ROOM;
     }
     for i in 0..asked.len() {
-        out[i] = row_in(starts, answers, level, shift, rows, &asked[i]);
+        out[i] = row_in::<A>(first, words, steps, rows, &asked[i]);
     }
     OK
 }
 
-/// The number of what is wrong with arrays.
-fn fault_code(fault: &Fault) -> u32
-    ensures value { result ≡ fault_code fault.now }
-    ensures above { 0 < result }
-{
-    match fault {
-        Fault::TooMany => TOO_MANY,
-        Fault::Shift => SHIFT,
-        Fault::Refused(_) => NO_VALUE,
-        Fault::Counts | Fault::Range(_) | Fault::Entry(_) => NO_TABLE,
-    }
-}
-
-/// 0 where arrays are those of keys, or the number of what is wrong with them.
-fn check_code<W: Word>(
-    keys: &[Key<W>],
-    starts: &[W],
-    answers: &[u32],
-    level: &[u32],
-    shift: u32,
-) -> u32
-    ensures { IsChecked W.width (key_networks W.value keys.now) (map W.value starts.now) answers.now level.now shift result }
-{
-    match check(keys, starts, answers, level, shift) {
-        Ok(()) => OK,
-        Err(fault) => fault_code(&fault),
-    }
-}
-
-/// How many starts and answers are room enough for a table of so many networks: twice as many, and one more.
-#[unsafe(no_mangle)]
-pub extern "C" fn pcidr_table_room(rows: u32) -> usize
-    ensures { result ≡ room_of rows }
-{
-    2 * rows as usize + 1
-}
-
-/// Makes a table of IPv4 networks that ascend, each once: 0, and `count` becomes how many ranges stand in the front of
-/// `starts` and `answers`, which `level` tells by `shift`. Else the number of the first error: no memory; too many
-/// networks; the shift; a network, and `count` becomes its index; the room, and `count` becomes how much is enough. An
-/// error leaves the arrays as they were.
+/// Makes a table of IPv4 networks that ascend, each once: 0, and its entries and words stand in the front of `first` and
+/// `words`, of which `sizes` says how many they are. Else the number of the first error: no memory, which may also come
+/// before each of the others; too many networks; a network, and `place` becomes its index; too many words; the room, and
+/// `sizes` says how much is enough. An error leaves the arrays as they were.
 ///
-/// It allocates 8 bytes a network, and takes O(n), and O(log n) for each entry of the level.
+/// It takes O(n), and while it runs allocates the table and 24 bytes a network.
 #[unsafe(no_mangle)]
 pub extern "C" fn pcidr_ipv4_table_build(
     alloc: Global,
     networks: &[CValue],
-    starts: &mut [u32],
-    answers: &mut [u32],
-    level: &mut [u32],
-    shift: u32,
-    count: &mut usize,
+    first: &mut [u32],
+    words: &mut [u32],
+    sizes: &mut CTableSizes,
 ) -> u32
-    ensures built { IsBuilt 32 ipv4_number (map ipv4_pair networks.now) starts.new answers.new level.new shift count.old count.new result }
-    ensures stays { result ≢ 0 → (starts.new ≡ starts.old) × (answers.new ≡ answers.old) × (level.new ≡ level.old) }
+    ensures { IsBuilt 32 4 ipv4_steps (map ipv4_pair networks.now) first.old words.old first.new words.new sizes.old sizes.new result }
 {
-    match keys_in(alloc, networks) {
-        Ok(keys) => put_table(keys.as_slice(), starts, answers, level, shift, count),
-        Err(_) => NO_MEMORY,
-    }
+    put_table::<u32>(alloc, networks, first, words, sizes)
 }
 
-/// The same of IPv6 networks, of which it allocates 24 bytes each.
+/// The same of IPv6 networks, of which it allocates 64 bytes each.
 #[unsafe(no_mangle)]
 pub extern "C" fn pcidr_ipv6_table_build(
     alloc: Global,
     networks: &[CValue],
-    starts: &mut [Halves],
-    answers: &mut [u32],
-    level: &mut [u32],
-    shift: u32,
-    count: &mut usize,
+    first: &mut [u32],
+    words: &mut [u32],
+    sizes: &mut CTableSizes,
 ) -> u32
-    ensures built { IsBuilt 128 ipv6_number (map ipv6_pair networks.now) starts.new answers.new level.new shift count.old count.new result }
-    ensures stays { result ≢ 0 → (starts.new ≡ starts.old) × (answers.new ≡ answers.old) × (level.new ≡ level.old) }
+    ensures { IsBuilt 128 0 ipv6_steps (map ipv6_pair networks.now) first.old words.old first.new words.new sizes.old sizes.new result }
 {
-    match keys_in(alloc, networks) {
-        Ok(keys) => put_table(keys.as_slice(), starts, answers, level, shift, count),
-        Err(_) => NO_MEMORY,
-    }
+    put_table::<Halves>(alloc, networks, first, words, sizes)
 }
 
-/// 0 where arrays are those that a table of the IPv4 networks has, else the number of the first error: no memory; too
-/// many networks; other counts of starts and answers; the shift; a network; a range; an entry of the level. It
-/// allocates 8 bytes a network, and takes O(n), and O(1) for each entry.
+/// 0 where arrays are the table of the IPv4 networks, else the number of the first error: no memory; the steps, or more
+/// words than a table may have; too many networks; a network; an entry or a word. It builds the table and compares it as it
+/// goes: it takes O(n), and while it runs allocates 24 bytes a network.
 #[unsafe(no_mangle)]
 pub extern "C" fn pcidr_ipv4_table_check(
     alloc: Global,
     networks: &[CValue],
-    starts: &[u32],
-    answers: &[u32],
-    level: &[u32],
-    shift: u32,
+    first: &[u32],
+    words: &[u32],
+    steps: u32,
 ) -> u32
-    ensures { IsChecked 32 (map ipv4_pair networks.now) (map ipv4_number starts.now) answers.now level.now shift result }
+    ensures { IsChecked 32 4 steps (map ipv4_pair networks.now) first.now words.now result }
 {
-    match keys_in(alloc, networks) {
-        Ok(keys) => check_code(keys.as_slice(), starts, answers, level, shift),
-        Err(_) => NO_MEMORY,
-    }
+    check_code::<u32>(alloc, networks, first, words, steps)
 }
 
-/// The same of IPv6 networks, of which it allocates 24 bytes each.
+/// The same of IPv6 networks, of which it allocates 64 bytes each.
 #[unsafe(no_mangle)]
 pub extern "C" fn pcidr_ipv6_table_check(
     alloc: Global,
     networks: &[CValue],
-    starts: &[Halves],
-    answers: &[u32],
-    level: &[u32],
-    shift: u32,
+    first: &[u32],
+    words: &[u32],
+    steps: u32,
 ) -> u32
-    ensures { IsChecked 128 (map ipv6_pair networks.now) (map ipv6_number starts.now) answers.now level.now shift result }
+    ensures { IsChecked 128 0 steps (map ipv6_pair networks.now) first.now words.now result }
 {
-    match keys_in(alloc, networks) {
-        Ok(keys) => check_code(keys.as_slice(), starts, answers, level, shift),
-        Err(_) => NO_MEMORY,
-    }
+    check_code::<Halves>(alloc, networks, first, words, steps)
 }
 
 /// The row of the longest IPv4 network that an address is in, or `u32::MAX` where it is in none, and of a value that is
 /// no IPv4 address. It reads nothing outside of the arrays, whatever they hold, and allocates nothing. Of `table` it
-/// reads the answers, the shift and the rows alone.
+/// reads the steps and the rows alone.
 #[unsafe(no_mangle)]
 pub extern "C" fn pcidr_ipv4_table_lookup(
-    starts: &[u32],
-    level: &[u32],
-    table: &CTable<'_>,
+    first: &[u32],
+    words: &[u32],
+    table: &CTable,
     address: &CValue,
 ) -> u32
-    ensures { IsRowFound 32 (map ipv4_number starts.now) table.now.answers.now level.now table.now.shift table.now.rows
-        (ipv4_pair address.now) result }
+    ensures { IsRowFound 32 4 table.now.steps table.now.rows first.now words.now (ipv4_pair address.now) result }
 {
-    row_in(
-        starts,
-        table.answers,
-        level,
-        table.shift,
-        table.rows,
-        address,
-    )
+    row_in::<u32>(first, words, table.steps, table.rows, address)
 }
 
 /// The same of IPv6.
 #[unsafe(no_mangle)]
 pub extern "C" fn pcidr_ipv6_table_lookup(
-    starts: &[Halves],
-    level: &[u32],
-    table: &CTable<'_>,
+    first: &[u32],
+    words: &[u32],
+    table: &CTable,
     address: &CValue,
 ) -> u32
-    ensures { IsRowFound 128 (map ipv6_number starts.now) table.now.answers.now level.now table.now.shift table.now.rows
-        (ipv6_pair address.now) result }
+    ensures { IsRowFound 128 0 table.now.steps table.now.rows first.now words.now (ipv6_pair address.now) result }
 {
-    row_in(
-        starts,
-        table.answers,
-        level,
-        table.shift,
-        table.rows,
-        address,
-    )
+    row_in::<Halves>(first, words, table.steps, table.rows, address)
 }
 
 /// The row of each of many addresses, at its index of `out`: 0, or the number of too little room.
 #[unsafe(no_mangle)]
 pub extern "C" fn pcidr_ipv4_table_lookup_each(
-    starts: &[u32],
-    answers: &[u32],
-    level: &[u32],
-    shift: u32,
-    rows: u32,
+    first: &[u32],
+    words: &[u32],
+    table: &CTable,
     asked: &[CValue],
     out: &mut [u32],
 ) -> u32
-    ensures { AreFound 32 (map ipv4_number starts.now) answers.now level.now shift rows (map ipv4_pair asked.now) out.old out.new result }
+    ensures { AreFound 32 4 table.now.steps table.now.rows first.now words.now (map ipv4_pair asked.now) out.old out.new result }
 {
-    put_rows(starts, answers, level, shift, rows, asked, out)
+    put_rows::<u32>(first, words, table.steps, table.rows, asked, out)
 }
 
 /// The same of IPv6.
 #[unsafe(no_mangle)]
 pub extern "C" fn pcidr_ipv6_table_lookup_each(
-    starts: &[Halves],
-    answers: &[u32],
-    level: &[u32],
-    shift: u32,
-    rows: u32,
+    first: &[u32],
+    words: &[u32],
+    table: &CTable,
     asked: &[CValue],
     out: &mut [u32],
 ) -> u32
-    ensures { AreFound 128 (map ipv6_number starts.now) answers.now level.now shift rows (map ipv6_pair asked.now) out.old out.new result }
+    ensures { AreFound 128 0 table.now.steps table.now.rows first.now words.now (map ipv6_pair asked.now) out.old out.new result }
 {
-    put_rows(starts, answers, level, shift, rows, asked, out)
+    put_rows::<Halves>(first, words, table.steps, table.rows, asked, out)
 }

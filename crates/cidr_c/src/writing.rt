@@ -6,9 +6,8 @@ ghost use Rattle.cidr_c.specs.calls.Writing.{AreValueOffsets, IsFileWritten, IsS
 use crate::codes::{NO_MEMORY, NO_ROOM, NO_VALUE, OK, TOO_MANY, VALUES};
 use crate::tables::keys_in;
 use crate::values::{CValue, is_ipv4};
-use cidr_arrays::first_refused;
 use cidr_files::{Ipv4Bytes, Ipv6Bytes, Rows, WriteError, are_offsets, written};
-use cidr_lookup::TableError;
+use cidr_lookup::{TableError, first_refused};
 use std::alloc::{AllocError, Global};
 
 /// Writes the file of networks and their values: 0, and `count` becomes how many bytes stand in the front of `out`. The
@@ -34,7 +33,7 @@ pub extern "C" fn pcidr_file_write(
     if values.len() >= 1 << 32 {
         return VALUES;
     }
-    if !are_offsets(offsets, networks.len(), values.len()) {
+    if !are_offsets(&offsets, networks.len(), values.len()) {
         return VALUES;
     }
     put_file(alloc, networks, offsets, values, out, count)

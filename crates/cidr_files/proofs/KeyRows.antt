@@ -4,8 +4,8 @@ use Rattle.std.proofs.lemmas.Bool.{cases_eq}
 use Rattle.std.proofs.lemmas.List.{get_or-map, length-map, map_push, take_more}
 use Rattle.std.proofs.lemmas.Slice.Zip.{get_or-zip, length-zip}
 use Rattle.std.specs.List.{zip}
-use Rattle.cidr_arrays.specs.Arrays.{key_networks}
-use Rattle.cidr_arrays.specs.declared.key.Key.{Key}
+use Rattle.cidr_lookup.specs.Keys.{key_networks}
+use Rattle.cidr_lookup.specs.declared.key.Key.{Key}
 use Rattle.cidr_files.specs.Contents.{lengths_of}
 
 -- how many there are
@@ -38,11 +38,6 @@ ascending_more offsets n next so_far i k le l = elim (cases_eq k n) [
   ]
   | inr less ↦ so_far i k le (omega arith)
 ]
-
--- an element that is read
-pub read_index : {A : Type 0} (place : A → ℕ) (xs : List A) (i : ℕ) (a : A) (n : ℕ) → n ≡ place a → a ≡ get_or xs i a → i < length xs
-    → n ≡ get_or (map place xs) i 0
-read_index place xs i a n e is l = e ∙ (ap place is ∙ sym (get_or-map place xs i a 0 l))
 
 -- what is said of words is said of the same words
 pub same_words : (P : List (ℕ × ℕ) → List ℕ → List ℕ → Type 0) (networks networks' : List (ℕ × ℕ)) (first first' nodes nodes' : List ℕ)

@@ -1,7 +1,7 @@
 -- Rows that are written, and why others are not.
 use Rattle.std.proofs.Common.{subst, arith, ℕ, length}
-use Rattle.cidr_arrays.specs.Arrays.{key_networks}
-use Rattle.cidr_arrays.proofs.Numbers.{length_networks}
+use Rattle.cidr_lookup.specs.Keys.{key_networks}
+use Rattle.cidr_lookup.proofs.Numbers.{length_networks}
 use Rattle.cidr_lookup.specs.Tables.{IsLookupTable, IsTableRefused}
 use Rattle.cidr_lookup.specs.declared.table.LookupTable.{LookupTable}
 use Rattle.cidr_lookup.specs.declared.table.TableError.{TableError}

@@ -1,8 +1,8 @@
 -- What is written in a file.
 use Rattle.std.specs.Prelude.{◌≡◌, ◌⊎◌, ℕ, ◌^◌, ◌<◌, ◌≤◌, List, [], ◌∷◌, ◌++◌, length, map, ⊤}
 use Rattle.std.specs.Int.{from_le_bytes, w32}
-use Rattle.cidr_arrays.specs.Arrays.{key_networks}
-use Rattle.cidr_arrays.specs.declared.key.Key.{Key}
+use Rattle.cidr_lookup.specs.Keys.{key_networks}
+use Rattle.cidr_lookup.specs.declared.key.Key.{Key}
 use Rattle.cidr_lookup.specs.Tables.{IsLookupTable, IsTableRefused, ipv4_steps, ipv6_steps}
 use Rattle.cidr_lookup.specs.declared.table.LookupTable.{LookupTable}
 use Rattle.cidr_lookup.specs.declared.table.TableError.TheVariants.{TooMany, NoMemory}
@@ -21,8 +21,8 @@ pub record AreContents {W : Type 0} (w padding : ℕ) (value : W → ℕ) (conte
   pub table : IsLookupTable w padding contents.steps (key_networks value contents.rows.now.keys.now) contents.first.now contents.words.now
   pub offsets : AreOffsets contents.rows.now.offsets.now (length contents.rows.now.keys.now) (length contents.rows.now.values.now)
   pub rows : length contents.rows.now.keys.now < 2 ^ 31
-  pub entries : length contents.first.now < 2 ^ 31
-  pub nodes : length contents.words.now < 2 ^ 31
+  pub entries : length contents.first.now < 2 ^ 30
+  pub nodes : length contents.words.now < 2 ^ 30
   pub sizes : length contents.rows.now.values.now < 2 ^ 32
 
 -- the parts of a table have the rows
@@ -65,7 +65,7 @@ pub record AreWritable {W : Type 0} (w padding : ℕ) (steps : ℕ → ℕ) (val
   pub first : List ℕ
   pub words : List ℕ
   pub table : IsLookupTable w padding (steps (length rows.keys.now)) (key_networks value rows.keys.now) first words
-  pub fits : length words < 2 ^ 31
+  pub fits : length words < 2 ^ 30
 
 -- why no file is written: for the IPv4 rows, or else for the IPv6 rows
 abbrev pub IsWriteRefused : Rows (List ℕ) → Rows (List (List ℕ)) → WriteError → Type 0
@@ -124,6 +124,6 @@ pub record AreTableOf {W : Type 0} (w padding : ℕ) (steps : ℕ → ℕ) (valu
   pub own : table.steps ≡ steps (length rows.keys.now)
   pub offsets : AreOffsets rows.offsets.now (length rows.keys.now) (length rows.values.now)
   pub keys : length rows.keys.now < 2 ^ 31
-  pub entries : length table.first.items < 2 ^ 31
-  pub nodes : length table.words.items < 2 ^ 31
+  pub entries : length table.first.items < 2 ^ 30
+  pub nodes : length table.words.items < 2 ^ 30
   pub sizes : length rows.values.now < 2 ^ 32

@@ -52,7 +52,7 @@ no_table_fault w padding numbers parts steps Offsets good few wrong = absurd (wr
 pub no_fault_of_bytes : (bytes : List ℕ) (fault : Fault) → IsFile bytes → IsSmall bytes → IsFaultOfBytes bytes fault
     → (fault ≡ Ipv4 (Words (Keys NoMemory))) ⊎ (fault ≡ Ipv6 (Words (Keys NoMemory)))
 no_fault_of_bytes bytes Magic good small wrong = absurd (wrong good.laid_out.magic_is)
-no_fault_of_bytes bytes Old good small wrong = absurd (omega (arith, wrong.1, good.laid_out.version_is))
+no_fault_of_bytes bytes Old good small wrong = absurd (omega (arith, wrong.1.1, good.laid_out.version_is))
 no_fault_of_bytes bytes (Version other) good small wrong = absurd (wrong.3 (omega (arith, wrong.1, good.laid_out.version_is)))
 no_fault_of_bytes bytes Short good small wrong = absurd (omega (arith, wrong.2, good.laid_out.long))
 no_fault_of_bytes bytes Long good small wrong = absurd (omega (arith, wrong.2, good.laid_out.long))

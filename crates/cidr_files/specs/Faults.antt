@@ -3,7 +3,7 @@ use Rattle.std.specs.Prelude.{◌≡◌, ◌≢◌, ℕ, ◌<◌, List, length, 
 use Rattle.cidr_lookup.specs.Faults as lookup
 use Rattle.cidr_lookup.specs.declared.checking.Fault.TheVariants.{Keys}
 use Rattle.cidr_lookup.specs.declared.table.TableError.TheVariants.{NoMemory}
-use Rattle.cidr_files.specs.Layout.{IsLaidOut, ipv4_counts, ipv4_parts, ipv6_counts, ipv6_parts, magic, old_version, size_of, version, wide_words, word_at, words}
+use Rattle.cidr_files.specs.Layout.{IsLaidOut, IsOldVersion, ipv4_counts, ipv4_parts, ipv6_counts, ipv6_parts, magic, size_of, version, wide_words, word_at, words}
 use Rattle.cidr_files.specs.Tables.{AreLookUps, AreOffsets, IsStoredTable, stored_networks, offsets_in, part_at}
 use Rattle.cidr_files.specs.declared.faults.Fault.{Fault}
 use Rattle.cidr_files.specs.declared.faults.Fault.TheVariants.{Magic, Old, Version, Short, Long, Ipv4, Ipv6}
@@ -22,8 +22,8 @@ IsTableFault w padding numbers parts steps Offsets =
 -- why the bytes are no file, each where those before it don't hold
 abbrev pub IsFaultOfBytes : List ℕ → Fault → Type 0
 IsFaultOfBytes bytes Magic = word_at bytes 0 ≢ magic
-IsFaultOfBytes bytes Old = (word_at bytes 0 ≡ magic) × (word_at bytes 1 ≡ old_version)
-IsFaultOfBytes bytes (Version other) = (word_at bytes 0 ≡ magic) × (word_at bytes 1 ≡ other) × (other ≢ old_version) × (other ≢ version)
+IsFaultOfBytes bytes Old = (word_at bytes 0 ≡ magic) × IsOldVersion (word_at bytes 1)
+IsFaultOfBytes bytes (Version other) = (word_at bytes 0 ≡ magic) × (word_at bytes 1 ≡ other) × ¬ (IsOldVersion other) × (other ≢ version)
 IsFaultOfBytes bytes Short = (word_at bytes 0 ≡ magic) × (word_at bytes 1 ≡ version) × (length bytes < size_of bytes)
 IsFaultOfBytes bytes Long = (word_at bytes 0 ≡ magic) × (word_at bytes 1 ≡ version) × (size_of bytes < length bytes)
 IsFaultOfBytes bytes (Ipv4 fault) = IsLaidOut bytes × IsTableFault 32 4 words (ipv4_parts bytes) (ipv4_counts bytes).steps fault

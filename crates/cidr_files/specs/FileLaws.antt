@@ -1,7 +1,7 @@
 -- Rows have one file.
 use Rattle.std.proofs.Common.{◌≡◌, sym, ◌∙◌, ap, ap₂, subst, ℕ, List, [], ◌∷◌, ◌++◌, length}
 use Rattle.std.specs.Int.{from_le_bytes, w32}
-use Rattle.cidr_arrays.specs.Arrays.{key_networks}
+use Rattle.cidr_lookup.specs.Keys.{key_networks}
 use Rattle.cidr_lookup.specs.Tables.{IsLookupTable}
 use Rattle.cidr_lookup.proofs.Tables.{one_table}
 use Rattle.cidr_files.specs.Contents.{AreContents, IsFileOfRows, counts_of, head_of, key_addresses, lengths_of, parts_written}

@@ -1,6 +1,6 @@
 -- Where the parts of a file lie: a header of 64 bytes, then the parts of its IPv4 table and those of its IPv6 table, each
 -- at a multiple of 8 bytes. README.md has the same as a page.
-use Rattle.std.specs.Prelude.{◌≡◌, ℕ, ◌+◌, ◌*◌, ◌/◌, ◌^◌, List, [], ◌∷◌, drop, length, map, slice_index_or, take}
+use Rattle.std.specs.Prelude.{◌≡◌, ℕ, ◌+◌, ◌*◌, ◌/◌, ◌^◌, ◌<◌, List, [], ◌∷◌, drop, length, map, slice_index_or, take}
 use Rattle.std.specs.Int.{from_le_bytes, w32, w64}
 use Rattle.std.specs.Simd.{first_chunks}
 use Rattle.cidr_files.specs.declared.layout.Counts.{Counts}
@@ -52,11 +52,11 @@ abbrev pub magic : ℕ
 magic = 0x44494389
 
 abbrev pub version : ℕ
-version = 2
+version = 3
 
--- that of the files of earlier releases
-abbrev pub old_version : ℕ
-old_version = 1
+-- those of the files of earlier releases
+abbrev pub IsOldVersion : ℕ → Type 0
+IsOldVersion n = (0 < n) × (n < version)
 
 -- the size of the header
 abbrev pub header : ℕ
@@ -75,7 +75,7 @@ counts_in ws k = record {
 abbrev pub counts_at : List ℕ → ℕ → Counts
 counts_at bytes k = counts_in (words bytes) k
 
--- the sizes of its parts, where an address has so many bytes: entries of blocks, words of nodes, addresses, prefix lengths,
+-- the sizes of its parts, where an address has so many bytes: entries of blocks, words of nodes and lists, addresses, prefix lengths,
 -- offsets of the values, and these
 abbrev pub sizes_of : ℕ → Counts → List ℕ
 sizes_of size counts =

@@ -50,8 +50,8 @@ pub record IsFile (bytes : List ℕ) : Type 0 where
 -- a table within the limits of a check
 pub record HasFewWords (numbers : List ℕ → List ℕ) (parts : List (List ℕ)) : Type 0 where
   pub rows : length (stored_networks numbers parts) < 2 ^ 31
-  pub entries : length (words (part_at parts 0)) < 2 ^ 31
-  pub nodes : length (words (part_at parts 1)) < 2 ^ 31
+  pub entries : length (words (part_at parts 0)) < 2 ^ 30
+  pub nodes : length (words (part_at parts 1)) < 2 ^ 30
 
 -- both of them are
 pub record IsSmall (bytes : List ℕ) : Type 0 where

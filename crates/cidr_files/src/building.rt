@@ -84,7 +84,7 @@ fn table_of<W: Family>(alloc: Global, rows: &Rows<'_, W>) -> Result<LookupTable,
     if rows.values.len() >= 1 << 32 {
         return Err(WriteError::Values);
     }
-    if !are_offsets(rows.offsets, rows.keys.len(), rows.values.len()) {
+    if !are_offsets(&rows.offsets, rows.keys.len(), rows.values.len()) {
         return Err(WriteError::Values);
     }
     let table = build(alloc, rows.keys)?;

@@ -1,6 +1,6 @@
 //! Whether the parts of a file are tables.
 ghost use Rattle.std.specs.Prelude.{◌≡◌, ◌↔◌, ◌^◌, ◌<◌, map, zip, IfErr, IfOk, IsTrue};
-ghost use Rattle.cidr_arrays.specs.Arrays.{key_networks};
+ghost use Rattle.cidr_lookup.specs.Keys.{key_networks};
 ghost use Rattle.cidr_files.specs.Faults.{IsFaultOfBytes, IsTableFault};
 ghost use Rattle.cidr_files.specs.Tables.{AreOffsets, IsTableCutFrom, IsFile, IsStoredTable, parts_in};
 
@@ -8,9 +8,9 @@ use crate::family::{Family, Ipv4Bytes, Ipv6Bytes};
 use crate::faults::{Fault, TableFault};
 use crate::layout::{Part, Table};
 use crate::opening::open;
-use cidr_arrays::{Index, Key, Word};
 use cidr_lookup::Fault::Keys;
 use cidr_lookup::TableError::NoMemory;
+use cidr_lookup::{Address, Key, Words};
 use std::alloc::{AllocError, Global};
 
 /// The tables of a file, by [`open`] and by [`check`](crate::check) of both, in the time and memory of these. The error
@@ -57,14 +57,14 @@ pub fn check<W: Family>(alloc: Global, part: &Part<'_>) -> Result<(), TableFault
         return Err(TableFault::Words(fault));
     }
     let (offsets, _) = part.offsets.as_chunks::<4>();
-    if !are_offsets(offsets, keys.len(), part.values.len()) {
+    if !are_offsets(&offsets, keys.len(), part.values.len()) {
         return Err(TableFault::Offsets);
     }
     Ok(())
 }
 
 /// The keys of addresses and lengths.
-fn keys_of<W: Word>(
+fn keys_of<W: Address>(
     alloc: Global,
     addresses: &[W],
     lengths: &[u8],
@@ -87,23 +87,23 @@ fn keys_of<W: Word>(
 /// to the first that is not so: O(n).
 ///
 /// The caller has to prove that there are fewer than 2^63 rows.
-pub fn are_offsets<I: Index>(offsets: &[I], rows: usize, size: usize) -> bool
+pub fn are_offsets<T: Words>(offsets: &T, rows: usize, size: usize) -> bool
     requires { rows < 2 ^ 63 }
-    ensures { IsTrue result ↔ AreOffsets (map I.place offsets.now) rows size }
+    ensures { IsTrue result ↔ AreOffsets (T.words offsets.now) rows size }
 {
     if offsets.len() != rows + 1 {
         return false;
     }
-    if offsets[0].as_index() != 0 {
+    if offsets.word(0) != 0 {
         return false;
     }
     let mut before = 0;
-    for i in 0..offsets.len() {
-        let offset = offsets[i].as_index();
+    for i in 0..rows + 1 {
+        let offset = offsets.word(i);
         if offset < before {
             return false;
         }
         before = offset;
     }
-    before == size
+    before as usize == size
 }

@@ -3,7 +3,7 @@ ghost use Rattle.std.specs.Prelude.{◌≡◌, ◌^◌, ◌<◌, length};
 ghost use Rattle.cidr_files.specs.Contents.{counts_of};
 
 use crate::layout::Counts;
-use cidr_arrays::Key;
+use cidr_lookup::Key;
 
 /// The rows of a table: networks, and a value for each.
 #[derive(Drop)]
@@ -24,7 +24,7 @@ pub struct Contents<'a, W> {
     pub rows: &'a Rows<'a, W>,
     /// The entries of the blocks of addresses, as `build` of `cidr_lookup` returns them.
     pub first: &'a [u32],
-    /// The words of the nodes, from the same.
+    /// The words of nodes and lists, from the same.
     pub words: &'a [u32],
     /// How many steps there are behind the first bits.
     pub steps: u32,

@@ -36,10 +36,10 @@ impl Error for TableFault {}
 pub enum Fault {
     /// It doesn't begin with the bytes of a file of tables: `no file of tables`.
     Magic,
-    /// It is of version 1, which earlier releases wrote: `of version 1, which an older netset compile made: compile the table
-    /// anew`.
+    /// It is of version 1 or 2, which earlier releases wrote: `of an older version, which an older netset compile made: compile
+    /// the table anew`.
     Old,
-    /// It is of this version, and not of version 2, which this library reads: `of another version than 2: 3`.
+    /// It is of this version, and not of version 3, which this library reads: `of another version than 3: 4`.
     Version(u32),
     /// It is shorter than its header says, or has not all of its header: `shorter than its header says`.
     Short,
@@ -62,9 +62,9 @@ impl fmt::Display for Fault {
         match self {
             Fault::Magic => f.write_str("no file of tables"),
             Fault::Old => f.write_str(
-                "of version 1, which an older netset compile made: compile the table anew",
+                "of an older version, which an older netset compile made: compile the table anew",
             ),
-            Fault::Version(other) => write!(f, "of another version than 2: {other}"),
+            Fault::Version(other) => write!(f, "of another version than 3: {other}"),
             Fault::Short => f.write_str("shorter than its header says"),
             Fault::Long => f.write_str("longer than its header says"),
             Fault::Ipv4(fault) => write!(f, "no table of IPv4: {fault}"),

@@ -3,7 +3,7 @@ ghost use Rattle.std.specs.Prelude.{◌≡◌, ◌↔◌, ℕ, ◌+◌, ◌^◌,
 ghost use Rattle.cidr.specs.model.Bits.{bits};
 ghost use Rattle.cidr.specs.model.Network.{BeginsWith};
 ghost use Rattle.cidr_table.specs.model.Prefixes.{IsLongestMatch};
-ghost use Rattle.cidr_arrays.specs.Arrays.{prefix_bits};
+ghost use Rattle.cidr_lookup.specs.Keys.{prefix_bits};
 ghost use Rattle.cidr_files.specs.Layout.{words};
 ghost use Rattle.cidr_files.specs.Tables.{AreLookUps, AreOffsets, stored_networks, offsets_in, part_at, parts_in, value_in};
 

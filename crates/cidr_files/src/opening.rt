@@ -11,10 +11,7 @@ use crate::layout::{Counts, Part, Table};
 pub(crate) const MAGIC: u32 = 0x4449_4389;
 
 /// The version that is read and written.
-pub(crate) const VERSION: u32 = 2;
-
-/// The version of the files of earlier releases.
-const OLD_VERSION: u32 = 1;
+pub(crate) const VERSION: u32 = 3;
 
 /// The size of the header.
 const HEADER: usize = 64;
@@ -31,7 +28,7 @@ pub fn open(bytes: &[u8]) -> Result<Table<'_>, Fault>
         return Err(Fault::Magic);
     }
     let version = word_at(bytes, 1);
-    if version == OLD_VERSION {
+    if 0 < version && version < VERSION {
         return Err(Fault::Old);
     }
     if version != VERSION {

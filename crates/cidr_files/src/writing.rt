@@ -11,15 +11,15 @@ use crate::contents::{Contents, counts_of};
 use crate::family::{Family, Ipv4Bytes, Ipv6Bytes};
 use crate::layout::Counts;
 use crate::opening::{MAGIC, VERSION};
-use cidr_arrays::Key;
+use cidr_lookup::Key;
 use std::alloc::{AllocError, Global};
 
 /// The bytes of a file of two tables whose words the caller has; of rows alone, take `written`. It takes a pass over
 /// the bytes and allocates them. The error is that an allocation fails.
 ///
 /// The caller has to prove that each table is one: that its words are those of its keys, as `build` of `cidr_lookup`
-/// returns them, that its values lie one behind the other, and that there are fewer than 2^31 keys, entries and words,
-/// and fewer than 2^32 bytes of values.
+/// returns them, that its values lie one behind the other, and that there are fewer than 2^31 keys, 2^30 entries and 2^30
+/// words, and fewer than 2^32 bytes of values.
 pub fn file_of(
     alloc: Global,
     ipv4: &Contents<'_, Ipv4Bytes>,

@@ -1,8 +1,10 @@
 -- Lines that are appended to a text one by one.
-use Rattle.std.proofs.Common.{◌≡◌, sym, ◌∙◌, ap, ℕ, ◌+◌, ◌<◌, ◌≤◌, Bool, true, false, if◌then◌else◌, List, [], ◌∷◌, ◌++◌, length, map, take, get_or, append_assoc, codes}
+use Rattle.std.proofs.Common.{◌≡◌, ◌≢◌, sym, ◌∙◌, ap, ap₂, ℕ, ◌+◌, ◌<◌, ◌≤◌, Bool, true, false, if◌then◌else◌, List, [], ◌∷◌, ◌++◌, length, map, take, get_or, append_assoc, codes}
 use Rattle.std.specs.List.{flat_map}
+use Rattle.std.proofs.lemmas.Bool.{false_from_ne_true}
 use Rattle.std.proofs.lemmas.List.{append-nil, flat_map_more, map-id, take_all, take_more}
-use Rattle.cidr.specs.model.Bits.{bit_eq}
+use Rattle.cidr.specs.laws.BitLaws.{bit_eq_Decides, bits-number, same_bits}
+use Rattle.cidr.specs.model.Bits.{bit_eq, bits, number}
 use Rattle.cidr.specs.texts.PrintedAddress.{address_text}
 use Rattle.cidr.specs.declared.family.Family.{Family}
 use Rattle.cidr.specs.declared.family.Family.TheVariants.{Ipv4, Ipv6}
@@ -48,6 +50,14 @@ module _ {X : Type 0} (f : X → List ℕ) where
 -- a line in two pieces
 pub line_pushed : (old now new text : List ℕ) → now ≡ old ++ text → new ≡ now ++ 10 ∷ [] → new ≡ old ++ line text
 line_pushed old now new text first second = second ∙ (ap (λ (k : List ℕ). k ++ 10 ∷ []) first ∙ append_assoc old text (10 ∷ []))
+
+-- whether two addresses are the same, by their numbers
+pub same_by_number : (a b : List Bool) (w m n : ℕ) → length a ≡ w → length b ≡ w → m ≡ number a → n ≡ number b → m ≡ n → bit_eq a b ≡ true
+same_by_number a b w m n la lb p q same =
+    (bit_eq_Decides a b).1 (sym (bits-number a) ∙ (ap₂ bits (la ∙ sym lb) (sym p ∙ (same ∙ q)) ∙ bits-number b))
+
+pub other_by_number : (a b : List Bool) (m n : ℕ) → m ≡ number a → n ≡ number b → m ≢ n → bit_eq a b ≡ false
+other_by_number a b m n p q other = false_from_ne_true (bit_eq a b) (λ t. other (p ∙ (ap number (same_bits a b t) ∙ sym q)))
 
 -- a range in its pieces
 pub one_pushed : (text : List Bool → List ℕ) (a b : List Bool) (old now new : List ℕ) → bit_eq a b ≡ true → now ≡ old ++ text a → new ≡ now ++ 10 ∷ []

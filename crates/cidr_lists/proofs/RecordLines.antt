@@ -1,5 +1,5 @@
 -- What a record says, by its fields.
-use Rattle.std.proofs.Common.{◌≡◌, inr, List, ℕ, Result, Ok, Err}
+use Rattle.std.proofs.Common.{inr, List, ℕ, Result, Ok, Err}
 use Rattle.std.specs.Result.{MatchResult}
 use Rattle.cidr.specs.declared.family.Family.{Family}
 use Rattle.cidr.specs.declared.family.Family.TheVariants.{Ipv4, Ipv6}

@@ -7,7 +7,7 @@ use Rattle.cidr.specs.model.Bits.{bit_cmp}
 use Rattle.cidr.specs.declared.family.Family.{Family}
 use Rattle.cidr.specs.declared.family.Family.TheVariants.{Ipv4, Ipv6}
 use Rattle.cidr_sets.specs.model.Sets.{IsDifference}
-use Rattle.cidr_lists.specs.Formats.{json, network_by}
+use Rattle.cidr_lists.specs.Formats.{family_by, json}
 use Rattle.cidr_lists.specs.Printing.{line}
 use Rattle.cidr_lists.specs.declared.changes.ChangeLayout.{ChangeLayout as GivenLayout}
 use Rattle.cidr_lists.specs.declared.changes.Sign.{Sign}
@@ -61,7 +61,7 @@ change_line text layout (sign, network) =
 
 -- the changes of a family
 abbrev pub family_changes : LineFormat → Family → List (Sign × List Bool) → List ℕ
-family_changes format family changes = flat_map (change_line (λ notation p. network_by notation family p) (change_layout format family)) changes
+family_changes format family changes = flat_map (change_line (family_by family (λ p. p)) (change_layout format family)) changes
 
 -- IPv4 before IPv6
 abbrev pub printed_changes : LineFormat → (Family → List (Sign × List Bool)) → List ℕ

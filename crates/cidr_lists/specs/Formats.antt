@@ -48,6 +48,10 @@ network_by Halved family p = halved family p
 network_by Members family p =
     members (plain_text family p) (address_text family (first_of (width_of family) p)) (address_text family (last_of (width_of family) p)) (length p)
 
+-- a network of a family, by its bits
+abbrev pub family_by : {C : Type 0} → Family → (C → List Bool) → Notation → C → List ℕ
+family_by family bits notation network = network_by notation family (bits network)
+
 -- ---- the networks of a family
 -- what is printed where there is none; else in front of the first network, in front of each, behind each, between two,
 -- and behind the last one
@@ -179,7 +183,7 @@ layout_of style family = layout_by style.format style.prefix style.suffix family
 -- ---- what is printed of sets
 -- the networks of a family
 abbrev pub styled_family : Style → Family → List (List Bool) → List ℕ
-styled_family style family networks = laid_out (λ notation p. network_by notation family p) (layout_of style family) networks
+styled_family style family networks = laid_out (family_by family (λ p. p)) (layout_of style family) networks
 
 -- IPv4 before IPv6
 abbrev pub styled : Style → (Family → List (List Bool)) → List ℕ

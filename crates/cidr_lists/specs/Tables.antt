@@ -5,6 +5,8 @@ use Rattle.cidr.specs.declared.cidr.combined.IpCidr.{IpCidr}
 use Rattle.cidr.specs.declared.cidr.combined.IpCidr.TheVariants.{V4, V6}
 use Rattle.cidr.specs.declared.family.Family.{Family}
 use Rattle.cidr.specs.declared.family.Family.TheVariants.{Ipv4, Ipv6}
+use Rattle.cidr_lookup.specs.Rows.{IsCountRefused}
+use Rattle.cidr_lookup.specs.declared.table.TableError.{TableError}
 use Rattle.cidr_table.specs.model.LastRows.{AreLastRows}
 use Rattle.cidr_lists.specs.Lists.{Text, bits_in, lines_of}
 use Rattle.cidr_lists.specs.Forms.{RowSays}
@@ -68,6 +70,11 @@ pub record AreCopies (rows others : Rows) : Type 0 where
   pub v4 : others.v4.items ≡ rows.v4.items
   pub v6 : others.v6.items ≡ rows.v6.items
   pub values : others.values.items ≡ rows.values.items
+
+-- why rows make no table: a family has too many networks or too many words of look-ups, or there is no memory
+abbrev pub IsTableRefused : Rows → TableError → Type 0
+IsTableRefused rows e =
+    (family : Family) × (networks : List (List Bool × Span)) × AreLastRows (stored rows family) networks × IsCountRefused (length networks) e
 
 -- the rows of a table, of each key one
 abbrev pub kept : Table → Family → List (List Bool × List ℕ)

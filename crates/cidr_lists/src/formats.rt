@@ -2,17 +2,14 @@
 //!
 //! Each tool has a set for IPv4, `netset4`, and one for IPv6, `netset6`. A format is a [`Layout`] for each family, so that
 //! a further one is such a layout.
-ghost use Rattle.std.specs.Prelude.{◌≡◌, ◌≤◌, ◌++◌, ◌∷◌, [], ℕ, List, length, option_map, IfOk, OnOk};
+ghost use Rattle.std.specs.Prelude.{◌≡◌, ◌≤◌, ◌++◌, ◌∷◌, [], length, option_map, IfOk, OnOk};
 ghost use Rattle.cidr.specs.either.IpNetwork.{network_family, network_prefix};
-ghost use Rattle.cidr.specs.declared.family.Family.TheVariants.{Ipv4, Ipv6};
-ghost use Rattle.cidr_lists.specs.Formats.{and_longer, bird, cisco, format_name, format_of, formats, halved, ipset, iptables, json, juniper, laid_out, later_rows, layout_in, layout_of, lines_alone, lines_layout, members, network_by, nft, plain_layout, row, style_in, styled, walk_layout};
+ghost use Rattle.cidr_lists.specs.Formats.{and_longer, bird, cisco, family_by, format_name, format_of, formats, halved, ipset, iptables, json, juniper, laid_out, later_rows, layout_in, layout_of, lines_alone, lines_layout, members, network_by, nft, plain_layout, row, second_half, style_in, styled, walk_layout};
 ghost use Rattle.cidr_lists.specs.Sets.{networks_of};
-ghost use Rattle.cidr_lists.specs.declared.formats.Notation.{Notation as ANotation};
 
-use crate::printing::Printed;
 use crate::sets::Sets;
 use arrayvec::ArrayString;
-use cidr::{BitString, Family, IpCidr, Ipv4Cidr, Ipv6Cidr};
+use cidr::{BitString, Family, FamilyCidr, IpCidr};
 use cidr_io::decimal::decimal_text;
 use std::alloc::{AllocError, Global};
 
@@ -150,111 +147,59 @@ fn members(network: &str, first: &str, last: &str, len: u8) -> ArrayString<MOST>
     text
 }
 
-/// A half of all IPv4 addresses.
-fn ipv4_half(is_upper: bool) -> Ipv4Cidr
-    ensures { result ≡ is_upper ∷ [] }
+/// A half of all addresses of a family.
+fn half<C: FamilyCidr>(is_upper: bool) -> C
+    ensures { C.bits result ≡ is_upper ∷ [] }
 {
-    let mut half = Ipv4Cidr::null();
+    let mut half = C::null();
     half.append(is_upper);
     half
 }
 
-/// A half of all IPv6 addresses.
-fn ipv6_half(is_upper: bool) -> Ipv6Cidr
-    ensures { result ≡ is_upper ∷ [] }
+/// What stands between the two halves of the network of length 0: they are in two lines.
+fn second_half(family: Family) -> &'static str
+    ensures text { result.now ≡ second_half family }
+    ensures len { length result.now ≤ 43 }
 {
-    let mut half = Ipv6Cidr::null();
-    half.append(is_upper);
-    half
+    match family {
+        Family::Ipv4 => "\nadd netset4 ",
+        Family::Ipv6 => "\nadd netset6 ",
+    }
 }
 
 /// A network, or its two halves in two lines where it has all addresses.
-fn ipv4_halved(network: &Ipv4Cidr) -> ArrayString<MOST>
-    ensures { result.bytes ≡ halved Ipv4 network.now }
+fn halved<C: FamilyCidr>(network: &C) -> ArrayString<MOST>
+    ensures { result.bytes ≡ halved C.FAMILY (C.bits network.now) }
 {
     if network.network_length() > 0 {
         return widened(network.to_text().as_str());
     }
     both_halves(
-        ipv4_half(false).to_text().as_str(),
-        "\nadd netset4 ",
-        ipv4_half(true).to_text().as_str(),
+        half::<C>(false).to_text().as_str(),
+        second_half(C::FAMILY),
+        half::<C>(true).to_text().as_str(),
     )
 }
 
-/// A network, or its two halves in two lines where it has all addresses.
-fn ipv6_halved(network: &Ipv6Cidr) -> ArrayString<MOST>
-    ensures { result.bytes ≡ halved Ipv6 network.now }
+/// A network of one family in a notation: at most 200 bytes.
+pub fn written<C: FamilyCidr>(network: &C, notation: Notation) -> ArrayString<MOST>
+    ensures { result.bytes ≡ network_by notation C.FAMILY (C.bits network.now) }
 {
-    if network.network_length() > 0 {
-        return widened(network.to_text().as_str());
-    }
-    both_halves(
-        ipv6_half(false).to_text().as_str(),
-        "\nadd netset6 ",
-        ipv6_half(true).to_text().as_str(),
-    )
-}
-
-/// A network of one family in each notation.
-pub trait Written: Printed {
-    /// The string in a notation.
-    ghost written_as: { ANotation → Self → List ℕ };
-
-    /// The string in a notation: at most 200 bytes.
-    fn written(&self, notation: Notation) -> ArrayString<MOST>
-        ensures { result.bytes ≡ written_as notation self.now };
-}
-
-impl Written for Ipv4Cidr {
-    ghost use Rattle.cidr_lists.specs.Formats.{network_by};
-    ghost use Rattle.cidr.specs.declared.family.Family.TheVariants.{Ipv4};
-
-    ghost written_as = { λ notation p. network_by notation Ipv4 p };
-
-    fn written(&self, notation: Notation) -> ArrayString<MOST> {
-        match notation {
-            Notation::Plain => widened(self.to_text().as_str()),
-            Notation::WithLength => widened(self.with_length().to_text().as_str()),
-            Notation::AndLonger => and_longer(
-                self.with_length().to_text().as_str(),
-                self.network_length(),
-                32,
-            ),
-            Notation::Halved => ipv4_halved(self),
-            Notation::Members => members(
-                self.to_text().as_str(),
-                self.first_address().to_text().as_str(),
-                self.last_address().to_text().as_str(),
-                self.network_length(),
-            ),
-        }
-    }
-}
-
-impl Written for Ipv6Cidr {
-    ghost use Rattle.cidr_lists.specs.Formats.{network_by};
-    ghost use Rattle.cidr.specs.declared.family.Family.TheVariants.{Ipv6};
-
-    ghost written_as = { λ notation p. network_by notation Ipv6 p };
-
-    fn written(&self, notation: Notation) -> ArrayString<MOST> {
-        match notation {
-            Notation::Plain => widened(self.to_text().as_str()),
-            Notation::WithLength => widened(self.with_length().to_text().as_str()),
-            Notation::AndLonger => and_longer(
-                self.with_length().to_text().as_str(),
-                self.network_length(),
-                128,
-            ),
-            Notation::Halved => ipv6_halved(self),
-            Notation::Members => members(
-                self.to_text().as_str(),
-                self.first_address().to_text().as_str(),
-                self.last_address().to_text().as_str(),
-                self.network_length(),
-            ),
-        }
+    match notation {
+        Notation::Plain => widened(network.to_text().as_str()),
+        Notation::WithLength => widened(network.to_text_with_length().as_str()),
+        Notation::AndLonger => and_longer(
+            network.to_text_with_length().as_str(),
+            network.network_length(),
+            C::FAMILY.len(),
+        ),
+        Notation::Halved => halved(network),
+        Notation::Members => members(
+            network.to_text().as_str(),
+            C::address_text(&network.first_address()).as_str(),
+            C::address_text(&network.last_address()).as_str(),
+            network.network_length(),
+        ),
     }
 }
 
@@ -263,8 +208,8 @@ pub fn network_text(network: &IpCidr, notation: Notation) -> ArrayString<MOST>
     ensures { result.bytes ≡ network_by notation (network_family network.now) (network_prefix network.now) }
 {
     match network {
-        IpCidr::V4(network) => network.written(notation),
-        IpCidr::V6(network) => network.written(notation),
+        IpCidr::V4(network) => written(network, notation),
+        IpCidr::V6(network) => written(network, notation),
     }
 }
 
@@ -500,26 +445,28 @@ pub fn walk_layout<'a>(style: Option<Style<'a>>, family: Family) -> Layout<'a>
 }
 
 /// Appends a network.
-fn push_row<C: Written>(
+fn push_row<C: FamilyCidr>(
     text: &mut Vec<u8>,
     layout: &Layout<'_>,
     network: &C,
 ) -> Result<(), AllocError>
-    ensures { OnOk result (text.new.items ≡ text.old.items ++ row C.written_as (layout_in layout.now) network.now) }
+    ensures { OnOk result (text.new.items
+        ≡ text.old.items ++ row (family_by C.FAMILY C.bits) (layout_in layout.now) network.now) }
 {
     text.extend_from_slice(layout.before.as_bytes())?;
-    text.extend_from_slice(network.written(layout.notation).as_str().as_bytes())?;
+    text.extend_from_slice(written(network, layout.notation).as_str().as_bytes())?;
     text.extend_from_slice(layout.behind.as_bytes())?;
     Ok(())
 }
 
 /// Appends the networks behind the first.
-fn push_later_rows<C: Written>(
+fn push_later_rows<C: FamilyCidr>(
     text: &mut Vec<u8>,
     layout: &Layout<'_>,
     networks: &[C],
 ) -> Result<(), AllocError>
-    ensures { OnOk result (text.new.items ≡ text.old.items ++ later_rows C.written_as (layout_in layout.now) networks.now) }
+    ensures { OnOk result (text.new.items
+        ≡ text.old.items ++ later_rows (family_by C.FAMILY C.bits) (layout_in layout.now) networks.now) }
 {
     for network in networks {
         text.extend_from_slice(layout.between.as_bytes())?;
@@ -529,12 +476,13 @@ fn push_later_rows<C: Written>(
 }
 
 /// Appends what is printed of the networks of a family.
-fn push_layout<C: Written>(
+fn push_layout<C: FamilyCidr>(
     text: &mut Vec<u8>,
     layout: &Layout<'_>,
     networks: &[C],
 ) -> Result<(), AllocError>
-    ensures { OnOk result (text.new.items ≡ text.old.items ++ laid_out C.written_as (layout_in layout.now) networks.now) }
+    ensures { OnOk result (text.new.items
+        ≡ text.old.items ++ laid_out (family_by C.FAMILY C.bits) (layout_in layout.now) networks.now) }
 {
     let Some((first, rest)) = networks.split_first() else {
         text.extend_from_slice(layout.none.as_bytes())?;

@@ -16,8 +16,8 @@
 //!   or the other by its `Asked`.
 //!
 //! A line in error is an `errors::LineError`, whose `message` is the text that follows `FILE:LINE: `: the string that is
-//! wrong, and what is wrong with it. `changes` puts what a second list adds and lacks in order, `printing` has the texts
-//! of networks, addresses and counts, `classes` what an address is for, `descriptions` what is told of a host, and
+//! wrong, and what is wrong with it. `changes` puts what a second list adds and lacks in order, `printing` has the text
+//! of a network of an address, `classes` what an address is for, `descriptions` what is told of a host, and
 //! `formats` prints a set for other tools. A call on a line takes time in its length and allocates nothing. Only what
 //! collects, sorts, combines or prints whole lists allocates, and its one other error is that there is no memory.
 #![tactic(auto)]

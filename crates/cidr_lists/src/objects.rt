@@ -7,10 +7,11 @@ ghost use Rattle.cidr_lists.specs.LookUps.{look_object, telling_by};
 ghost use Rattle.cidr_lists.specs.Printing.{line};
 ghost use Rattle.cidr_lists.specs.declared.formats.Notation.TheVariants.{Members};
 
-use crate::formats::{LineFormat, Notation, Written, object_end};
+use crate::formats::{LineFormat, Notation, object_end, written};
 use crate::json::push_string;
+use crate::printing::network_of;
 use arrayvec::ArrayString;
-use cidr::{BitString, Family, IpAddr, Ipv4Cidr, Ipv6Cidr};
+use cidr::{Family, IpAddr, Ipv4Cidr, Ipv6Cidr};
 use std::alloc::AllocError;
 
 /// How look-ups are told.
@@ -41,14 +42,12 @@ fn members_of(address: &IpAddr, len: u8) -> ArrayString<200>
 {
     match address {
         IpAddr::V4(address) => {
-            let mut network = Ipv4Cidr::new_host(*address);
-            network.clip(usize::from(len));
-            network.written(Notation::Members)
+            let network = network_of::<Ipv4Cidr>(*address, len);
+            written(&network, Notation::Members)
         }
         IpAddr::V6(address) => {
-            let mut network = Ipv6Cidr::new_host(*address);
-            network.clip(usize::from(len));
-            network.written(Notation::Members)
+            let network = network_of::<Ipv6Cidr>(*address, len);
+            written(&network, Notation::Members)
         }
     }
 }

@@ -3,6 +3,8 @@
 //! `Lists` and of `Sets`, and `to_text` of `Sets`.
 ghost use Rattle.std.specs.Prelude.{◌≡◌, ◌≤◌, ◌++◌, length, IfOk, MatchResult, OnOk};
 ghost use Rattle.std.specs.List.{flat_map, position_or_len};
+ghost use Rattle.cidr.specs.texts.Printed.{plain_text};
+ghost use Rattle.cidr.specs.texts.PrintedAddress.{address_text};
 ghost use Rattle.cidr_lists.specs.Lists.{is_line_feed, kept_of, text_by};
 ghost use Rattle.cidr_lists.specs.Printing.{line};
 ghost use Rattle.cidr_lists.specs.Sets.{IsPrinted, networks_of, printed_sets, range_line};
@@ -12,11 +14,10 @@ ghost use Rattle.cidr_lists.specs.declared.sets.Form.TheVariants.{Counts, Ranges
 use crate::errors::{LineError, ListError};
 use crate::lines::{HostBits, content_of};
 use crate::lists::Lists;
-use crate::printing::{Printed, PrintedAddress};
 use crate::sets::{Form, Sets};
+use cidr::{FamilyCidr, Ipv4Cidr, Ipv6Cidr};
 use cidr_io::decimal::count_text;
 use cidr_io::lines::{feed_in, is_too_long};
-use cidr_sets::Ranges;
 use std::alloc::{AllocError, Global};
 
 /// How many bytes the first line has, without its line feed.
@@ -72,45 +73,34 @@ impl Lists {
 }
 
 /// Appends networks, one a line.
-fn push_networks<C: Printed>(text: &mut Vec<u8>, networks: &[C]) -> Result<(), AllocError>
-    ensures { OnOk result (text.new.items ≡ text.old.items ++ flat_map (λ network. line (C.text network)) networks.now) }
+fn push_networks<C: FamilyCidr>(text: &mut Vec<u8>, networks: &[C]) -> Result<(), AllocError>
+    ensures { OnOk result (text.new.items
+        ≡ text.old.items ++ flat_map (λ network. line (plain_text C.FAMILY (C.bits network))) networks.now) }
 {
     for network in networks {
-        text.extend_from_slice(network.printed().as_str().as_bytes())?;
+        text.extend_from_slice(network.to_text().as_str().as_bytes())?;
         text.push(b'\n')?;
     }
     Ok(())
 }
 
 /// Appends a range, or its one address, as a line.
-fn push_range<C: PrintedAddress>(
+fn push_range<C: FamilyCidr>(
     text: &mut Vec<u8>,
     first: C::Address,
     last: C::Address,
 ) -> Result<(), AllocError>
-    ensures { OnOk result (text.new.items ≡ text.old.items ++ range_line C.shown (C.address_bits first, C.address_bits last)) }
+    ensures { OnOk result (text.new.items ≡ text.old.items
+        ++ range_line (address_text C.FAMILY) (C.Address.bits first, C.Address.bits last)) }
 {
-    text.extend_from_slice(C::shown(&first).as_str().as_bytes())?;
-    if C::are_same(&first, &last) {
+    text.extend_from_slice(C::address_text(&first).as_str().as_bytes())?;
+    if C::to_number(first) == C::to_number(last) {
         text.push(b'\n')?;
         return Ok(());
     }
     text.push(b'-')?;
-    text.extend_from_slice(C::shown(&last).as_str().as_bytes())?;
+    text.extend_from_slice(C::address_text(&last).as_str().as_bytes())?;
     text.push(b'\n')?;
-    Ok(())
-}
-
-/// Appends ranges, one a line.
-fn push_ranges<C: PrintedAddress>(
-    text: &mut Vec<u8>,
-    mut ranges: Ranges<'_, C>,
-) -> Result<(), AllocError>
-    ensures { OnOk result (text.new.items ≡ text.old.items ++ flat_map (range_line C.shown) ranges.entry) }
-{
-    while let Some(range) = ranges.next() {
-        push_range::<C>(text, range.first, range.last)?;
-    }
     Ok(())
 }
 
@@ -139,8 +129,14 @@ impl Sets {
         ensures { IfOk result (λ text. IsPrinted AsRanges (networks_of self.now) text.items) }
     {
         let mut text = Vec::new(alloc);
-        push_ranges(&mut text, self.v4.ranges())?;
-        push_ranges(&mut text, self.v6.ranges())?;
+        let mut v4 = self.v4.ranges();
+        while let Some(range) = v4.next() {
+            push_range::<Ipv4Cidr>(&mut text, range.first, range.last)?;
+        }
+        let mut v6 = self.v6.ranges();
+        while let Some(range) = v6.next() {
+            push_range::<Ipv6Cidr>(&mut text, range.first, range.last)?;
+        }
         Ok(text)
     }
 

@@ -3,7 +3,30 @@ use Rattle.std.proofs.Common.{◌≡◌, sym, ap, ◌∙◌, arith, inl, inr, �
 use Rattle.std.proofs.Math.Nat.{mod-eq_of_lt, mul_assoc}
 use Rattle.std.proofs.Math.Pow.{pow_mono}
 use Rattle.std.proofs.lemmas.Bool.{cases_lt}
-use Rattle.std.proofs.lemmas.Nat.{pow_pos, pow-add, mul-le, one_shl, shl-shr}
+use Rattle.std.proofs.lemmas.Nat.{pow_pos, pow-add, mod_below, mul-le, one_shl, shl-shr, le-div, div_below, div-add-mod'}
+
+-- a number of a block is between its ends
+pub in_block : (number block s : ℕ) → 0 < s → number / s ≡ block → (block * s ≤ number) × (number < (block + 1) * s)
+in_block number block s some e =
+    let split = div-add-mod' number s in
+    let less = mod_below number s some in
+    let same : number / s * s ≡ block * s = ap (λ q. q * s) e in
+    (omega (arith, split, same), omega (arith, split, less, same))
+
+-- and each between them is of the block
+pub of_block : (number block s : ℕ) → 0 < s → block * s ≤ number → number < (block + 1) * s → number / s ≡ block
+of_block number block s some le lt = omega (arith, le-div block number s some le, div_below number s (block + 1) some lt)
+
+-- where a block ends
+pub ends_behind : (number block s : ℕ) → 0 < s → number / s ≤ block → number < (block + 1) * s
+ends_behind number block s some le =
+    let up = mul-le (number / s) s block s le (omega arith) in
+    omega (arith, div-add-mod' number s, mod_below number s some, up)
+
+pub ends_before : (number block s : ℕ) → block < number / s → (block + 1) * s ≤ number
+ends_before number block s lt =
+    let up = mul-le (block + 1) s (number / s) s (omega arith) (omega arith) in
+    omega (arith, div-add-mod' number s, up)
 
 power : (steps : ℕ) → 0 < steps → 2 ^ (6 * steps) ≡ 64 * 2 ^ (6 * (steps - 1))
 power steps some =

@@ -3,8 +3,10 @@ use Rattle.std.proofs.Common.{◌≡◌, refl, sym, ap, ap₂, subst, ◌∙◌,
 use Rattle.std.proofs.lemmas.Bool.{cases_eq}
 use Rattle.std.proofs.lemmas.List.{append-nil, drop_more, get_or_append_left, get_or-append_right}
 use Rattle.std.proofs.lemmas.Nat.{shl-shr, shr-shr, shr_split}
-use Rattle.cidr_lookup.specs.Nodes.{AreEntries, AllHave, IsNode, IsEntry, node, marks, runs}
+use Rattle.cidr_lookup.specs.Nodes.{AreEntries, AllHave, HasList, IsNode, IsEntry, list, node, marks, runs}
 use Rattle.cidr_lookup.specs.Putting.{StopsBefore}
+use Rattle.cidr_lookup.specs.Searching.{IsListAt}
+use Rattle.cidr_lookup.proofs.Changes.{list_no_value, one_list}
 use Rattle.cidr_lookup.proofs.Nodes.{run_of, same_node}
 
 -- ---- entries of several blocks
@@ -170,25 +172,40 @@ module _ (Has : (number value : ℕ) → Type 0) where
   AreParts words IsOne block place = (part : ℕ) → part < 64
       → (place + 1 < length words) × (part_at words place part < length words) × IsOne (block * 64 + part) (get_or words (part_at words place part) 0)
 
+  -- a list of the block stands in these words
+  abbrev pub IsListed : (words : List ℕ) (steps block place : ℕ) → Type 0
+  IsListed words steps block place = (value : ℕ) × (changes : List (ℕ × ℕ)) × HasList Has steps block value changes × IsListAt words place value changes
+
   -- each number of the block is led to its value
   unfoldable pub Leads : (words : List ℕ) (steps block entry : ℕ) → Type 0
   Leads words zero block entry = AllHave Has zero block entry
-  Leads words (suc steps) block entry = AllHave Has (suc steps) block entry ⊎ ((2 ^ 31 ≤ entry) × AreParts words (Leads words steps) block (entry - 2 ^ 31))
+  Leads words (suc steps) block entry = AllHave Has (suc steps) block entry ⊎ ((place : ℕ) × (entry ≡ 2 ^ 31 + 2 * place + 1) × IsListed words (suc steps) block place)
+      ⊎ ((place : ℕ) × (entry ≡ 2 ^ 31 + 2 * place) × AreParts words (Leads words steps) block place)
 
-  -- an entry that is a value, and one that is a node
+  -- no list is that of the block
+  abbrev pub HasNoList : (steps block : ℕ) → Type 0
+  HasNoList steps block = ¬ ((value : ℕ) × (changes : List (ℕ × ℕ)) × HasList Has steps block value changes)
+
+  -- an entry that is a value, one that is a list, and one that is a node
   pub value_entry : (steps block : ℕ) (before : List ℕ) (value : ℕ) → AllHave Has steps block value → IsEntry Has steps block before value before
   unfolding IsEntry
   value_entry zero block before value all = (all, refl)
   value_entry (suc steps) block before value all = inl (all, refl)
 
+  pub list_entry : (steps block : ℕ) (before : List ℕ) (entry : ℕ) (after : List ℕ) (value : ℕ) (changes : List (ℕ × ℕ)) → 0 < steps → HasList Has steps block value changes
+      → entry ≡ 2 ^ 31 + 2 * length before + 1 → after ≡ before ++ list value changes → IsEntry Has steps block before entry after
+  unfolding IsEntry
+  list_entry zero block before entry after value changes some known is put = absurd (omega arith)
+  list_entry (suc steps) block before entry after value changes some known is put = inr (inl (value, changes, known, is, put))
+
   pub node_entry : (steps block : ℕ) (before : List ℕ) (entry : ℕ) (after entries middle : List ℕ) → 0 < steps → ¬ ((value : ℕ) × AllHave Has steps block value)
-      → AreEntries (IsEntry Has (steps - 1)) (block * 64) 64 before entries middle → entry ≡ 2 ^ 31 + length middle → after ≡ middle ++ node entries
+      → HasNoList steps block → AreEntries (IsEntry Has (steps - 1)) (block * 64) 64 before entries middle → entry ≡ 2 ^ 31 + 2 * length middle → after ≡ middle ++ node entries
       → IsEntry Has steps block before entry after
   unfolding IsEntry
-  node_entry zero block before entry after entries middle some none parts is put = absurd (omega arith)
-  node_entry (suc steps) block before entry after entries middle some none parts is put =
+  node_entry zero block before entry after entries middle some none no_list parts is put = absurd (omega arith)
+  node_entry (suc steps) block before entry after entries middle some none no_list parts is put =
       let one : suc steps - 1 ≡ steps = omega arith in
-      inr (none, (entries, middle, subst (λ n. AreEntries (IsEntry Has n) (block * 64) 64 before entries middle) one parts, is, put))
+      inr (inr (none, no_list, (entries, middle, subst (λ n. AreEntries (IsEntry Has n) (block * 64) 64 before entries middle) one parts, is, put)))
 
   -- and several that are values
   pub values_more : (steps first n m : ℕ) (before entries entries' middle : List ℕ) → n ≤ m → ((i : ℕ) → i < n → get_or entries' i 0 ≡ get_or entries i 0)
@@ -207,22 +224,24 @@ module _ (Has : (number value : ℕ) → Type 0) where
     )
   ]
 
-  -- which it is where no value is
+  -- which it is where no value is and no list
   pub node_of : (steps block : ℕ) (before : List ℕ) (entry : ℕ) (after : List ℕ) → 0 < steps → ¬ ((value : ℕ) × AllHave Has steps block value)
-      → IsEntry Has steps block before entry after → IsNode (IsEntry Has (steps - 1)) block before entry after
+      → HasNoList steps block → IsEntry Has steps block before entry after → IsNode (IsEntry Has (steps - 1)) block before entry after
   unfolding IsEntry
-  node_of zero block before entry after some none known = absurd (omega arith)
-  node_of (suc steps) block before entry after some none (inl known) = absurd (none (entry, known.0))
-  node_of (suc steps) block before entry after some none (inr known) =
+  node_of zero block before entry after some none no_list known = absurd (omega arith)
+  node_of (suc steps) block before entry after some none no_list (inl known) = absurd (none (entry, known.0))
+  node_of (suc steps) block before entry after some none no_list (inr (inl known)) = absurd (no_list (known.0, known.1, known.2))
+  node_of (suc steps) block before entry after some none no_list (inr (inr known)) =
       let one : suc steps - 1 ≡ steps = omega arith in
-      subst (λ n. IsNode (IsEntry Has n) block before entry after) (sym one) known.1
+      subst (λ n. IsNode (IsEntry Has n) block before entry after) (sym one) known.2
 
   -- the words after an entry are those before it and more
   pub grows : (steps block : ℕ) (before : List ℕ) (entry : ℕ) (after : List ℕ) → IsEntry Has steps block before entry after → (rest : List ℕ) × (after ≡ before ++ rest)
   unfolding IsEntry
   grows zero block before entry after known = ([], known.1 ∙ sym (append-nil before))
   grows (suc steps) block before entry after (inl known) = ([], known.1 ∙ sym (append-nil before))
-  grows (suc steps) block before entry after (inr (none, (entries, middle, parts, is, all))) =
+  grows (suc steps) block before entry after (inr (inl known)) = (list known.0 known.1, known.4)
+  grows (suc steps) block before entry after (inr (inr (none, no_list, (entries, middle, parts, is, all)))) =
       let front = all_grow (IsEntry Has steps) (grows steps) (block * 64) 64 before entries middle parts in
       (front.0 ++ node entries, all ∙ (ap (λ x. x ++ node entries) front.1 ∙ append_assoc before front.0 (node entries)))
 
@@ -231,9 +250,10 @@ module _ (Has : (number value : ℕ) → Type 0) where
   unfolding IsEntry Leads
   leads words zero block before entry after more known all = known.0
   leads words (suc steps) block before entry after more (inl known) all = inl known.0
-  leads words (suc steps) block before entry after more (inr (none, (entries, middle, parts, is, put))) all =
+  leads words (suc steps) block before entry after more (inr (inl known)) all =
+      inr (inl (length before, known.3, (known.0, known.1, known.2, record { front = before; back = more; all = all ∙ ap (λ x. x ++ more) known.4; here = refl })))
+  leads words (suc steps) block before entry after more (inr (inr (none, no_list, (entries, middle, parts, is, put)))) all =
       let whole_is : words ≡ middle ++ node entries ++ more = all ∙ ap (λ x. x ++ more) put in
-      let place : entry - 2 ^ 31 ≡ length middle = omega (arith, is) in
       let known : AreParts words (Leads words steps) block (length middle) = λ part l.
       let one = each (IsEntry Has steps) (grows steps) (block * 64) 64 before entries middle parts part l in
       let rest = one.2 ++ (node entries ++ more) in
@@ -243,32 +263,51 @@ module _ (Has : (number value : ℕ) → Type 0) where
       let W : List ℕ → Type 0 = λ ws. (length middle + 1 < length ws) × (part_at ws (length middle) part < length ws) × (get_or ws (part_at ws (length middle) part) 0 ≡ get_or entries part 0) in
       let in_words = subst W (sym whole_is) (omega (arith, found.0, found.1), found.1, found.2) in
       (in_words.0, in_words.1, subst (λ e. Leads words steps (block * 64 + part) e) (sym in_words.2) lead) in
-      inr (omega (arith, is), subst (λ p. AreParts words (Leads words steps) block p) (sym place) known)
+      inr (inr (length middle, is, known))
 
   -- a value is that of a number of the block
   pub led : (words : List ℕ) (steps number entry : ℕ) → Leads words steps (number / 2 ^ (6 * steps)) entry → entry < 2 ^ 31 → Has number entry
   unfolding Leads
   led words zero number entry known low = known.1 number refl
   led words (suc steps) number entry (inl known) low = known.1 number refl
-  led words (suc steps) number entry (inr node) low = absurd (omega (arith, node.0))
+  led words (suc steps) number entry (inr (inl known)) low = absurd (omega (arith, known.1))
+  led words (suc steps) number entry (inr (inr known)) low = absurd (omega (arith, known.1))
+
+  -- an odd entry leads to a list
+  pub list_of : (words : List ℕ) (steps block entry place : ℕ) → Leads words steps block entry → 2 ^ 31 ≤ entry → entry % 2 ≡ 1 → place ≡ (entry - 2 ^ 31) / 2 → IsListed words steps block place
+  unfolding Leads
+  list_of words zero block entry place known high odd is = absurd (omega (arith, known.0))
+  list_of words (suc steps) block entry place (inl known) high odd is = absurd (omega (arith, known.0))
+  list_of words (suc steps) block entry place (inr (inl known)) high odd is =
+      let e : known.0 ≡ place = omega (arith, known.1) in
+      subst (λ p. IsListed words (suc steps) block p) e known.2
+  list_of words (suc steps) block entry place (inr (inr known)) high odd is = absurd (omega (arith, known.1))
 
   -- a node leads on by the next six bits
   abbrev pub NextOf : (words : List ℕ) (number place rest : ℕ) → Type 0
   NextOf words number place rest = (place + 1 < length words) × (part_at words place (number / 2 ^ (6 * rest) % 64) < length words)
       × Leads words rest (number / 2 ^ (6 * rest)) (get_or words (part_at words place (number / 2 ^ (6 * rest) % 64)) 0)
 
-  pub next : (words : List ℕ) (steps number entry : ℕ) → Leads words steps (number / 2 ^ (6 * steps)) entry → 2 ^ 31 ≤ entry
-      → (rest : ℕ) × (steps ≡ rest + 1) × NextOf words number (entry - 2 ^ 31) rest
+  pub some_left : (words : List ℕ) (steps number entry : ℕ) → Leads words steps (number / 2 ^ (6 * steps)) entry → 2 ^ 31 ≤ entry → 0 < steps
   unfolding Leads
-  next words zero number entry known high = absurd (omega (arith, known.0))
-  next words (suc steps) number entry (inl known) high = absurd (omega (arith, known.0))
-  next words (suc steps) number entry (inr (high', parts)) high =
+  some_left words zero number entry known high = absurd (omega (arith, known.0))
+  some_left words (suc steps) number entry known high = omega arith
+
+  pub next : (words : List ℕ) (steps number entry place : ℕ) → Leads words steps (number / 2 ^ (6 * steps)) entry → 2 ^ 31 ≤ entry → (entry % 2 ≡ 1 → ⊥) → place ≡ (entry - 2 ^ 31) / 2
+      → (rest : ℕ) × (steps ≡ rest + 1) × NextOf words number place rest
+  unfolding Leads
+  next words zero number entry place known high even at = absurd (omega (arith, known.0))
+  next words (suc steps) number entry place (inl known) high even at = absurd (omega (arith, known.0))
+  next words (suc steps) number entry place (inr (inl known)) high even at = absurd (even (omega (arith, known.1)))
+  next words (suc steps) number entry place (inr (inr known)) high even at =
       let q = number / 2 ^ (6 * steps) in
       let six : 6 * steps + 6 ≡ 6 * suc steps = omega arith in
       let up : number / 2 ^ (6 * suc steps) ≡ q / 2 ^ 6 = ap (λ j. number / 2 ^ j) (sym six) ∙ sym (shr-shr number (6 * steps) 6) in
       let is : number / 2 ^ (6 * suc steps) * 64 + q % 64 ≡ q = omega (arith, up, shr_split q 6) in
+      let e : known.0 ≡ place = omega (arith, known.1) in
+      let parts = subst (λ p. AreParts words (Leads words steps) (number / 2 ^ (6 * suc steps)) p) e known.2 in
       let here = parts (q % 64) (omega arith) in
-      (steps, omega arith, (here.0, here.1, subst (λ b. Leads words steps b (get_or words (part_at words (entry - 2 ^ 31) (q % 64)) 0)) is here.2))
+      (steps, omega arith, (here.0, here.1, subst (λ b. Leads words steps b (get_or words (part_at words place (q % 64)) 0)) is here.2))
 
   -- ---- the words are unique
   module _ (one_value : (number value value' : ℕ) → Has number value → Has number value' → value ≡ value') where
@@ -283,21 +322,35 @@ module _ (Has : (number value : ℕ) → Type 0) where
     unfolding IsEntry
     unique zero block before entry entry' after after' known known' = (value_unique zero block entry entry' known.0 known'.0, known.1 ∙ sym known'.1)
     unique (suc steps) block before entry entry' after after' (inl known) (inl known') = (value_unique (suc steps) block entry entry' known.0 known'.0, known.1 ∙ sym known'.1)
-    unique (suc steps) block before entry entry' after after' (inl known) (inr other) = absurd (other.0 (entry, known.0))
-    unique (suc steps) block before entry entry' after after' (inr other) (inl known) = absurd (other.0 (entry', known.0))
-    unique (suc steps) block before entry entry' after after' (inr (none, (entries, middle, parts, is, put))) (inr (none', (entries', middle', parts', is', put'))) =
+    unique (suc steps) block before entry entry' after after' (inl known) (inr (inl other)) = absurd (list_no_value Has one_value (suc steps) block other.0 entry other.1 other.2 known.0)
+    unique (suc steps) block before entry entry' after after' (inl known) (inr (inr other)) = absurd (other.0 (entry, known.0))
+    unique (suc steps) block before entry entry' after after' (inr (inl other)) (inl known) = absurd (list_no_value Has one_value (suc steps) block other.0 entry' other.1 other.2 known.0)
+    unique (suc steps) block before entry entry' after after' (inr (inl known)) (inr (inl known')) =
+        let same = one_list Has one_value (suc steps) block known.0 known'.0 known.1 known'.1 known.2 known'.2 in
+        (known.3 ∙ sym known'.3, known.4 ∙ (ap₂ (λ (v : ℕ) (cs : List (ℕ × ℕ)). before ++ list v cs) same.0 same.1 ∙ sym known'.4))
+    unique (suc steps) block before entry entry' after after' (inr (inl known)) (inr (inr other)) = absurd (other.1 (known.0, known.1, known.2))
+    unique (suc steps) block before entry entry' after after' (inr (inr other)) (inl known) = absurd (other.0 (entry', known.0))
+    unique (suc steps) block before entry entry' after after' (inr (inr other)) (inr (inl known)) = absurd (other.1 (known.0, known.1, known.2))
+    unique (suc steps) block before entry entry' after after' (inr (inr (none, no_list, (entries, middle, parts, is, put)))) (inr (inr (none', no_list', (entries', middle', parts', is', put')))) =
         let all = all_unique (IsEntry Has steps) (unique steps) (block * 64) 64 before entries entries' middle middle' parts parts' in
         let same = same_node entries' entries 64 all.0 in
         let nodes : node entries ≡ node entries' = ap₂ (λ r m. m % 2 ^ 32 ∷ m / 2 ^ 32 ∷ r) same.0 same.1 in
-        (is ∙ (ap (λ m. 2 ^ 31 + length m) all.1 ∙ sym is'), put ∙ (ap₂ (λ m x. m ++ x) all.1 nodes ∙ sym put'))
+        (is ∙ (ap (λ m. 2 ^ 31 + 2 * length m) all.1 ∙ sym is'), put ∙ (ap₂ (λ m x. m ++ x) all.1 nodes ∙ sym put'))
 
-    -- ---- a word that is not taken, of a block in which a range begins
+    -- ---- a word that is not taken, of a list
+    pub own_list : (steps block : ℕ) (before : List ℕ) (entry : ℕ) (after : List ℕ) (value : ℕ) (changes : List (ℕ × ℕ)) → 0 < steps → HasList Has steps block value changes
+        → IsEntry Has steps block before entry after → after ≡ before ++ list value changes
+    own_list steps block before entry after value changes some known other =
+        (unique steps block before entry (2 ^ 31 + 2 * length before + 1) after (before ++ list value changes) other
+        (list_entry steps block before (2 ^ 31 + 2 * length before + 1) (before ++ list value changes) value changes some known refl refl)).1
+
+    -- ---- and of a block in which a range begins, and which has no list
     module _ (steps block : ℕ) (before : List ℕ) (entry : ℕ) (after entries put : List ℕ) (part : ℕ) (some : 0 < steps) (none : ¬ ((value : ℕ) × AllHave Has steps block value))
-        (known : IsEntry Has steps block before entry after) (parts : AreEntries (IsEntry Has (steps - 1)) (block * 64) part before entries put) (new : List ℕ) (Refuses : ℕ → Type 0) where
+        (no_list : HasNoList steps block) (known : IsEntry Has steps block before entry after) (parts : AreEntries (IsEntry Has (steps - 1)) (block * 64) part before entries put) (new : List ℕ) (Refuses : ℕ → Type 0) where
       -- in a part
       pub stops_in_part : part < 64 → ((entry : ℕ) (next : List ℕ) → IsEntry Has (steps - 1) (block * 64 + part) put entry next → StopsBefore new Refuses next) → StopsBefore new Refuses after
       stops_in_part l stopped =
-          let made = node_of steps block before entry after some none known in
+          let made = node_of steps block before entry after some none no_list known in
           let on = all_before (IsEntry Has (steps - 1)) (grows (steps - 1)) (unique (steps - 1)) (block * 64) part 64 before entries made.0 put made.1 l parts made.2 in
           stops_more new Refuses on.0 after (on.1 ++ node made.0) (made.4 ∙ (ap (λ x. x ++ node made.0) on.3 ∙ append_assoc on.0 on.1 (node made.0)))
           (stopped (get_or made.0 part 0) on.0 on.2)
@@ -306,7 +359,7 @@ module _ (Has : (number value : ℕ) → Type 0) where
       module _ (all_parts : part ≡ 64) where
         own_node : (after ≡ put ++ node entries)
         own_node =
-            let made = node_of steps block before entry after some none known in
+            let made = node_of steps block before entry after some none no_list known in
             let parts' = subst (λ n. AreEntries (IsEntry Has (steps - 1)) (block * 64) n before entries put) all_parts parts in
             let both = all_unique (IsEntry Has (steps - 1)) (unique (steps - 1)) (block * 64) 64 before made.0 entries made.1 put made.2 parts' in
             let same = same_node entries made.0 64 both.0 in
@@ -315,7 +368,7 @@ module _ (Has : (number value : ℕ) → Type 0) where
         pub stops_in_node : StopsBefore new Refuses (put ++ node entries) → StopsBefore new Refuses after
         stops_in_node stopped = subst (λ x. StopsBefore new Refuses x) (sym own_node) stopped
 
-        pub stops_at_place : new ≡ put → 2 ^ 31 ≤ length put → StopsBefore new Refuses after
+        pub stops_at_place : new ≡ put → 2 ^ 30 ≤ length put → StopsBefore new Refuses after
         stops_at_place same full = inr (omega (arith, ap length same), (node entries, own_node ∙ ap (λ x. x ++ node entries) (sym same)))
 
     -- ---- an entry that is not taken, of all blocks

@@ -1,10 +1,12 @@
--- The words of a table fit in 32 bits, if there are fewer than 2 ^ 31.
-use Rattle.std.proofs.Common.{◌≡◌, refl, sym, ap, subst, arith, inl, inr, ℕ, zero, suc, ◌+◌, ◌-◌, ◌*◌, ◌/◌, ◌%◌, ◌^◌, ◌<◌, List, [], ◌∷◌, ◌++◌, length, get_or, length-append}
+-- The words of a table fit in 32 bits, if there are fewer than 2 ^ 30.
+use Rattle.std.proofs.Common.{◌≡◌, refl, sym, ap, subst, arith, inl, inr, ℕ, zero, suc, ◌+◌, ◌-◌, ◌*◌, ◌/◌, ◌%◌, ◌^◌, ◌<◌, List, [], ◌∷◌, ◌++◌, length, map, get_or, length-append}
+use Rattle.std.specs.List.{flat_map}
 use Rattle.std.proofs.lemmas.Bool.{cases_lt, cond_both}
 use Rattle.std.proofs.lemmas.List.{get_or_append_left, get_or-append_right}
 use Rattle.std.proofs.lemmas.Nat.{mod_below, pow_pos, shr_below}
-use Rattle.cidr_lookup.specs.Nodes.{AreEntries, IsEntry, begins_run, marks, node, runs}
+use Rattle.cidr_lookup.specs.Nodes.{AreEntries, IsEntry, begins_run, change_words, list, marks, node, runs}
 use Rattle.cidr_lookup.specs.Tables.{IsAnswer, IsLookupTable}
+use Rattle.cidr_lookup.proofs.Changes.{first_has, ordered, values_small}
 use Rattle.cidr_lookup.proofs.Entries.{grows}
 use Rattle.cidr_lookup.proofs.Nodes.{marks_fit}
 
@@ -43,12 +45,22 @@ node_fits entries fits =
     word_fits (marks entries 64 % 2 ^ 32) (marks entries 64 / 2 ^ 32 ∷ runs entries 64) (mod_below (marks entries 64) (2 ^ 32) (pow_pos 32))
     (word_fits (marks entries 64 / 2 ^ 32) (runs entries 64) (shr_below (marks entries 64) 32 32 (marks_fit entries 64)) (runs_fit entries 64 fits))
 
+starts_fit : (changes : List (ℕ × ℕ)) → ((i : ℕ) → i < length changes → (get_or changes i (0, 0)).0 < 2 ^ 64) → AllFit (flat_map change_words changes)
+starts_fit [] fits = none_fit
+starts_fit (change ∷ changes) fits =
+    word_fits (change.0 % 2 ^ 32) (change.0 / 2 ^ 32 ∷ flat_map change_words changes) (mod_below change.0 (2 ^ 32) (pow_pos 32))
+    (word_fits (change.0 / 2 ^ 32) (flat_map change_words changes) (shr_below change.0 32 32 (fits 0 (omega arith))) (starts_fit changes (λ i l. fits (suc i) (omega arith))))
+
+values_fit : (changes : List (ℕ × ℕ)) → ((i : ℕ) → i < length changes → (get_or changes i (0, 0)).1 < 2 ^ 31) → AllFit (map (λ (change : ℕ × ℕ). change.1) changes)
+values_fit [] fits = none_fit
+values_fit (change ∷ changes) fits = word_fits change.1 (map (λ (change : ℕ × ℕ). change.1) changes) (omega (arith, fits 0 (omega arith))) (values_fit changes (λ i l. fits (suc i) (omega arith)))
+
 -- what is put behind words that fit
 module _ (IsOne : (block : ℕ) (before : List ℕ) (entry : ℕ) (after : List ℕ) → Type 0)
     (grow : (block : ℕ) (before : List ℕ) (entry : ℕ) (after : List ℕ) → IsOne block before entry after → (rest : List ℕ) × (after ≡ before ++ rest))
-    (one : (block : ℕ) (before : List ℕ) (entry : ℕ) (after : List ℕ) → IsOne block before entry after → length after < 2 ^ 31 → AllFit before
+    (one : (block : ℕ) (before : List ℕ) (entry : ℕ) (after : List ℕ) → IsOne block before entry after → length after < 2 ^ 30 → AllFit before
     → (entry < 2 ^ 32) × AllFit after) where
-  all_fit : (first n : ℕ) (before entries after : List ℕ) → AreEntries IsOne first n before entries after → length after < 2 ^ 31 → AllFit before
+  all_fit : (first n : ℕ) (before entries after : List ℕ) → AreEntries IsOne first n before entries after → length after < 2 ^ 30 → AllFit before
       → ((i : ℕ) → i < n → get_or entries i 0 < 2 ^ 32) × AllFit after
   unfolding AreEntries
   all_fit first zero before entries after known few fits = (λ i l. absurd (omega arith), subst AllFit (sym known) fits)
@@ -64,18 +76,28 @@ module _ (IsOne : (block : ℕ) (before : List ℕ) (entry : ℕ) (after : List 
       )
 
 module _ (Has : (number value : ℕ) → Type 0) where
-  entry_fits : (steps block : ℕ) (before : List ℕ) (entry : ℕ) (after : List ℕ) → IsEntry Has steps block before entry after → length after < 2 ^ 31 → AllFit before
+  entry_fits : (steps block : ℕ) (before : List ℕ) (entry : ℕ) (after : List ℕ) → IsEntry Has steps block before entry after → length after < 2 ^ 30 → AllFit before
       → (entry < 2 ^ 32) × AllFit after
   unfolding IsEntry
   entry_fits zero block before entry after known few fits = (omega (arith, known.0.0), subst AllFit (sym known.1) fits)
   entry_fits (suc steps) block before entry after (inl known) few fits = (omega (arith, known.0.0), subst AllFit (sym known.1) fits)
-  entry_fits (suc steps) block before entry after (inr (none, (entries, middle, parts, is, all))) few fits =
-      let short : length middle < 2 ^ 31 = omega (arith, ap length all, length-append middle (node entries)) in
+  entry_fits (suc steps) block before entry after (inr (inl (value, changes, known, is, all))) few fits =
+      let short : length before < 2 ^ 30 = omega (arith, ap length all, length-append before (list value changes)) in
+      let s = 2 ^ (6 * suc steps) in
+      let lt : block * s < (block + 1) * s = omega (arith, pow_pos (6 * suc steps)) in
+      let order = ordered Has (block * s) ((block + 1) * s) value changes known.2 in
+      let list_fits : AllFit (list value changes) = word_fits (length changes) (flat_map change_words changes ++ value ∷ map (λ (change : ℕ × ℕ). change.1) changes) (omega (arith, known.1))
+      (both_fit (flat_map change_words changes) (value ∷ map (λ (change : ℕ × ℕ). change.1) changes) (starts_fit changes order.fits)
+      (word_fits value (map (λ (change : ℕ × ℕ). change.1) changes) (omega (arith, (first_has Has (block * s) ((block + 1) * s) value changes lt known.2).0))
+      (values_fit changes (values_small Has (block * s) ((block + 1) * s) value changes lt known.2)))) in
+      (omega (arith, is, short), subst AllFit (sym all) (both_fit before (list value changes) fits list_fits))
+  entry_fits (suc steps) block before entry after (inr (inr (none, no_list, (entries, middle, parts, is, all)))) few fits =
+      let short : length middle < 2 ^ 30 = omega (arith, ap length all, length-append middle (node entries)) in
       let old = all_fit (IsEntry Has steps) (grows Has steps) (entry_fits steps) (block * 64) 64 before entries middle parts short fits in
       (omega (arith, is, short), subst AllFit (sym all) (both_fit middle (node entries) old.1 (node_fits entries old.0)))
 
 pub table_fits : (w padding steps : ℕ) (networks : List (ℕ × ℕ)) (first words : List ℕ) → IsLookupTable w padding steps networks first words
-    → length words < 2 ^ 31 → AllFit first × AllFit words
+    → length words < 2 ^ 30 → AllFit first × AllFit words
 table_fits w padding steps networks first words table few =
     let Has = IsAnswer w padding networks in
     all_fit (IsEntry Has steps) (grows Has steps) (entry_fits Has steps) 0 (length first) [] first words table.entries few none_fit

@@ -23,8 +23,8 @@ use Rattle.cidr_table.proofs.Beginnings.{begins_length}
 use Rattle.cidr_table.proofs.Halves.{begins_begins, begins_both}
 use Rattle.cidr_table.proofs.MapLaws.{contains_key}
 use Rattle.cidr_table.specs.model.Prefixes.{IsLongestAt, IsLongestMatch, IsLookedUp}
-use Rattle.cidr_arrays.specs.Arrays.{AreAscendingNetworks, IsNetwork, Precedes, key_networks, prefix_bits}
-use Rattle.cidr_arrays.specs.declared.key.Key.{Key}
+use Rattle.cidr_lookup.specs.Keys.{AreAscendingNetworks, IsNetwork, Precedes, key_networks, prefix_bits}
+use Rattle.cidr_lookup.specs.declared.key.Key.{Key}
 use Rattle.cidr_lookup.specs.Rows.{IsCountRefused, numbered, numbered_rows}
 use Rattle.cidr_lookup.specs.Tables.{IsLookupTable, IsTableRefused}
 use Rattle.cidr_lookup.specs.declared.table.TableError.{TableError}

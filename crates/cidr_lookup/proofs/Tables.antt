@@ -9,7 +9,7 @@ use Rattle.cidr_lookup.specs.Putting.{StopsBefore}
 use Rattle.cidr_lookup.specs.Tables.{HasTooManyWords, IsAnswer, IsLookupTable}
 use Rattle.cidr_lookup.proofs.Blocks.{one_count}
 use Rattle.cidr_lookup.proofs.Entries.{all_unique, unique}
-use Rattle.cidr_lookup.proofs.Ranges.{one_answer}
+use Rattle.cidr_lookup.proofs.BlockAnswers.{one_answer}
 
 pub one_table : (w padding steps : ℕ) (networks : List (ℕ × ℕ)) (first words first' words' : List ℕ) → IsLookupTable w padding steps networks first words
     → IsLookupTable w padding steps networks first' words' → (first ≡ first') × (words ≡ words')
@@ -21,13 +21,13 @@ one_table w padding steps networks first words first' words' table table' =
     (ext_get_or 0 first first' count both.0, both.1)
 
 -- and so has too many words, if it has
-pub too_large : (w padding steps : ℕ) (networks : List (ℕ × ℕ)) (first words : List ℕ) → IsLookupTable w padding steps networks first words → 2 ^ 31 ≤ length words
+pub too_large : (w padding steps : ℕ) (networks : List (ℕ × ℕ)) (first words : List ℕ) → IsLookupTable w padding steps networks first words → 2 ^ 30 ≤ length words
     → HasTooManyWords w padding steps networks
 too_large w padding steps networks first words table many = λ first' words' table'.
     omega (arith, many, ap length (one_table w padding steps networks first words first' words' table table').1)
 
 -- or if so many were put before one that is not taken
-pub many_words : (put all : List ℕ) (Refuses : ℕ → Type 0) → 2 ^ 31 ≤ length put → StopsBefore put Refuses all → 2 ^ 31 ≤ length all
+pub many_words : (put all : List ℕ) (Refuses : ℕ → Type 0) → 2 ^ 30 ≤ length put → StopsBefore put Refuses all → 2 ^ 30 ≤ length all
 many_words put all Refuses many (inl (word, rest, whole, refused)) = omega (arith, many, ap length whole, length-append put (word ∷ rest))
 many_words put all Refuses many (inr (full, (rest, whole))) = omega (arith, full, ap length whole, length-append put rest)
 
@@ -37,7 +37,7 @@ put_front words place =
     ap (take (length (take place words))) (sym (take-append-drop place words)) ∙ take-append_seam (take place words) (drop place words)
 
 -- a word that is not taken is the first other one
-pub first_other : (words all : List ℕ) (place : ℕ) → length words < 2 ^ 31
+pub first_other : (words all : List ℕ) (place : ℕ) → length words < 2 ^ 30
     → StopsBefore (take place words) (λ word. slice_get words (length (take place words)) ≢ Some word) all → IsFirstOther words all (length (take place words))
 first_other words all place few (inr (full, more)) = absurd (omega (arith, ap length (take-append-drop place words), length-append (take place words) (drop place words)))
 first_other words all place few (inl (word, rest, whole, refused)) =

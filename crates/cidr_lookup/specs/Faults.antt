@@ -1,6 +1,6 @@
 -- What is wrong with words: the first thing.
 use Rattle.std.specs.Prelude.{◌≡◌, ◌≢◌, ℕ, ◌+◌, ◌*◌, ◌^◌, ◌<◌, ◌≤◌, ◌⊎◌, List, length, slice_get, take}
-use Rattle.cidr_arrays.specs.Arrays.{AreAscendingNetworks}
+use Rattle.cidr_lookup.specs.Keys.{AreAscendingNetworks}
 use Rattle.cidr_lookup.specs.Tables.{AreKeysRefused, IsLookupTable}
 use Rattle.cidr_lookup.specs.declared.checking.Fault.{Fault}
 use Rattle.cidr_lookup.specs.declared.checking.Fault.TheVariants.{Steps, TooLong, Keys, First, Word}
@@ -15,12 +15,12 @@ AreSteps w padding steps = (6 * steps < w + padding) × (w + padding ≤ 6 * ste
 
 -- and there are no more words than a table may have
 abbrev pub AreSizes : (w padding steps : ℕ) → (first words : List ℕ) → Type 0
-AreSizes w padding steps first words = AreSteps w padding steps × (length first < 2 ^ 31) × (length words < 2 ^ 31)
+AreSizes w padding steps first words = AreSteps w padding steps × (length first < 2 ^ 30) × (length words < 2 ^ 30)
 
 -- why words are refused, each where those before it don't hold, but that an entry and a word are told as they are built
 abbrev pub IsFault : (w padding steps : ℕ) → List (ℕ × ℕ) → (first words : List ℕ) → Fault → Type 0
 IsFault w padding steps networks first words Steps = ¬ (AreSteps w padding steps)
-IsFault w padding steps networks first words TooLong = AreSteps w padding steps × ((2 ^ 31 ≤ length first) ⊎ (2 ^ 31 ≤ length words))
+IsFault w padding steps networks first words TooLong = AreSteps w padding steps × ((2 ^ 30 ≤ length first) ⊎ (2 ^ 30 ≤ length words))
 IsFault w padding steps networks first words (Keys error) = AreSizes w padding steps first words × AreKeysRefused w networks error
 IsFault w padding steps networks first words (First place) = AreSizes w padding steps first words × AreAscendingNetworks w networks
     × ((all_first all_words : List ℕ) → IsLookupTable w padding steps networks all_first all_words → IsFirstOther first all_first place)

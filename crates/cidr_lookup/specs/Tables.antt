@@ -2,7 +2,7 @@
 use Rattle.std.specs.Prelude.{◌≡◌, ℕ, ◌+◌, ◌*◌, ◌/◌, ◌^◌, ◌<◌, ◌≤◌, nat_lt, if◌then◌else◌, List, [], Some, length}
 use Rattle.cidr.specs.model.Bits.{bits}
 use Rattle.cidr_table.specs.model.Prefixes.{IsLongestMatch}
-use Rattle.cidr_arrays.specs.Arrays.{AreAscendingNetworks, IsFirstRefused, prefix_bits, row_of}
+use Rattle.cidr_lookup.specs.Keys.{AreAscendingNetworks, IsFirstRefused, prefix_bits, row_of}
 use Rattle.cidr_lookup.specs.declared.table.TableError.{TableError}
 use Rattle.cidr_lookup.specs.declared.table.TableError.TheVariants.{TooMany, Refused, TooLarge, NoMemory}
 use Rattle.cidr_lookup.specs.Nodes.{AreEntries, IsEntry}
@@ -24,7 +24,7 @@ abbrev pub ipv4_steps : ℕ → ℕ
 ipv4_steps networks = if nat_lt networks 64 then 5 else (if nat_lt networks 1000 then 4 else 3)
 
 abbrev pub ipv6_steps : ℕ → ℕ
-ipv6_steps networks = if nat_lt networks 64 then 20 else (if nat_lt networks 100000 then 19 else 18)
+ipv6_steps networks = if nat_lt networks 64 then 20 else 19
 
 -- why keys have no table: too many networks; or else one is refused; or an allocation failed
 abbrev pub AreKeysRefused : ℕ → List (ℕ × ℕ) → TableError → Type 0
@@ -35,7 +35,7 @@ AreKeysRefused w networks NoMemory = length networks < 2 ^ 31
 
 -- the table of so many steps has more words than any may have
 abbrev pub HasTooManyWords : (w padding steps : ℕ) → List (ℕ × ℕ) → Type 0
-HasTooManyWords w padding steps networks = (first words : List ℕ) → IsLookupTable w padding steps networks first words → 2 ^ 31 ≤ length words
+HasTooManyWords w padding steps networks = (first words : List ℕ) → IsLookupTable w padding steps networks first words → 2 ^ 30 ≤ length words
 
 -- why there is none: that; or else it has too many words
 abbrev pub IsTableRefused : (w padding steps : ℕ) → List (ℕ × ℕ) → TableError → Type 0

@@ -1,50 +1,96 @@
 //! Addresses by their numbers.
 ghost use Rattle.std.specs.Prelude.{◌≡◌, ℕ, ◌+◌, ◌*◌, ◌/◌, ◌%◌, ◌^◌, ◌<◌, ◌≤◌};
-ghost use Rattle.cidr_lookup.specs.Tables.{ipv4_steps, ipv6_steps};
+ghost use Rattle.cidr_lookup.specs.Tables.{ipv4_steps};
 
-use cidr_arrays::{Halves, Word};
-
-/// An address, as a `u32` of IPv4 or two halves of IPv6. Its number here has some zeros behind its bits, so that all bits
-/// but the first are parts of six.
-pub trait Address: Word {
-    /// How many zeros.
-    ghost padding: { ℕ };
-
+/// The number of an address, as it lies in an array: a `u32` of IPv4 or [`Halves`](crate::Halves) of IPv6, and the bytes
+/// of these, as a file has them.
+///
+/// The nodes of a look-up table divide by six bits. So that all bits but the first are parts of six, a number has some
+/// zeros behind its bits there.
+pub trait Address: Copy {
     /// The number.
-    fn padded(self) -> u128
-        ensures value { result ≡ Self.value self * 2 ^ padding }
-        ensures fits { result < 2 ^ (Self.width + padding) };
+    ghost value: { Self → ℕ };
 
-    /// How many bits it has.
-    fn padded_width() -> u32
-        ensures value { result ≡ Self.width + padding }
-        ensures fits { result ≤ 128 };
+    /// How many bits an address has.
+    ghost width: { ℕ };
+
+    /// How many zeros are behind them.
+    ghost padding: { ℕ };
 
     /// How many steps of six bits the table of so many networks has.
     ghost steps: { ℕ → ℕ };
 
+    /// The number.
+    fn number(self) -> u128
+        ensures value { result ≡ value self }
+        ensures fits { result < 2 ^ width };
+
+    /// The address with a number. The caller has to prove that it is below 2^32 in IPv4, or below 2^128 in IPv6, as
+    /// each `u128` is.
+    fn of(number: u128) -> Self
+        requires { number < 2 ^ width }
+        ensures { value result ≡ number };
+
+    /// How many bits an address has: 32 or 128.
+    fn width() -> u32
+        ensures value { result ≡ width }
+        ensures fits { result ≤ 128 };
+
+    /// The number with its zeros.
+    fn padded(self) -> u128
+        ensures value { result ≡ value self * 2 ^ padding }
+        ensures fits { result < 2 ^ (width + padding) };
+
+    /// How many bits it has with them.
+    fn padded_width() -> u32
+        ensures value { result ≡ width + padding }
+        ensures fits { result ≤ 128 };
+
     /// How many steps of six bits the table of so many networks has: those that are best, of at most 2^20 entries.
     fn steps_for(networks: usize) -> u32
         ensures own { result ≡ steps networks }
-        ensures some { 6 * result < Self.width + padding }
-        ensures few { Self.width + padding ≤ 6 * result + 20 };
+        ensures some { 6 * result < width + padding }
+        ensures few { width + padding ≤ 6 * result + 20 };
 
     /// The number of the bits before the last `shift`, of which there are at most 64.
     fn block(self, shift: u32) -> usize
-        requires some { shift < Self.width + padding }
-        requires few { Self.width + padding ≤ shift + 64 }
-        ensures { result ≡ Self.value self * 2 ^ padding / 2 ^ shift };
+        requires some { shift < width + padding }
+        requires few { width + padding ≤ shift + 64 }
+        ensures { result ≡ value self * 2 ^ padding / 2 ^ shift };
 
     /// The number of the six bits before the last `shift`.
     fn digit(self, shift: u32) -> u32
-        requires { shift < Self.width + padding }
-        ensures { result ≡ Self.value self * 2 ^ padding / 2 ^ shift % 64 };
+        requires { shift < width + padding }
+        ensures { result ≡ value self * 2 ^ padding / 2 ^ shift % 64 };
+
+    /// The number of the bits before the last 64, which is 0 in IPv4.
+    fn upper(self) -> u64
+        ensures { result ≡ value self * 2 ^ padding / 2 ^ 64 };
 }
 
 impl Address for u32 {
+    ghost value = { λ number. number };
+
+    ghost width = { 32 };
+
     ghost padding = { 4 };
 
     ghost steps = { ipv4_steps };
+
+    #[inline(always)]
+    fn number(self) -> u128 {
+        u128::from(self)
+    }
+
+    #[inline(always)]
+    fn of(number: u128) -> u32 {
+        number as u32
+    }
+
+    #[inline(always)]
+    fn width() -> u32 {
+        32
+    }
 
     #[inline(always)]
     fn padded(self) -> u128 {
@@ -72,6 +118,12 @@ impl Address for u32 {
     fn digit(self, shift: u32) -> u32 {
         ((padded(self) >> shift) % 64) as u32
     }
+
+    #[inline(always)]
+    fn upper(self) -> u64 {
+        padded(self);
+        0
+    }
 }
 
 /// The number of an IPv4 address with its zeros.
@@ -81,40 +133,4 @@ fn padded(address: u32) -> u64
     ensures fits { result < 2 ^ 36 }
 {
     u64::from(address) * 16
-}
-
-impl Address for Halves {
-    ghost padding = { 0 };
-
-    ghost steps = { ipv6_steps };
-
-    #[inline(always)]
-    fn padded(self) -> u128 {
-        self.number()
-    }
-
-    #[inline(always)]
-    fn padded_width() -> u32 {
-        128
-    }
-
-    fn steps_for(networks: usize) -> u32 {
-        if networks < 64 {
-            return 20;
-        }
-        if networks < 100_000 { 19 } else { 18 }
-    }
-
-    #[inline(always)]
-    fn block(self, shift: u32) -> usize {
-        match self.part(shift) {
-            Some(part) => part,
-            None => unreachable!(),
-        }
-    }
-
-    #[inline(always)]
-    fn digit(self, shift: u32) -> u32 {
-        ((self.number() >> shift) % 64) as u32
-    }
 }

@@ -1,17 +1,22 @@
 //! The words of networks, by their ranges.
-ghost use Rattle.std.specs.Prelude.{◌≡◌, ◌↔◌, ℕ, ◌+◌, ◌*◌, ◌/◌, ◌^◌, ◌<◌, ◌≤◌, ◌⊎◌, List, [], length, map, slice_index_or, IfErr, IfOk, IsTrue, OnErr, OnOk};
-ghost use Rattle.cidr_arrays.specs.Arrays.{AreAscendingNetworks, AreMatchRanges, key_networks};
-ghost use Rattle.cidr_lookup.specs.Nodes.{AllHave, IsEntry};
+ghost use Rattle.std.specs.Prelude.{◌≡◌, ◌↔◌, ◌+◌, ◌*◌, ◌/◌, ◌^◌, ◌<◌, ◌≤◌, ◌⊎◌, ℕ, List, [], length, map, slice_index_or, IfErr, IfNone, IfOk, IfSome, IsTrue, OnErr, OnOk};
+ghost use Rattle.cidr_lookup.specs.Keys.{AreAscendingNetworks, key_networks};
+ghost use Rattle.cidr_lookup.specs.Ranges.{AreMatchRanges, changes_from};
+ghost use Rattle.cidr_lookup.specs.Nodes.{AllHave, HasList, IsEntry};
 ghost use Rattle.cidr_lookup.specs.Putting.{IsStopped, StopsBefore};
 ghost use Rattle.cidr_lookup.specs.Tables.{IsAnswer, IsLookupTable};
 
 use crate::address::Address;
+use crate::key::Key;
+use crate::list::{MOST_CHANGES, put_list};
 use crate::node::{PARTS, put_node};
 use crate::search::PLACE;
 use crate::words::{Sink, Stop, Stopped};
-use cidr_arrays::Key;
 
-/// Puts the entries of all blocks of 64^steps numbers, and the words of their nodes.
+/// How many words may stand before a node or a list.
+const MOST_WORDS: usize = 1 << 30;
+
+/// Puts the entries of all blocks of 64^steps numbers, and the words of their nodes and lists.
 pub(crate) fn put_table<A: Address, F: Sink, S: Sink>(
     keys: &[Key<A>],
     starts: &[A],
@@ -33,7 +38,7 @@ pub(crate) fn put_table<A: Address, F: Sink, S: Sink>(
     ensures stopped { IfErr result (λ stopped. (all_first all_words : List ℕ)
         → IsLookupTable A.width A.padding steps (key_networks A.value keys.now) all_first all_words
         → IsStopped stopped (F.put first.new) (F.refuses first.new) all_first (S.put words.new) (S.refuses words.new) all_words) }
-    ensures many { IfErr result (λ stopped. stopped ≡ Stopped.Words Stop.TooMany → 2 ^ 31 ≤ length (S.put words.new)) }
+    ensures many { IfErr result (λ stopped. stopped ≡ Stopped.Words Stop.TooMany → 2 ^ 30 ≤ length (S.put words.new)) }
 {
     let blocks = 1u64 << (A::padded_width() - 6 * steps);
     let mut near = 0;
@@ -58,9 +63,9 @@ pub(crate) fn put_table<A: Address, F: Sink, S: Sink>(
     Ok(())
 }
 
-/// The entry of a block of 64^steps numbers. The words of its nodes are put behind those that were put. `near` is a range
-/// that begins at most with the first number, and then the last such range. The keys, whose ranges these are, are for the
-/// contract.
+/// The entry of a block of 64^steps numbers. The words of its nodes and lists are put behind those that were put. `near` is
+/// a range that begins at most with the first number, and then the last such range. The keys, whose ranges these are, are
+/// for the contract.
 pub(crate) fn entry_of<A: Address, S: Sink>(
     keys: &[Key<A>],
     starts: &[A],
@@ -84,13 +89,16 @@ pub(crate) fn entry_of<A: Address, S: Sink>(
     ensures stopped { OnErr result ((entry : ℕ) (after : List ℕ)
         → IsEntry (IsAnswer A.width A.padding (key_networks A.value keys.now)) steps block (S.put sink.old) entry after
         → StopsBefore (S.put sink.new) (S.refuses sink.new) after) }
-    ensures many { IfErr result (λ stop. stop ≡ Stop.TooMany → 2 ^ 31 ≤ length (S.put sink.new)) }
+    ensures many { IfErr result (λ stop. stop ≡ Stop.TooMany → 2 ^ 30 ≤ length (S.put sink.new)) }
     ensures entry { IfOk result (λ entry. IsEntry (IsAnswer A.width A.padding (key_networks A.value keys.now)) steps block (S.put sink.old) entry (S.put sink.new)) }
 {
     let shift = 6 * steps;
     *near = last_upto(starts, *near, block << shift);
     if is_whole(starts, *near, shift, block) {
         return Ok(answers[*near]);
+    }
+    if let Some(count) = changes_in(keys, starts, answers, steps, block, *near) {
+        return put_listed(keys, starts, answers, sink, steps, block, *near, count);
     }
     let first = block * PARTS as u128;
     let mut entries = [0; PARTS];
@@ -121,11 +129,81 @@ pub(crate) fn entry_of<A: Address, S: Sink>(
         part += 1;
     }
     let place = sink.len();
-    if place >= PLACE as usize {
+    if place >= MOST_WORDS {
         return Err(Stop::TooMany);
     }
     put_node(&entries, sink)?;
-    Ok(PLACE + place as u32)
+    Ok(PLACE + 2 * place as u32)
+}
+
+/// How many changes the list of a block has, or `None` where it has no list. `range` is the last that begins at most with
+/// the first number, and another begins behind it. The rest is as in `entry_of`.
+fn changes_in<A: Address>(
+    keys: &[Key<A>],
+    starts: &[A],
+    answers: &[u32],
+    steps: u32,
+    block: u128,
+    range: usize,
+) -> Option<usize>
+    requires keys { AreAscendingNetworks A.width (key_networks A.value keys.now) }
+    requires ranges { AreMatchRanges A.width (key_networks A.value keys.now) (map A.value starts.now) answers.now }
+    requires few { length keys.now < 2 ^ 31 }
+    requires wide { A.width + A.padding ≤ 128 }
+    requires steps { 6 * steps < A.width + A.padding }
+    requires block { (block + 1) * 2 ^ (6 * steps) ≤ 2 ^ (A.width + A.padding) }
+    requires more { range + 1 < length starts.now }
+    requires upto { slice_index_or (map A.value starts.now) range 0 * 2 ^ A.padding ≤ block * 2 ^ (6 * steps) }
+    requires next { block * 2 ^ (6 * steps) < slice_index_or (map A.value starts.now) (range + 1) 0 * 2 ^ A.padding }
+    requires inner { slice_index_or (map A.value starts.now) (range + 1) 0 * 2 ^ A.padding / 2 ^ (6 * steps) ≤ block }
+    ensures some { IfSome result (λ count. (range + count < length starts.now) × HasList (IsAnswer A.width A.padding (key_networks A.value keys.now)) steps block
+        (slice_index_or answers.now range 0) (changes_from A.padding (map A.value starts.now) answers.now (range + 1) count)) }
+    ensures none { IfNone result (¬ ((value : ℕ) × (changes : List (ℕ × ℕ)) × HasList (IsAnswer A.width A.padding (key_networks A.value keys.now)) steps block value changes)) }
+{
+    let shift = 6 * steps;
+    let mut count = 0;
+    while !is_whole(starts, range + count, shift, block) {
+        count += 1;
+        if count > MOST_CHANGES {
+            return None;
+        }
+        if start_of(starts, range + count) % (1 << 64) != 0 {
+            return None;
+        }
+    }
+    Some(count)
+}
+
+/// Puts the list of a block, and returns its entry. It has the changes to so many ranges behind `range`.
+fn put_listed<A: Address, S: Sink>(
+    keys: &[Key<A>],
+    starts: &[A],
+    answers: &[u32],
+    sink: &mut S,
+    steps: u32,
+    block: u128,
+    range: usize,
+    count: usize,
+) -> Result<u32, Stop>
+    requires keys { AreAscendingNetworks A.width (key_networks A.value keys.now) }
+    requires some { 0 < steps }
+    requires both { length answers.now ≡ length starts.now }
+    requires within { range + count < length starts.now }
+    requires list { HasList (IsAnswer A.width A.padding (key_networks A.value keys.now)) steps block
+        (slice_index_or answers.now range 0) (changes_from A.padding (map A.value starts.now) answers.now (range + 1) count) }
+    ensures kept { S.given sink.new ≡ S.given sink.old }
+    ensures stopped { OnErr result ((entry : ℕ) (after : List ℕ)
+        → IsEntry (IsAnswer A.width A.padding (key_networks A.value keys.now)) steps block (S.put sink.old) entry after
+        → StopsBefore (S.put sink.new) (S.refuses sink.new) after) }
+    ensures many { IfErr result (λ stop. stop ≡ Stop.TooMany → 2 ^ 30 ≤ length (S.put sink.new)) }
+    ensures entry { IfOk result (λ entry. IsEntry (IsAnswer A.width A.padding (key_networks A.value keys.now)) steps block (S.put sink.old) entry (S.put sink.new)) }
+{
+    let place = sink.len();
+    if place >= MOST_WORDS {
+        return Err(Stop::TooMany);
+    }
+    put_list(starts, answers, range, count, sink)?;
+    Ok(PLACE + 2 * place as u32 + 1)
 }
 
 /// Puts the values of parts from one on, up to the first in which a range begins, which is returned, or the number of parts.

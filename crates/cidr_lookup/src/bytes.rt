@@ -1,11 +1,11 @@
 //! Words and addresses as bytes, as files have them: of each number the lowest byte first.
-ghost use Rattle.std.specs.Prelude.{map};
-ghost use Rattle.std.specs.Int.{from_le_bytes, w32};
+ghost use Rattle.std.specs.Prelude.{◌≡◌, ◌+◌, ◌*◌, ◌^◌, [], map, slice_index_or};
+ghost use Rattle.std.specs.Int.{from_le_bytes, w32, w64};
 ghost use Rattle.cidr_lookup.specs.Tables.{ipv4_steps, ipv6_steps};
 
 use crate::address::Address;
+use crate::halves::Halves;
 use crate::words::Words;
-use cidr_arrays::{Halves, Word};
 
 impl Words for &[[u8; 4]] {
     ghost words = { λ slice. map (from_le_bytes w32) slice.now };
@@ -23,10 +23,30 @@ impl Words for &[[u8; 4]] {
     }
 }
 
+/// The four bytes of a `u32`, the lowest first.
 impl Address for [u8; 4] {
+    ghost value = { λ bytes. from_le_bytes w32 bytes };
+
+    ghost width = { 32 };
+
     ghost padding = { 4 };
 
     ghost steps = { ipv4_steps };
+
+    #[inline(always)]
+    fn number(self) -> u128 {
+        u32::from_le_bytes(self).number()
+    }
+
+    #[inline(always)]
+    fn of(number: u128) -> [u8; 4] {
+        (number as u32).to_le_bytes()
+    }
+
+    #[inline(always)]
+    fn width() -> u32 {
+        u32::width()
+    }
 
     #[inline(always)]
     fn padded(self) -> u128 {
@@ -51,16 +71,42 @@ impl Address for [u8; 4] {
     fn digit(self, shift: u32) -> u32 {
         u32::from_le_bytes(self).digit(shift)
     }
+
+    #[inline(always)]
+    fn upper(self) -> u64 {
+        u32::from_le_bytes(self).upper()
+    }
 }
 
+/// The bytes of [`Halves`]: those of the higher half and those of the lower one, of each the lowest first.
 impl Address for [[u8; 8]; 2] {
+    ghost value = { λ bytes. from_le_bytes w64 (slice_index_or bytes 0 []) * 2 ^ 64 + from_le_bytes w64 (slice_index_or bytes 1 []) };
+
+    ghost width = { 128 };
+
     ghost padding = { 0 };
 
     ghost steps = { ipv6_steps };
 
     #[inline(always)]
+    fn number(self) -> u128 {
+        halves(self).number()
+    }
+
+    #[inline(always)]
+    fn of(number: u128) -> [[u8; 8]; 2] {
+        let halves = Halves::of(number);
+        [halves.high.to_le_bytes(), halves.low.to_le_bytes()]
+    }
+
+    #[inline(always)]
+    fn width() -> u32 {
+        Halves::width()
+    }
+
+    #[inline(always)]
     fn padded(self) -> u128 {
-        self.number()
+        halves(self).padded()
     }
 
     #[inline(always)]
@@ -74,14 +120,28 @@ impl Address for [[u8; 8]; 2] {
 
     #[inline(always)]
     fn block(self, shift: u32) -> usize {
-        match self.part(shift) {
-            Some(part) => part,
-            None => unreachable!(),
-        }
+        halves(self).block(shift)
     }
 
     #[inline(always)]
     fn digit(self, shift: u32) -> u32 {
-        ((self.number() >> shift) % 64) as u32
+        halves(self).digit(shift)
+    }
+
+    #[inline(always)]
+    fn upper(self) -> u64 {
+        halves(self).upper()
+    }
+}
+
+/// The number that the bytes are.
+#[inline(always)]
+fn halves(bytes: [[u8; 8]; 2]) -> Halves
+    ensures high { result.high ≡ from_le_bytes w64 (slice_index_or bytes 0 []) }
+    ensures low { result.low ≡ from_le_bytes w64 (slice_index_or bytes 1 []) }
+{
+    Halves {
+        high: u64::from_le_bytes(bytes[0]),
+        low: u64::from_le_bytes(bytes[1]),
     }
 }

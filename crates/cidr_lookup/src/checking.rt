@@ -1,14 +1,15 @@
 //! Whether words are the look-up table of keys.
 ghost use Rattle.std.specs.Prelude.{◌≡◌, ◌+◌, ◌*◌, ◌^◌, ◌<◌, ◌≤◌, ◌↔◌, length, IfOk, IfErr, IsTrue};
-ghost use Rattle.cidr_arrays.specs.Arrays.{key_networks};
+ghost use Rattle.cidr_lookup.specs.Keys.{key_networks};
 ghost use Rattle.cidr_lookup.specs.Faults.{IsFault};
 ghost use Rattle.cidr_lookup.specs.Tables.{IsLookupTable};
 
 use crate::address::Address;
 use crate::building::put_table;
-use crate::table::{TableError, ranges_of};
+use crate::key::Key;
+use crate::ranges::ranges_of;
+use crate::table::TableError;
 use crate::words::{Compared, Sink, Stopped, Words};
-use cidr_arrays::Key;
 use std::alloc::Global;
 use std::error::Error;
 use std::fmt;
@@ -18,14 +19,14 @@ use std::fmt;
 pub enum Fault {
     /// So many steps leave no first bits, or more than 32: `no such number of steps`.
     Steps,
-    /// One of the two arrays has more words than a table may have: `more than 2147483647 words`.
+    /// One of the two arrays has more words than a table may have: `more than 1073741823 words`.
     TooLong,
     /// The keys have no table, or an allocation failed: the error's own message.
     Keys(TableError),
     /// The entry at this index, counted from 0, is another than in the table of the keys, or one of the two has fewer: the
     /// first such entry. `not of the keys: entry 2`.
     First(usize),
-    /// The same of the words of the nodes: `not of the keys: word 2`.
+    /// The same of the words of nodes and lists: `not of the keys: word 2`.
     Word(usize),
 }
 
@@ -38,7 +39,7 @@ impl fmt::Display for Fault {
     fn fmt<W: fmt::Write>(&self, f: &mut fmt::Formatter<W>) -> fmt::Result {
         match self {
             Fault::Steps => f.write_str("no such number of steps"),
-            Fault::TooLong => f.write_str("more than 2147483647 words"),
+            Fault::TooLong => f.write_str("more than 1073741823 words"),
             Fault::Keys(error) => fmt::Display::fmt(error, f),
             Fault::First(place) => write!(f, "not of the keys: entry {place}"),
             Fault::Word(place) => write!(f, "not of the keys: word {place}"),
@@ -71,10 +72,10 @@ pub fn check<A: Address, T: Words>(
     if !are_steps::<A>(steps) {
         return Err(Fault::Steps);
     }
-    if first.len() >= 1 << 31 {
+    if first.len() >= 1 << 30 {
         return Err(Fault::TooLong);
     }
-    if words.len() >= 1 << 31 {
+    if words.len() >= 1 << 30 {
         return Err(Fault::TooLong);
     }
     let ranges = match ranges_of(alloc, keys) {

@@ -3,15 +3,16 @@ ghost use Rattle.std.specs.Prelude.{◌≡◌, ℕ, ◌<◌, ◌≤◌, IfErr, I
 ghost use Rattle.std.specs.List.Sorted.{IsStrictlySortedBy};
 ghost use Rattle.std.specs.Map.{keys_of};
 ghost use Rattle.cidr.specs.model.Network.{first_of};
-ghost use Rattle.cidr_arrays.specs.Arrays.{key_networks};
+ghost use Rattle.cidr_lookup.specs.Keys.{key_networks};
 ghost use Rattle.cidr_table.specs.model.Prefixes.{IsLongestAt, IsLongestMatch, IsLookedUp};
 ghost use Rattle.cidr_lookup.specs.Rows.{IsCountRefused, numbered_rows};
 ghost use Rattle.cidr_lookup.specs.Tables.{IsLookupTable};
 
+use crate::address::Address;
+use crate::key::Key;
 use crate::keyed::Keyed;
 use crate::search::find;
 use crate::table::{LookupTable, TableError, build};
-use cidr_arrays::{Key, Word};
 use cidr_table::{LpmTable, longest_match};
 use std::alloc::{AllocError, Global};
 use std::marker::Model;
@@ -41,11 +42,11 @@ impl<C: Keyed, V> Model for ReadyTable<C, V> {
 }
 
 impl<C: Keyed, V> ReadyTable<C, V> {
-    /// The table, made ready: O(n) for n rows, some 100 ns a row of 900,000 of IPv4, and 1 to 2 µs of IPv6. While it runs
-    /// it allocates 24 bytes a row of IPv4, or 64 of IPv6, besides the look-up table.
+    /// The table, made ready: O(n) for n rows, some 100 ns a row. While it runs it allocates 24 bytes a row of IPv4, or 64 of
+    /// IPv6, besides the look-up table.
     ///
-    /// The error comes with the table as it was: more than 2,147,483,647 rows, or words of its look-up table, or that an
-    /// allocation failed. It is never `Refused`.
+    /// The error comes with the table as it was: more than 2,147,483,647 rows; or else more than 1,073,741,823 words of its
+    /// look-up table, or that an allocation failed. It is never `Refused`.
     ///
     /// ```
     /// let ready = ReadyTable::new(rt.alloc(), routes).map_err(|refused| refused.1)?;
@@ -78,7 +79,7 @@ impl<C: Keyed, V> ReadyTable<C, V> {
     pub fn find(&self, asked: &C) -> Option<usize>
         ensures { IsLongestMatch C.bits (C.bits asked.now) (keys_of self.now.rows) result }
     {
-        let key = asked.key();
+        let key = Key::<C::Number>::of(asked);
         let first = self.words.first.as_slice();
         let words = self.words.words.as_slice();
         let place = find(&first, &words, self.words.steps, key.address)?;
@@ -187,8 +188,7 @@ fn keys_of_rows<C: Keyed, V>(
 {
     let mut keys = Vec::with_capacity(alloc, rows.len())?;
     for row in rows {
-        let key = row.0.key();
-        keys.push(key)?;
+        keys.push(Key::of(&row.0))?;
     }
     Ok(keys)
 }

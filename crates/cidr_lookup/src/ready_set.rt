@@ -35,8 +35,8 @@ impl<C: Keyed> ReadySet<C> {
     /// Networks in any order, made ready: they are copied and, where they don't ascend, sorted; then in the time and memory
     /// of [`ReadyTable::new`](crate::ReadyTable::new).
     ///
-    /// The error is that there are more than 2,147,483,647 networks; or else that many words of the look-up table, or that
-    /// an allocation failed. It is never `Refused`.
+    /// The error is that there are more than 2,147,483,647 networks; or else more than 1,073,741,823 words of the look-up
+    /// table, or that an allocation failed. It is never `Refused`.
     ///
     /// ```
     /// let ready = ReadySet::new(rt.alloc(), &blocked)?;

@@ -1,14 +1,16 @@
 //! The longest match of an address.
-ghost use Rattle.std.specs.Prelude.{◌≡◌, ℕ, ◌*◌, ◌^◌, List};
+ghost use Rattle.std.specs.Prelude.{◌≡◌, ℕ, ◌+◌, ◌*◌, ◌^◌, ◌<◌, ◌≤◌, List, length};
 ghost use Rattle.cidr.specs.model.Bits.{bits};
 ghost use Rattle.cidr_table.specs.model.Prefixes.{IsLongestMatch};
-ghost use Rattle.cidr_arrays.specs.Arrays.{prefix_bits, row_of};
+ghost use Rattle.cidr_lookup.specs.Keys.{prefix_bits, row_of};
+ghost use Rattle.cidr_lookup.specs.Searching.{AreOrdered, AscendAt, IsListAt, IsValueAt, change_at};
 ghost use Rattle.cidr_lookup.specs.Tables.{IsAnswer, IsLookupTable};
 
 use crate::address::Address;
+use crate::list::MOST_CHANGES;
 use crate::words::Words;
 
-/// The least word that is the place of a node.
+/// The least entry that has a place.
 pub(crate) const PLACE: u32 = 1 << 31;
 
 /// How many steps an address of 128 bits may take.
@@ -75,7 +77,10 @@ fn value_of<A: Address, T: Words>(first: &T, words: &T, steps: u32, address: A) 
             return 0;
         }
         left -= 6;
-        let place = (entry - PLACE) as usize;
+        let place = ((entry - PLACE) / 2) as usize;
+        if entry % 2 == 1 {
+            return listed(words, place, address.upper());
+        }
         if place + 1 >= words.len() {
             return 0;
         }
@@ -88,4 +93,59 @@ fn value_of<A: Address, T: Words>(first: &T, words: &T, steps: u32, address: A) 
         entry = words.word(next);
     }
     entry
+}
+
+/// The value that the list at a place has for the numbers that begin so.
+#[inline(always)]
+fn listed<T: Words>(words: &T, place: usize, upper: u64) -> u32
+    requires { place < 2 ^ 31 }
+    ensures { (value : ℕ) (changes : List (ℕ × ℕ)) → IsListAt (T.words words.now) place value changes → length changes < 32
+        → AreOrdered changes → IsValueAt value changes upper result }
+{
+    if place >= words.len() {
+        return 0;
+    }
+    let count = words.word(place) as usize;
+    if count > MOST_CHANGES {
+        return 0;
+    }
+    let starts = place + 1;
+    let values = starts + 2 * count;
+    if values + count >= words.len() {
+        return 0;
+    }
+    words.word(values + upto(words, starts, count, upper))
+}
+
+/// How many of the changes of a list, which ascend, are at most a number.
+#[inline(always)]
+fn upto<T: Words>(words: &T, starts: usize, count: usize, number: u64) -> usize
+    requires words { starts + 2 * count ≤ length (T.words words.now) }
+    requires starts { starts ≤ 2 ^ 31 }
+    requires few { count < 32 }
+    ensures within { result ≤ count }
+    ensures before { AscendAt (T.words words.now) starts count → (i : ℕ) → i < result → change_at (T.words words.now) starts i ≤ number }
+    ensures behind { AscendAt (T.words words.now) starts count → (i : ℕ) → result ≤ i → i < count → number < change_at (T.words words.now) starts i }
+{
+    let mut found = 0;
+    let mut left = count;
+    while left > 0 {
+        let half = left - left / 2;
+        if change(words, starts, found + half - 1) <= number {
+            found += half;
+        }
+        left /= 2;
+    }
+    found
+}
+
+/// Where a change of a list is.
+#[inline(always)]
+fn change<T: Words>(words: &T, starts: usize, at: usize) -> u64
+    requires words { starts + 2 * at + 1 < length (T.words words.now) }
+    requires few { starts + 2 * at + 1 < 2 ^ 32 }
+    ensures { result ≡ change_at (T.words words.now) starts at }
+{
+    let low = starts + 2 * at;
+    u64::from(words.word(low + 1)) * (1 << 32) + u64::from(words.word(low))
 }

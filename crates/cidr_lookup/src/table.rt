@@ -1,12 +1,13 @@
 //! Look-up tables of keys.
-ghost use Rattle.std.specs.Prelude.{◌≡◌, ◌^◌, ◌<◌, ◌≤◌, length, map, IfOk, IfErr};
-ghost use Rattle.cidr_arrays.specs.Arrays.{AreAscendingNetworks, AreMatchRanges, key_networks};
-ghost use Rattle.cidr_lookup.specs.Tables.{AreKeysRefused, IsLookupTable, IsTableRefused};
+ghost use Rattle.std.specs.Prelude.{◌≡◌, ◌^◌, ◌<◌, ◌≤◌, length, IfOk, IfErr};
+ghost use Rattle.cidr_lookup.specs.Keys.{key_networks};
+ghost use Rattle.cidr_lookup.specs.Tables.{IsLookupTable, IsTableRefused};
 
 use crate::address::Address;
 use crate::building::put_table;
+use crate::key::Key;
+use crate::ranges::ranges_of;
 use crate::words::{Stop, Stopped};
-use cidr_arrays::{BuildError, Key};
 use std::alloc::Global;
 use std::error::Error;
 use std::fmt;
@@ -16,9 +17,9 @@ use std::fmt;
 pub struct LookupTable {
     /// The entries of the blocks of addresses that have the same first bits.
     pub first: Vec<u32>,
-    /// The nodes, each behind those that it leads to.
+    /// The nodes, each behind what it leads to, and the lists.
     pub words: Vec<u32>,
-    /// How many steps of six bits there are behind the first bits: 3 to 5 of IPv4, 18 to 20 of IPv6. The last step in
+    /// How many steps of six bits there are behind the first bits: 3 to 5 of IPv4, 19 or 20 of IPv6. The last step in
     /// IPv4 has two bits.
     pub steps: u32,
 }
@@ -31,7 +32,7 @@ pub enum TableError {
     /// The key at this index, counted from 0, is no network, or doesn't come after the one before it: the first such
     /// key. `no network, or out of order: key 2`.
     Refused(usize),
-    /// The table has more than 2,147,483,647 words: `more than 2147483647 words`.
+    /// The table has more than 1,073,741,823 words: `more than 1073741823 words`.
     TooLarge,
     /// An allocation failed: `out of memory`.
     NoMemory,
@@ -47,20 +48,13 @@ impl fmt::Display for TableError {
         match self {
             TableError::TooMany => f.write_str("more than 2147483647 keys"),
             TableError::Refused(place) => { write!(f, "no network, or out of order: key {place}") }
-            TableError::TooLarge => f.write_str("more than 2147483647 words"),
+            TableError::TooLarge => f.write_str("more than 1073741823 words"),
             TableError::NoMemory => f.write_str("out of memory"),
         }
     }
 }
 
 impl Error for TableError {}
-
-/// The ranges of keys.
-#[derive(Drop)]
-pub(crate) struct Ranges<A> {
-    pub(crate) starts: Vec<A>,
-    pub(crate) answers: Vec<u32>,
-}
 
 /// The look-up table of keys that ascend by their first addresses and then by their lengths, and of which none repeats. Keys
 /// have one table alone. Values stand beside the keys: [`find`](crate::find) gives the index of a key.
@@ -78,7 +72,7 @@ pub fn build<A: Address>(alloc: Global, keys: &[Key<A>]) -> Result<LookupTable, 
     ensures steps { IfOk result (λ table. table.steps ≡ A.steps (length keys.now)) }
     ensures few { IfOk result (λ _. length keys.now < 2 ^ 31) }
     ensures entries { IfOk result (λ table. length table.first.items ≤ 2 ^ 20) }
-    ensures words { IfOk result (λ table. length table.words.items < 2 ^ 31) }
+    ensures words { IfOk result (λ table. length table.words.items < 2 ^ 30) }
     ensures refused { IfErr result (IsTableRefused A.width A.padding (A.steps (length keys.now)) (key_networks A.value keys.now)) }
 {
     let ranges = ranges_of(alloc, keys)?;
@@ -89,7 +83,7 @@ pub fn build<A: Address>(alloc: Global, keys: &[Key<A>]) -> Result<LookupTable, 
     let answers = ranges.answers.as_slice();
     match put_table(keys, starts, answers, &mut first, &mut words, steps) {
         Ok(()) => {
-            if words.len() >= 1 << 31 {
+            if words.len() >= 1 << 30 {
                 return Err(TableError::TooLarge);
             }
             first.shrink_to_fit();
@@ -102,34 +96,5 @@ pub fn build<A: Address>(alloc: Global, keys: &[Key<A>]) -> Result<LookupTable, 
         }
         Err(Stopped::Words(Stop::TooMany)) => Err(TableError::TooLarge),
         Err(_) => Err(TableError::NoMemory),
-    }
-}
-
-/// The ranges of keys that ascend.
-pub(crate) fn ranges_of<A: Address>(alloc: Global, keys: &[Key<A>]) -> Result<Ranges<A>, TableError>
-    ensures few { IfOk result (λ _. length keys.now < 2 ^ 31) }
-    ensures keys { IfOk result (λ _. AreAscendingNetworks A.width (key_networks A.value keys.now)) }
-    ensures ranges { IfOk result (λ ranges. AreMatchRanges A.width (key_networks A.value keys.now) (map A.value ranges.starts.items) ranges.answers.items) }
-    ensures refused { IfErr result (AreKeysRefused A.width (key_networks A.value keys.now)) }
-{
-    if keys.len() >= 1 << 31 {
-        return Err(TableError::TooMany);
-    }
-    let most = 2 * keys.len() + 1;
-    let Ok(mut starts) = vec![in alloc; A::of(0); most] else {
-        return Err(TableError::NoMemory);
-    };
-    let Ok(mut answers) = vec![in alloc; 0; most] else {
-        return Err(TableError::NoMemory);
-    };
-    match cidr_arrays::build(keys, starts.as_mut_slice(), answers.as_mut_slice()) {
-        Ok(count) => {
-            starts.truncate(count);
-            answers.truncate(count);
-            Ok(Ranges { starts, answers })
-        }
-        Err(BuildError::TooMany) => Err(TableError::TooMany),
-        Err(BuildError::Refused(place)) => Err(TableError::Refused(place)),
-        Err(BuildError::NoRoom) => unreachable!(),
     }
 }

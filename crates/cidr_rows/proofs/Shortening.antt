@@ -9,12 +9,12 @@ use Rattle.std.specs.declared.cmp.Ordering.{Ordering}
 use Rattle.cidr.specs.model.Bits.{bit_cmp}
 use Rattle.cidr.specs.model.BitString.{IsSharedLength}
 use Rattle.cidr.specs.model.Network.{BeginsWith}
-use Rattle.cidr_table.specs.internal.Above.{IsReached}
+use Rattle.cidr_table.specs.internal.Reached.{IsReached}
 use Rattle.cidr_table.specs.internal.Places.{IsAt, BelongsAt}
 use Rattle.cidr_table.specs.model.Prefixes.{IsLongestAt}
 use Rattle.cidr_table.proofs.Beginnings.{bits_exact, begins_length}
 use Rattle.cidr_table.proofs.Halves.{begins_itself, begins_begins}
-use Rattle.cidr_table.proofs.Links.{reached_gap}
+use Rattle.cidr_table.proofs.Reached.{reached_gap}
 
 -- a list that is shared whole
 pub whole : (a p : List Bool) (n : ℕ) → n ≡ length p → IsSharedLength a p n → BeginsWith a p

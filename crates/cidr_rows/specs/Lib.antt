@@ -1,1 +1,3 @@
--- nothing
+pub mod Around
+pub mod Between
+pub mod Moved

@@ -1,10 +1,12 @@
-//! The searches of a table over rows that the caller keeps, as in an array: where a network stands or belongs, and its longest
-//! match. They ask nothing of the order of the keys: where these ascend, each once, the answers are those of a table, and
-//! elsewhere indexes that there are.
+//! The searches of a table over rows that the caller keeps, as in an array: where a network stands or belongs, its longest
+//! match, all networks that it is in, and those that are in it. They ask nothing of the order of the keys: where these ascend,
+//! each once, the answers are those of a table, and elsewhere indexes that there are. And a row is put in, or taken out.
 #![tactic(auto)]
 
 mod keys;
+mod moving;
 mod search;
 
 pub use keys::Keys;
-pub use search::{covered, find, longest};
+pub use moving::{insert, remove};
+pub use search::{covered, covering, find, longest};

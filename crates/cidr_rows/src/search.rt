@@ -1,10 +1,12 @@
 //! The searches.
-ghost use Rattle.std.specs.Prelude.{◌↔◌, ◌<◌, ◌≤◌, ℕ, length, map, slice_index_or, IfSome, MatchResult};
+ghost use Rattle.std.specs.Prelude.{◌≡◌, ◌↔◌, ◌+◌, ◌<◌, ◌≤◌, ◌^◌, ℕ, length, map, slice_index_or, slice_set, IfSome, MatchResult};
 ghost use Rattle.std.specs.List.Sorted.{IsStrictlySortedBy};
 ghost use Rattle.cidr.specs.model.Bits.{bit_cmp};
 ghost use Rattle.cidr.specs.model.Network.{BeginsWith};
 ghost use Rattle.cidr_table.specs.internal.Places.{IsLowerBound, IsPlace};
 ghost use Rattle.cidr_table.specs.model.Prefixes.{IsLongestMatch};
+ghost use Rattle.cidr_rows.specs.Around.{AreCoveringPut};
+ghost use Rattle.cidr_rows.specs.Between.{IsBetween};
 
 use crate::keys::Keys;
 use cidr::{BitString, NetworkBits};
@@ -26,6 +28,38 @@ pub fn longest<C: NetworkBits + Copy, K: Keys<C>>(rows: &K, asked: &C) -> Option
         → IsLongestMatch C.bits (C.bits asked.now) (K.keys rows.now) result }
 {
     longest_key(rows, asked)
+}
+
+/// The indexes of all networks that the look-up key is in, ascending, and so the shortest network first: at the beginning of
+/// `out`, as many as it has room for; what is behind them there stays. Returns how many they are, at most one more than the
+/// look-up key has bits.
+pub fn covering<C: NetworkBits + Copy, K: Keys<C>>(rows: &K, asked: &C, out: &mut [usize]) -> usize
+    ensures { AreCoveringPut C.bits (C.bits asked.now) (K.keys rows.now) out.old out.new result }
+{
+    let Some(place) = longest_key(rows, asked) else {
+        return 0;
+    };
+    let len = rows.key(place).len().min(asked.len());
+    if len == 0 {
+        return put(out, 0, place);
+    }
+    // The others are shorter.
+    let mut shorter = *asked;
+    shorter.clip(len - 1);
+    let count = covering(rows, &shorter, out);
+    put(out, count, place)
+}
+
+/// Writes an index at a place, if there is room for it, and returns the next place.
+fn put(out: &mut [usize], place: usize, index: usize) -> usize
+    requires { place < 2 ^ 32 }
+    ensures next { result ≡ place + 1 }
+    ensures put { out.new ≡ slice_set out.old place index }
+{
+    if place < out.len() {
+        out[place] = index;
+    }
+    place + 1
 }
 
 /// Which networks are in the outer one, that may be one of them: those from the first index on and before the second.
@@ -64,8 +98,48 @@ fn place_of<C: Ord + Copy, K: Keys<C>>(rows: &K, key: &C, end: usize) -> Result<
     ensures within { MatchResult result (λ i. i < end) (λ i. i ≤ end) }
     ensures place { IsStrictlySortedBy C.cmp (K.keys rows.now) → IsPlace C.cmp (K.keys rows.now) key.now end result }
 {
-    let mut low = 0;
-    let mut left = end;
+    place_between(rows, key, 0, end, end)
+}
+
+/// The same, sought from the end on: the nearer to it the key belongs, the fewer comparisons that takes.
+fn place_back<C: Ord + Copy, K: Keys<C>>(rows: &K, key: &C, end: usize) -> Result<usize, usize>
+    requires { end ≤ length (K.keys rows.now) }
+    ensures within { MatchResult result (λ i. i < end) (λ i. i ≤ end) }
+    ensures place { IsStrictlySortedBy C.cmp (K.keys rows.now) → IsPlace C.cmp (K.keys rows.now) key.now end result }
+{
+    // The key belongs before those from `upto` on.
+    let mut upto = end;
+    let mut step = 1;
+    while step <= upto {
+        let mid = upto - step;
+        let order = rows.key(mid).cmp(key);
+        if order.is_lt() {
+            return place_between(rows, key, mid + 1, step - 1, end);
+        }
+        if order.is_eq() {
+            return Ok(mid);
+        }
+        upto = mid;
+        step += step.min(mid);
+    }
+    place_between(rows, key, 0, upto, end)
+}
+
+/// Where a key stands among the first `end`, or the index before which it would, that is among the `left` ones from `low` on or
+/// behind these: those before are less, and those behind greater.
+fn place_between<C: Ord + Copy, K: Keys<C>>(
+    rows: &K,
+    key: &C,
+    mut low: usize,
+    mut left: usize,
+    end: usize,
+) -> Result<usize, usize>
+    requires end { end ≤ length (K.keys rows.now) }
+    requires left { low + left ≤ end }
+    ensures within { MatchResult result (λ i. i < end) (λ i. i ≤ end) }
+    ensures place { IsStrictlySortedBy C.cmp (K.keys rows.now) → IsBetween C.cmp (K.keys rows.now) key.now low (low + left) end
+        → IsPlace C.cmp (K.keys rows.now) key.now end result }
+{
     let mut found = false;
     while left > 0 {
         let half = left / 2;
@@ -80,6 +154,19 @@ fn place_of<C: Ord + Copy, K: Keys<C>>(rows: &K, key: &C, end: usize) -> Result<
     if found { Ok(low) } else { Err(low) }
 }
 
+/// The place of a key among the first `end`, which are all, or else most likely end not far behind it.
+fn seek<C: Ord + Copy, K: Keys<C>>(rows: &K, key: &C, end: usize) -> Result<usize, usize>
+    requires { end ≤ length (K.keys rows.now) }
+    ensures within { MatchResult result (λ i. i < end) (λ i. i ≤ end) }
+    ensures place { IsStrictlySortedBy C.cmp (K.keys rows.now) → IsPlace C.cmp (K.keys rows.now) key.now end result }
+{
+    if end == rows.len() {
+        place_of(rows, key, end)
+    } else {
+        place_back(rows, key, end)
+    }
+}
+
 /// The index of the longest key that begins the look-up key, or `None` where none does.
 fn longest_key<C: NetworkBits + Copy, K: Keys<C>>(rows: &K, asked: &C) -> Option<usize>
     ensures within { IfSome result (λ i. i < length (K.keys rows.now)) }
@@ -90,7 +177,7 @@ fn longest_key<C: NetworkBits + Copy, K: Keys<C>>(rows: &K, asked: &C) -> Option
     let mut sought = *asked;
     let mut end = rows.len();
     while end > 0 {
-        match place_of(rows, &sought, end) {
+        match seek(rows, &sought, end) {
             Ok(place) => return Some(place),
             Err(0) => return None,
             Err(place) => {

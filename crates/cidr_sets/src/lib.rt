@@ -31,4 +31,4 @@ pub use pools::PoolNetwork;
 pub use probe::{NetworkProbe, Networks, contains};
 pub use ranges::{AddressRange, Addressed, Ranges};
 pub use set::NetworkSet;
-pub use walk::{AddressSpace, SetAddresses};
+pub use walk::SetAddresses;

@@ -11,7 +11,7 @@ pub mod Writes
 pub mod InTurn
 pub mod Printed
 pub mod Insides
-pub mod Links
+pub mod Reached
 pub mod Matching
 pub mod PrefixLists
 pub mod Merging

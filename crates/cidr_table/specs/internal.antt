@@ -1,6 +1,6 @@
 -- What private functions promise each other.
 pub mod Places
-pub mod Above
+pub mod Reached
 pub mod Sorting
 pub mod LentRows
 pub mod CoverStack

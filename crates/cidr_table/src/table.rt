@@ -20,11 +20,10 @@ mod clones;
 pub mod cover;
 mod debug;
 mod from_rows;
-mod hints;
 pub mod iterators;
 mod lends;
 pub mod load;
-pub mod lookups;
+mod lookups;
 mod map_calls;
 pub mod matches;
 

@@ -1,5 +1,5 @@
 //! Parts of small programs, written by the public calls of `cidr`, `cidr_table`, `cidr_forwarding`, `cidr_lookup`,
-//! `cidr_arrays`, `cidr_sets` and `cidr_ext` only and proved from their public contracts only.
+//! `cidr_sets` and `cidr_ext` only and proved from their public contracts only.
 #![tactic(auto)]
 
 pub mod access_list;
@@ -8,7 +8,6 @@ pub mod address_plan;
 pub mod address_pool;
 pub mod address_sets;
 pub mod aggregate;
-pub mod arrays;
 pub mod at_one_family;
 pub mod compact;
 pub mod config_line;

@@ -1,12 +1,11 @@
 //! Look-ups in tables of words, that were built or checked.
-ghost use Rattle.std.specs.Prelude.{◌+◌, ◌*◌, ◌^◌, IfOk};
+ghost use Rattle.std.specs.Prelude.{◌≡◌, ◌+◌, ◌*◌, ◌^◌, IfErr, IfOk};
 ghost use Rattle.cidr.specs.model.Bits.{bits};
 ghost use Rattle.cidr_table.specs.model.Prefixes.{IsLongestMatch};
-ghost use Rattle.cidr_arrays.specs.Arrays.{prefix_bits, key_networks};
+ghost use Rattle.cidr_lookup.specs.Keys.{prefix_bits, key_networks};
 
 use cidr::{Ipv4Addr, Ipv6Addr};
-use cidr_arrays::{Halves, Key, Word};
-use cidr_lookup::{Fault, TableError, build, check, find};
+use cidr_lookup::{Address, Fault, Halves, Key, TableError, build, check, find};
 use std::alloc::Global;
 
 /// The index of the longest of the keys that have an address, by a table that it builds.
@@ -51,4 +50,14 @@ pub fn checked_match(
 {
     check(alloc, keys, &first, &words, steps)?;
     Ok(find(&first, &words, steps, address.to_bits()))
+}
+
+/// What `check` says of a table that was built: it accepts it, or an allocation failed.
+pub fn built_is_accepted(alloc: Global, keys: &[Key<u32>]) -> Result<Result<(), Fault>, TableError>
+    ensures { IfOk result (λ checked. IfErr checked (λ fault. fault ≡ Fault.Keys TableError.NoMemory)) }
+{
+    let table = build(alloc, keys)?;
+    let first = table.first.as_slice();
+    let words = table.words.as_slice();
+    Ok(check(alloc, keys, &first, &words, table.steps))
 }

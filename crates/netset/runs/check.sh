@@ -1567,9 +1567,9 @@ kept() {
 rows_of_compiled_tables() {
     local none row same=$': the same file as TABLE\n'
     # no row: entries of 64 blocks of IPv4 and 256 of IPv6, and the one offset of each family
-    none=$(le 0x44494389 2 0 0 0 64 0 5 0 0 0 256 0 20 0 0)$(zeros 66)$(zeros 258)
+    none=$(le 0x44494389 3 0 0 0 64 0 5 0 0 0 256 0 20 0 0)$(zeros 66)$(zeros 258)
     # 10.0.0.0/8 with the value x: the block of 8.0.0.0/6 has a node, whose parts 32 to 47 of 64 have the first row
-    row=$(le 0x44494389 2 0 0 1 64 5 5 1 0 0 256 0 20 0 0)$(le 0 0 0x80000000)$(zeros 61)$(le 0x80008000 0x80000000 0 1 0 0)
+    row=$(le 0x44494389 3 0 0 1 64 5 5 1 0 0 256 0 20 0 0)$(le 0 0 0x80000000)$(zeros 61)$(le 0x80008000 0x80000000 0 1 0 0)
     row+=$(le 0x0a000000 0)$(le 8 0)$(le 0 1)$(le 0x78 0)$(zeros 258)
     run 0 '' '' '' compile nothing compiled
     saved compiled "$none"
@@ -1765,7 +1765,7 @@ rows_of_a_full_disk() {
 # Files of look-ups in the place of TABLE and of LIST: the answers are those of the table that they were made of.
 rows_of_stored_tables() {
     local addresses found size at other=$': no lines, and no file of look-ups\n'
-    local old=$': a file of look-ups of version 1, which an older netset made: compile the table anew\n'
+    local old=$': a file of look-ups of an older version, which an older netset made: compile the table anew\n'
     addresses='10.2.0.1\n10.1.2.3 and more\r\n\n # 10.1.2.3\n192.0.2.7#\n192.0.2.8 ;\n2001:DB8:0::1\n\t::1'
     found=$'10.2.0.1 10.0.0.0/8 ten\n10.1.2.3 10.1.0.0/16 x  y \t; z\n192.0.2.7 192.0.2.7\n192.0.2.8 -\n2001:db8::1 2001:db8::/32 \xff#\n::1 ::/0 all\n'
     run 0 '' '' '' compile owners compiled
@@ -1782,7 +1782,7 @@ rows_of_stored_tables() {
     run 1 $'10.0.0.1 -\n' '' '10.0.0.1' look none
     run 0 '' '' '10.0.0.0/8 x' compile - one
     run 1 $'11.0.0.0 -\n::1 -\n' '' '11.0.0.0\n::1' look one
-    # a file that was cut, that has bytes behind its end, that is of version 1 or another or was changed
+    # a file that was cut, that has bytes behind its end, that is of an older version or another or was changed
     size=$(wc -c <"$room/compiled")
     for at in 8 63 64 65 "$((size / 2))" "$((size - 1))"; do
         head -c "$at" "$room/compiled" >"$room/part"
@@ -1795,10 +1795,12 @@ rows_of_stored_tables() {
     run 2 '' "-$other" '\x89PNG\r\n' look - address
     { cat "$room/compiled" && printf '\0\0\0\0\0\0\0\0'; } >"$room/part"
     run 2 '' $'part: a file of look-ups with bytes behind its end\n' '' look part
-    with_byte 4 1
-    run 2 '' "part$old" '' look part
-    run 2 '' "part$old" '' match part
-    with_byte 4 3
+    for at in 1 2; do
+        with_byte 4 "$at"
+        run 2 '' "part$old" '' look part
+        run 2 '' "part$old" '' match part
+    done
+    with_byte 4 4
     run 2 '' $'part: a file of look-ups of another version\n' '' look part
     with_byte 64 1
     run 2 '' $'part: a file of look-ups that was changed\n' '' look part

@@ -11,14 +11,9 @@ use Rattle.cidr.specs.model.Network.{BeginsWith, HasWidth, first_of, zeros}
 use Rattle.cidr_table.specs.model.Prefixes.{IsLookedUp, IsValueLookedUp}
 use Rattle.cidr_forwarding.specs.Differences.{AreAnswers, AreDifferences}
 use Rattle.netset_commands.specs.Numbers.{AreAscending, number_in, numbered, value_in}
-use Rattle.cidr.specs.either.IpNetwork.{network_family, network_prefix}
-use Rattle.cidr.specs.declared.cidr.combined.IpCidr.{IpCidr}
-use Rattle.cidr.specs.model.Network.{width_of}
-use Rattle.cidr_lists.specs.Tables.{resolved}
-use Rattle.cidr_lists.specs.declared.rows.Span.{Span}
 use Rattle.std.proofs.Common.{Global, Vec, Result, Ok, Err, IfOk}
 use Rattle.std.specs.declared.alloc.AllocError.{AllocError}
-use Rattle.netset_commands.specs.Compared.{AreFound, AreListed, AreOfFamily, named, named_row}
+use Rattle.netset_commands.specs.Compared.{AreFound, named, named_row}
 use Rattle.cidr_forwarding.specs.Forwarding.{AreNetworksOf, in_bits}
 use Rattle.netset_commands.proofs.Numbering.{number_back}
 
@@ -167,10 +162,8 @@ in_bits_self (row ∷ rows) = ap (λ more. row ∷ more) (in_bits_self rows)
 -- the differences of the tables of a family
 pub family_differences : (values : List (List ℕ)) → AreAscending values → (these those : List (List Bool × List ℕ)) (listed : List (List Bool × (Option ℕ × Option ℕ)))
     → ((row : List Bool × List ℕ) → Contains these row → Contains values row.1) → ((row : List Bool × List ℕ) → Contains those row → Contains values row.1)
-    → AreListed (λ (p : List Bool). p) values these those listed → (w : ℕ) → w ≤ 129 → AreNetworksOf (λ (p : List Bool). p) w these
-    → AreNetworksOf (λ (p : List Bool). p) w those → AreDifferences these those (HasWidth w) (map (named_row values) listed)
-family_differences values up these those listed has has_too are w most fit fit_too =
-    let (d, fits) = are w most fit fit_too in
+    → (w : ℕ) → AreFound (λ (p : List Bool). p) w values these those listed → AreDifferences these those (HasWidth w) (map (named_row values) listed)
+family_differences values up these those listed has has_too w (d, fits) =
     let e = in_bits_self (numbered values these) in
     let e_too = in_bits_self (numbered values those) in
     let same : AreDifferences (numbered values these) (numbered values those) (HasWidth w) listed =
@@ -180,34 +173,17 @@ family_differences values up these those listed has has_too are w most fit fit_t
     same_differences values up these those has has_too (HasWidth w) listed same (λ row m. some_address w row.0 (fits row m))
 
 -- ---- what is found
-numbered_fit : {C : Type 0} (bits : C → List Bool) (values : List (List ℕ)) (w : ℕ) (rows : List (C × List ℕ)) → AreNetworksOf bits w rows
-    → AreNetworksOf bits w (numbered values rows)
-numbered_fit {C} bits values w rows fit row m =
-    let it = from_map (λ (r : C × List ℕ). (r.0, number_in values r.1)) rows row m in
-    subst (λ (r : C × ℕ). length (bits r.0) ≤ w) (sym it.2) (fit it.0 it.1)
-
-resolved_fit : {C : Type 0} (network : C → IpCidr) (all : List ℕ) (rows : List (C × Span)) → AreOfFamily network rows → AreOfFamily network (map (resolved all) rows)
-resolved_fit {C} network all rows fit row m =
-    let it = from_map (resolved {C = C} all) rows row m in
-    subst (λ (r : C × List ℕ). length (network_prefix (network r.0)) ≤ width_of (network_family (network r.0))) (sym it.2) (fit it.0 it.1)
-
 -- from what `differences` says of the tables of numbers
-pub are_found : {C : Type 0} (bits : C → List Bool) (network : C → IpCidr) (values : List (List ℕ)) (all all_too : List ℕ) (rows others : List (C × Span))
-    (one other : List (C × ℕ)) (r : Result (Vec (C × (Option ℕ × Option ℕ)) Global) AllocError) → AreOfFamily network rows → AreOfFamily network others
-    → one ≡ numbered values (map (resolved all) rows) → other ≡ numbered values (map (resolved all_too) others)
+pub are_found : {C : Type 0} (bits : C → List Bool) (w : ℕ) (values : List (List ℕ)) (these those : List (C × List ℕ)) (one other : List (C × ℕ))
+    (r : Result (Vec (C × (Option ℕ × Option ℕ)) Global) AllocError) → w ≤ 129 → AreNetworksOf bits w one → AreNetworksOf bits w other
+    → one ≡ numbered values these → other ≡ numbered values those
     → IfOk r (λ listed. (w : ℕ) → w ≤ 129 → AreNetworksOf bits w one → AreNetworksOf bits w other
     → AreDifferences (in_bits bits one) (in_bits bits other) (HasWidth w) (in_bits bits listed.items))
     → IfOk r (λ listed. (w : ℕ) → AreNetworksOf bits w one → AreNetworksOf bits w other → AreNetworksOf bits w listed.items)
-    → IfOk r (λ listed. AreFound bits network values (map (resolved all) rows) (map (resolved all_too) others) listed.items)
-are_found bits network values all all_too rows others one other (Err e) fit fit_too is is_too width kept = tt
-are_found bits network values all all_too rows others one other (Ok listed) fit fit_too is is_too width kept = (
-  resolved_fit network all rows fit,
-  resolved_fit network all_too others fit_too,
-  λ w most short short_too.
-      let first = subst (AreNetworksOf bits w) (sym is) (numbered_fit bits values w (map (resolved all) rows) short) in
-      let second = subst (AreNetworksOf bits w) (sym is_too) (numbered_fit bits values w (map (resolved all_too) others) short_too) in (
-        subst (λ l. AreDifferences (in_bits bits (numbered values (map (resolved all) rows))) (in_bits bits l) (HasWidth w) (in_bits bits listed.items)) is_too
-            (subst (λ l. AreDifferences (in_bits bits l) (in_bits bits other) (HasWidth w) (in_bits bits listed.items)) is (width w most first second)),
-        kept w first second,
-      ),
+    → IfOk r (λ listed. AreFound bits w values these those listed.items)
+are_found bits w values these those one other (Err e) most fit fit_too is is_too width kept = tt
+are_found bits w values these those one other (Ok listed) most fit fit_too is is_too width kept = (
+  subst (λ l. AreDifferences (in_bits bits (numbered values these)) (in_bits bits l) (HasWidth w) (in_bits bits listed.items)) is_too
+      (subst (λ l. AreDifferences (in_bits bits l) (in_bits bits other) (HasWidth w) (in_bits bits listed.items)) is (width w most fit fit_too)),
+  kept w fit fit_too,
 )

@@ -2,30 +2,22 @@
 use Rattle.std.proofs.Common.{◌≡◌, refl, sym, ◌∙◌, ap, ap₂, subst, arith, inl, inr, ℕ, ◌+◌, ◌-◌, ◌^◌, ◌<◌, ◌≤◌, Bool, List, [], ◌∷◌, ◌++◌, length, get_or, map, take, drop}
 use Rattle.std.specs.List.{slice_range}
 use Rattle.std.proofs.lemmas.Bool.{cases_eq}
-use Rattle.std.proofs.lemmas.List.{drop-append-le, drop_at, get_or-map, get_or_append_left, get_or_default, get_or_push, length-append, length-drop, length-map, length_push, map_more, map_push, take-append-le, take_all, take_at}
+use Rattle.std.proofs.lemmas.List.{drop-append-le, drop_at, get_or-map, get_or_append_left, get_or_default, get_or_push, length-append, length-drop, length-map, length_push, take-append-le, take_all}
 use Rattle.std.proofs.lemmas.List.Sums.{sum_by-take-le, sum_by_more}
-use Rattle.cidr.proofs.NetworkNumbers.{same_from_number}
-use Rattle.cidr.specs.laws.NetworkLaws.{length-first_of}
 use Rattle.cidr.specs.model.Bits.{number}
-use Rattle.cidr.specs.model.Network.{first_of, zeros}
-use Rattle.cidr_arrays.specs.Arrays.{key_networks, prefix_bits}
-use Rattle.cidr_arrays.specs.declared.key.Key.{Key}
+use Rattle.cidr.specs.model.Network.{first_of}
 use Rattle.cidr_files.specs.Contents.{HasRows}
 use Rattle.cidr_files.specs.Tables.{AreOffsets, stored_networks, value_in}
 use Rattle.cidr_files.specs.declared.contents.Rows.{Rows}
+use Rattle.cidr_lookup.proofs.Networks.{one_fits, one_more as one_key, own_bits}
+use Rattle.cidr_lookup.specs.Keys.{key_networks, prefix_bits}
+use Rattle.cidr_lookup.specs.Rows.{numbered, numbered_rows}
+use Rattle.cidr_lookup.specs.declared.key.Key.{Key}
 use Rattle.cidr_lists.specs.Tables.{value_at}
 use Rattle.cidr_lists.specs.declared.rows.Span.{Span}
-use Rattle.netset_commands.specs.Columns.{AreColumns, numbered_network, value_bytes}
+use Rattle.netset_commands.specs.Columns.{AreColumns, value_bytes}
 use Rattle.netset_commands.specs.Compiled.{HasTheRows}
 use Rattle.netset_commands.specs.declared.output.compiled.Columns.{Columns}
-
--- ---- networks
-module _ (w : ℕ) where
-  -- the bits of a network are the first bits of its first address
-  pub network_bits : (p : List Bool) → length p ≤ w → prefix_bits w (numbered_network w p) ≡ p
-  network_bits p fit =
-      ap (take (length p)) (same_from_number w (number (first_of w p)) (first_of w p) (length-first_of w p fit) refl)
-      ∙ take_at p (zeros (w - length p)) (length p) refl
 
 -- ---- values one behind the other
 range_before : (xs ys : List ℕ) (a b : ℕ) → a ≤ length xs → b ≤ length xs → slice_range (xs ++ ys) a b ≡ slice_range xs a b
@@ -40,7 +32,7 @@ range_behind xs ys a b from to =
 -- the first rows as columns
 pub record AreUpTo {C W : Type 0} (w : ℕ) (value : W → ℕ) (bits_of : C → List Bool) (all : List ℕ) (rows : List (C × Span)) (keys : List (Key W))
     (offsets values : List ℕ) (n : ℕ) : Type 0 where
-  pub networks : key_networks value keys ≡ map (λ (row : C × Span). numbered_network w (bits_of row.0)) (take n rows)
+  pub networks : key_networks value keys ≡ numbered_rows bits_of w (take n rows)
   pub fit : (any : C × Span) (i : ℕ) → i < n → length (bits_of (get_or rows i any).0) ≤ w
   pub places : AreOffsets offsets n (length values)
   pub each : (any : C × Span) (i : ℕ) → i < n → slice_range values (get_or offsets i 0) (get_or offsets (i + 1) 0) ≡ value_at all (get_or rows i any).1
@@ -104,28 +96,14 @@ module _ {C W : Type 0} (w : ℕ) (value : W → ℕ) (bits_of : C → List Bool
       → AreUpTo w value bits_of all rows (keys ++ key ∷ []) (offsets ++ length (values ++ added) ∷ []) (values ++ added) (n + 1)
   one_more keys offsets values n row key added l is addressed long short valued st =
       let end : ℕ = length (values ++ added) in
-      let pair : C × Span → ℕ × ℕ = λ r. numbered_network w (bits_of r.0) in
-      let make : ℕ → ℕ → ℕ × ℕ = λ a b. (a, b) in
-      let named : make (value key.address) key.len ≡ pair row = ap₂ make addressed long in
       let behind : (i : ℕ) → i < n + 1 → get_or (offsets ++ end ∷ []) i 0 ≡ get_or offsets i 0 =
       λ i l'. get_or_append_left offsets (end ∷ []) 0 i (omega (arith, st.places.many)) in
       let last : get_or (offsets ++ end ∷ []) (n + 1) 0 ≡ end = get_or_push offsets end 0 (n + 1) st.places.many in
       let within : (i : ℕ) → i < n + 1 → get_or offsets i 0 ≤ length values =
       λ i l'. omega (arith, st.places.ascending i n (omega arith) (omega arith), st.places.last) in
       record {
-        networks =
-            map_push (λ (k : Key W). (value k.address, k.len)) keys key
-            ∙ (ap₂ (λ (xs : List (ℕ × ℕ)) (x : ℕ × ℕ). xs ++ x ∷ []) st.networks
-            (named ∙ ap pair is)
-            ∙ sym (map_more pair rows n row l));
-        fit = λ any i l'. elim (cases_eq i n) [
-          | inl e ↦
-              let same : length (bits_of (get_or rows i any).0) ≡ length (bits_of row.0) =
-              ap (λ (j : ℕ). length (bits_of (get_or rows j any).0)) e
-              ∙ sym (ap (λ (r : C × Span). length (bits_of r.0)) (is ∙ get_or_default rows n row any l)) in
-              omega (arith, same, long, short)
-          | inr other ↦ st.fit any i (omega arith)
-        ];
+        networks = one_key w bits_of value rows keys (keys ++ key ∷ []) n row key refl l is addressed long st.networks;
+        fit = one_fits w bits_of rows n row l is (omega (arith, long, short)) st.fit;
         places = more_places offsets values added n st.places;
         each = λ any i l'. elim (cases_eq i n) [
           | inl e ↦
@@ -170,7 +148,7 @@ module _ {C W : Type 0} (w : ℕ) (value : W → ℕ) (bits_of : C → List Bool
       let same : n ≡ length rows = omega arith in
       let all_rows : take n rows ≡ rows = take_all n rows end in
       record {
-        networks = st.networks ∙ ap (map (λ (r : C × Span). numbered_network w (bits_of r.0))) all_rows;
+        networks = st.networks ∙ ap (numbered_rows bits_of w) all_rows;
         fit = λ any i l. st.fit any i (omega arith);
         offsets = subst (λ (k : ℕ). AreOffsets columns.offsets.items k (length columns.values.items)) same st.places;
         values = λ any i l. st.each any i (omega arith);
@@ -200,21 +178,21 @@ module _ {C W : Type 0} (w : ℕ) (value : W → ℕ) (bits_of : C → List Bool
     -- the bits of the networks
     said_networks : (rows : List (C × Span)) → ((any : C × Span) (i : ℕ) → i < length rows → length (bits_of (get_or rows i any).0) ≤ w)
         → (i : ℕ) → i < length (map said rows)
-        → prefix_bits w (get_or (map (λ (row : C × Span). numbered_network w (bits_of row.0)) rows) i (0, 0)) ≡ (get_or (map said rows) i ([], [])).0
+        → prefix_bits w (get_or (numbered_rows bits_of w rows) i (0, 0)) ≡ (get_or (map said rows) i ([], [])).0
     said_networks [] fit i l = absurd (omega (arith, l))
     said_networks (row ∷ rows) fit i l =
         let l' : i < length (row ∷ rows) = omega (arith, length-map (row ∷ rows) said) in
-        let pair : C × Span → ℕ × ℕ = λ r. numbered_network w (bits_of r.0) in
+        let pair : C × Span → ℕ × ℕ = λ r. numbered w (bits_of r.0) in
         ap (prefix_bits w) (get_or-map pair (row ∷ rows) i row (0, 0) l')
-        ∙ (network_bits w (bits_of (get_or (row ∷ rows) i row).0) (fit row i l')
+        ∙ (own_bits w (bits_of (get_or (row ∷ rows) i row).0) (fit row i l')
         ∙ sym (ap (λ (p : List Bool × List ℕ). p.0) (get_or-map said (row ∷ rows) i row ([], []) l')))
 
     pub has_the_rows : (rows : List (C × Span)) (columns : Columns W) (file : Rows W) → AreColumns w value bits_of all rows columns → file.keys.now ≡ columns.keys.items
         → file.offsets.now ≡ columns.offsets.items → file.values.now ≡ columns.values.items → HasRows numbers parts value file
         → HasTheRows w numbers parts (map said rows)
     has_the_rows rows columns file are keys offsets values has =
-        let pair : C × Span → ℕ × ℕ = λ r. numbered_network w (bits_of r.0) in
-        let networks : stored_networks numbers parts ≡ map pair rows = has.networks_are ∙ (ap (key_networks value) keys ∙ are.networks) in
+        let pair : C × Span → ℕ × ℕ = λ r. numbered w (bits_of r.0) in
+        let networks : stored_networks numbers parts ≡ numbered_rows bits_of w rows = has.networks_are ∙ (ap (key_networks value) keys ∙ are.networks) in
         record {
           many = ap length networks ∙ (length-map rows pair ∙ sym (length-map rows said));
           networks = λ i l. ap (λ (xs : List (ℕ × ℕ)). prefix_bits w (get_or xs i (0, 0))) networks ∙ said_networks rows are.fit i l;

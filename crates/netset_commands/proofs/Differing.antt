@@ -16,10 +16,10 @@ use Rattle.cidr_lists.specs.Changes.{sign_text}
 use Rattle.cidr_lists.specs.LookUps.{gap}
 use Rattle.cidr_lists.specs.Printing.{line}
 use Rattle.cidr_lists.specs.Lists.{Text}
-use Rattle.cidr_lists.specs.Tables.{kept}
+use Rattle.netset_commands.specs.Rows.{kept}
 use Rattle.cidr_lists.specs.declared.changes.Sign.TheVariants.{Plus, Minus}
 use Rattle.cidr_lists.specs.declared.forms.RowForm.{RowForm}
-use Rattle.cidr_lists.specs.declared.table.Table.{Table}
+use Rattle.netset_commands.specs.declared.input.tables.Table.{Table}
 use Rattle.netset_commands.proofs.Changed.{both_empty}
 use Rattle.cidr_table.proofs.MapLaws.{contains_first}
 use Rattle.netset_commands.specs.Commands.{Same}

@@ -1,5 +1,5 @@
 -- The fewest rows of a table as they are told.
-use Rattle.std.proofs.Common.{◌≡◌, ◌≢◌, refl, sym, ◌∙◌, ap, ap₂, subst, arith, inl, inr, Bor, ℕ, ◌<◌, ◌≤◌, Bool, true, false, List, [], ◌∷◌, ◌++◌, codes, get_or, length, map, true≢false, ◌==◌, Option, Some, Result, Ok, Err, IfErr}
+use Rattle.std.proofs.Common.{◌≡◌, ◌≢◌, refl, sym, ◌∙◌, ap, ap₂, subst, arith, inl, inr, Bor, ℕ, ◌<◌, Bool, true, false, List, [], ◌∷◌, ◌++◌, codes, get_or, length, map, true≢false, ◌==◌, Option, Some, Result, Ok, Err, IfErr}
 use Rattle.std.proofs.lemmas.Bool.{eqb-true}
 use Rattle.std.specs.Bool.{Decides}
 use Rattle.std.specs.List.{All, Contains}
@@ -7,14 +7,15 @@ use Rattle.std.specs.Map.{values_of}
 use Rattle.std.proofs.lemmas.List.{get_or-map, length-map}
 use Rattle.cidr.specs.declared.family.Family.{Family}
 use Rattle.cidr.specs.declared.family.Family.TheVariants.{Ipv4, Ipv6}
-use Rattle.cidr_forwarding.specs.Forwarding.{in_bits, AreNetworksOf}
+use Rattle.cidr_forwarding.specs.Forwarding.{in_bits}
 use Rattle.cidr_io.specs.Writing.{State}
 use Rattle.cidr_lists.specs.Lists.{Text}
 use Rattle.cidr_lists.specs.LookUps.{gap}
-use Rattle.cidr_lists.specs.Tables.{kept, resolved, value_at}
+use Rattle.cidr_lists.specs.Tables.{resolved, value_at}
+use Rattle.netset_commands.specs.Rows.{kept}
 use Rattle.cidr_lists.specs.declared.forms.RowForm.{RowForm}
 use Rattle.cidr_lists.specs.declared.rows.Span.{Span}
-use Rattle.cidr_lists.specs.declared.table.Table.{Table}
+use Rattle.netset_commands.specs.declared.input.tables.Table.{Table}
 use Rattle.netset_commands.specs.Causes.{Cause}
 use Rattle.netset_commands.specs.Commands.{Smallest}
 use Rattle.netset_commands.specs.Fewest.{AreFewestLines, AreFewestNumbers, TellsFewest, all_rows, with_numbers}
@@ -36,10 +37,6 @@ use Rattle.netset_commands.specs.declared.errors.Reason.{Reason}
 
 -- ---- rows of numbers
 module _ {C : Type 0} (bits : C → List Bool) where
-  -- all networks have so many bits at most
-  pub networks_of_width : {V : Type 0} (w : ℕ) (rows : List (C × V)) → All (λ (row : C × V). length (bits row.0) ≤ w) rows → AreNetworksOf bits w rows
-  networks_of_width {V} w rows all row (k, within, is) = subst (λ (r : C × V). length (bits r.0) ≤ w) is (all k row within)
-
   pub bits_with_numbers : (rows : List (C × ℕ)) → in_bits bits (with_numbers rows) ≡ with_numbers (in_bits bits rows)
   bits_with_numbers [] = refl
   bits_with_numbers (row ∷ rows) = ap (λ (l : List (List Bool × Option ℕ)). (bits row.0, Some row.1) ∷ l) (bits_with_numbers rows)

@@ -1,5 +1,5 @@
 -- What a run leaves in the folder.
-use Rattle.std.proofs.Common.{◌≡◌, ◌≢◌, refl, sym, ◌∙◌, ap, subst, arith, inl, inr, ℕ, ◌≤◌, Bool, true, false, List, Option, Some, None, Result, Ok, Err}
+use Rattle.std.proofs.Common.{◌≡◌, ◌≢◌, refl, sym, ◌∙◌, ap, subst, arith, inl, inr, ℕ, ◌≤◌, Bool, false, List, Option, Some, None, Result, Ok, Err}
 use Rattle.cidr_io.specs.Writing.{State}
 use Rattle.cidr_lists.specs.Lists.{Text}
 use Rattle.cidr_lists.specs.declared.forms.RowForm.{RowForm}

@@ -1,4 +1,5 @@
 pub mod Zips
+pub mod Families
 pub mod Causes
 pub mod Progress
 pub mod Blocks

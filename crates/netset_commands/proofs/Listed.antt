@@ -7,7 +7,7 @@ use Rattle.std.specs.Option.{IfSome}
 use Rattle.cidr.specs.declared.family.Family.{Family}
 use Rattle.cidr.specs.declared.family.Family.TheVariants.{Ipv4, Ipv6}
 use Rattle.cidr.specs.model.Bits.{bits}
-use Rattle.cidr_arrays.specs.Arrays.{prefix_bits}
+use Rattle.cidr_lookup.specs.Keys.{prefix_bits}
 use Rattle.cidr_files.specs.Layout.{wide_words, words}
 use Rattle.cidr_files.specs.Tables.{part_at, parts_in, stored_networks, value_in}
 use Rattle.cidr_files.specs.declared.layout.Table.{Table}

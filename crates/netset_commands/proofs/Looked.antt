@@ -8,7 +8,6 @@ use Rattle.std.proofs.lemmas.List.Elements.{All-cons, All-nil}
 use Rattle.std.proofs.lemmas.List.{append-nil, flat_map_more, length-take, map-append, take-append-drop, take_more}
 use Rattle.std.proofs.lemmas.List.Folds.{list_any-append}
 use Rattle.cidr.specs.either.IpAddress.{address_family, plain_bits}
-use Rattle.cidr.specs.texts.Printed.{plain_text}
 use Rattle.cidr.specs.texts.PrintedAddress.{ip_text}
 use Rattle.cidr.specs.declared.addr.ip.IpAddr.{IpAddr}
 use Rattle.cidr.specs.declared.family.Family.{Family}
@@ -27,7 +26,7 @@ use Rattle.cidr_lists.specs.declared.forms.RowForm.{RowForm}
 use Rattle.cidr_lists.specs.declared.objects.Telling.{Telling}
 use Rattle.cidr_lists.specs.declared.objects.Telling.TheVariants.{Alone, Kept, Objects}
 use Rattle.netset_commands.specs.Gathering.{IsNotReadFurther}
-use Rattle.netset_commands.specs.KeptLines.{IsRowOf, TellsFile, TellsLeft, TellsText}
+use Rattle.netset_commands.specs.KeptLines.{IsRowAmong, IsRowOf, TellsFile, TellsLeft, TellsText}
 use Rattle.netset_commands.specs.Look.{HeadedTell, IsLook, IsLookCut, verdict_of}
 use Rattle.netset_commands.specs.Matching.{has}
 use Rattle.netset_commands.specs.Picking.{Choice, IsAsked}
@@ -99,45 +98,12 @@ answer_found values all rows address asked found answer bits are looked is =
     rw (are, is) (subst (IsLookedUp (λ (p : List Bool). p) (plain_bits address) (map (resolved values) rows)) (same_row values address rows found here)
     (looked_up_mapped (value_at values) (λ (p : List Bool). p) (plain_bits address) rows found here))
 
--- a row that was found, with its value
-abbrev pub found_row : List Bool × Bor (List ℕ) → List Bool × List ℕ
-found_row row = (row.0, row.1.now)
-
-printed_found : (family : Family) (found : Option (List Bool × Bor (List ℕ)))
-    → option_map (λ (row : List Bool × Bor (List ℕ)). (plain_text family row.0, row.1.now)) found ≡ option_map (printed_row family) (option_map found_row found)
-printed_found family None = refl
-printed_found family (Some row) = refl
-
-pub looks_up_row : (table : Family → List (List Bool × List ℕ)) (address : IpAddr) (family : Family) (asked : List Bool) (found : Option (List Bool × Bor (List ℕ)))
-    (text : List ℕ) (s t : State) (block rest : List ℕ) (r : Result Bool OutputFailed) → address_family address ≡ family → asked ≡ plain_bits address
-    → IsLookedUp (λ (p : List Bool). p) asked (table family) (option_map found_row found) → text ≡ ip_text address
-    → PushesFound text (option_map (λ (row : List Bool × Bor (List ℕ)). (plain_text family row.0, row.1.now)) found) s t block rest r
-    → LooksUp table address s t block rest r
-looks_up_row table address family asked found text s t block rest r of bits looked shows pushed =
-    let row : Option (List Bool × List ℕ) = option_map found_row found in
-    looks_up table address row (option_map (λ (k : List Bool × Bor (List ℕ)). (plain_text family k.0, k.1.now)) found) s t block rest r
-    (subst (λ (k : List Bool). IsLookedUp (λ (p : List Bool). p) k (table (address_family address)) row) bits
-    (subst (λ (k : Family). IsLookedUp (λ (p : List Bool). p) asked (table k) row) (sym of) looked))
-    (ap (λ (k : Family). option_map (λ (row : List Bool × Bor (List ℕ)). (plain_text k row.0, row.1.now)) found) (sym of)
-    ∙ printed_found (address_family address) found)
-    (subst (λ (k : List ℕ). PushesFound k (option_map (λ (row : List Bool × Bor (List ℕ)). (plain_text family row.0, row.1.now)) found) s t block rest r) shows pushed)
-
--- the row of an address, by the length of its network
-pub row_known : (table : Family → List (List Bool × List ℕ)) (address : IpAddr) (family : Family) (asked p : List Bool) (len : ℕ) (value : List ℕ)
-    → address_family address ≡ family → asked ≡ plain_bits address → IsLookedUp (λ (p : List Bool). p) asked (table family) (Some (p, value)) → len ≡ length p
-    → IsRowOf table address (Some (len, value))
-row_known table address family asked p len value of bits looked long =
-    let here : IsLookedUp (λ (p : List Bool). p) (plain_bits address) (table (address_family address)) (Some (p, value)) =
-    subst (λ (k : List Bool). IsLookedUp (λ (p : List Bool). p) k (table (address_family address)) (Some (p, value))) bits
-    (subst (λ (k : Family). IsLookedUp (λ (p : List Bool). p) asked (table k) (Some (p, value))) (sym of) looked) in
-    subst (λ (k : List Bool). IsLookedUp (λ (p : List Bool). p) (plain_bits address) (table (address_family address)) (Some (k, value)))
-    (sym here.begins ∙ ap (λ (n : ℕ). take n (plain_bits address)) (sym long)) here
-
-pub no_row_known : (table : Family → List (List Bool × List ℕ)) (address : IpAddr) (family : Family) (asked : List Bool)
-    → address_family address ≡ family → asked ≡ plain_bits address → IsLookedUp (λ (p : List Bool). p) asked (table family) None → IsRowOf table address None
-no_row_known table address family asked of bits looked =
-    subst (λ (k : List Bool). IsLookedUp (λ (p : List Bool). p) k (table (address_family address)) None) bits
-    (subst (λ (k : Family). IsLookedUp (λ (p : List Bool). p) asked (table k) None) (sym of) looked)
+-- the row of an address, by its family and its bits
+pub row_known : (table : Family → List (List Bool × List ℕ)) (address : IpAddr) (family : Family) (asked : List Bool) (row : Option (ℕ × List ℕ))
+    → address_family address ≡ family → asked ≡ plain_bits address → IsRowAmong (table family) asked row → IsRowOf table address row
+row_known table address family asked row of bits looked =
+    subst (λ (k : List Bool). IsRowAmong (table (address_family address)) k row) bits
+    (subst (λ (k : Family). IsRowAmong (table k) asked row) (sym of) looked)
 
 -- ---- the line of an address
 pub row_short : (a n v : List ℕ) (test : Bool) → test ≡ (length v == 0) → test ≡ true → found_line a (Some (n, v)) ≡ a ++ (codes " " ++ (n ++ codes "\n"))

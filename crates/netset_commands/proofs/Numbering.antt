@@ -1,21 +1,22 @@
 -- The numbers of values.
-use Rattle.std.proofs.Common.{◌≡◌, ℕ, ◌+◌, ◌<◌, ◌≤◌, Bool, true, false, List, [], ◌∷◌, ◌++◌, length, get_or, map, refl, sym, ap, ap₂, ◌∙◌, subst, arith, true≢false, inl, inr}
+use Rattle.std.proofs.Common.{◌≡◌, ℕ, ◌+◌, ◌<◌, ◌≤◌, Bool, true, false, List, [], ◌∷◌, ◌++◌, length, get_or, map, take, refl, sym, ap, ap₂, ◌∙◌, subst, arith, true≢false, inl, inr}
 use Rattle.std.specs.Cmp.{IsStrictWeakOrder, tied_itself}
 use Rattle.std.specs.Cmp.Lexicographic.{slice_cmp}
-use Rattle.std.specs.List.{Contains, prefix_len}
+use Rattle.std.specs.List.{All, Contains, prefix_len}
 use Rattle.std.specs.List.Sorted.{IsPartitionedBy, IsPartitionPoint, IsPermutation, IsSorted}
 use Rattle.std.specs.Ordering.{is_gt, is_lt, nat_cmp, ordering_reverse}
 use Rattle.std.specs.declared.cmp.Ordering.{Ordering}
 use Rattle.std.specs.declared.cmp.Ordering.TheVariants.{Less, Equal, Greater}
 use Rattle.std.proofs.lemmas.Bool.{cases_lt}
 use Rattle.std.proofs.lemmas.Cmp.{nat_list_cmp_total}
-use Rattle.std.proofs.lemmas.List.{get_or-map, get_or_default, length-map}
+use Rattle.std.proofs.lemmas.List.{get_or-map, get_or_default, length-map, map-append, map_more}
 use Rattle.std.proofs.lemmas.List.Elements.{Contains-append_left, Contains-append_right}
 use Rattle.std.proofs.lemmas.List.Sorted.{Contains-permutation, IsPermutation-map, ranks_by, sorted_far}
 use Rattle.std.proofs.lemmas.List.Sums.{prefix_len_is, prefix_len_passes, prefix_len_stops}
 use Rattle.std.proofs.lemmas.Map.Lookups.{exact_bytes}
+use Rattle.cidr_forwarding.specs.Forwarding.{AreNetworksOf}
 use Rattle.netset_commands.specs.Numbers.{AreAscending, HaveValues, number_in, numbered, row_values, slices, table_values, value_in}
-use Rattle.cidr_lists.specs.Tables.{resolved}
+use Rattle.cidr_lists.specs.Tables.{resolved, value_at}
 use Rattle.cidr_lists.specs.declared.rows.Span.{Span}
 use Rattle.cidr.specs.declared.family.Family.{Family}
 use Rattle.cidr.specs.declared.family.Family.TheVariants.{Ipv4, Ipv6}
@@ -131,3 +132,20 @@ has_still table values more all has e family row m = subst (λ l. Contains l row
 pub keys_numbered : {C : Type 0} (values : List (List ℕ)) (all : List ℕ) (rows : List (C × Span)) → keys_of (numbered values (map (resolved all) rows)) ≡ keys_of rows
 keys_numbered values all [] = refl
 keys_numbered values all (row ∷ rows) = ap (λ keys. row.0 ∷ keys) (keys_numbered values all rows)
+
+-- all networks have so many bits at most
+pub networks_of_width : {C V : Type 0} (bits : C → List Bool) (w : ℕ) (rows : List (C × V)) → All (λ (row : C × V). length (bits row.0) ≤ w) rows → AreNetworksOf bits w rows
+networks_of_width {C} {V} bits w rows all row (k, within, is) = subst (λ (r : C × V). length (bits r.0) ≤ w) is (all k row within)
+
+-- one more row with its number
+pub numbered_more : {C : Type 0} (values : List (List ℕ)) (all : List ℕ) (rows : List (C × Span)) (i number : ℕ) (row : C × Span) (value : List ℕ) (old new : List (C × ℕ))
+    → i < length rows → row ≡ get_or rows i row → value ≡ value_at all row.1 → number ≡ number_in values value → new ≡ old ++ (row.0, number) ∷ []
+    → old ≡ numbered values (map (resolved all) (take i rows)) → new ≡ numbered values (map (resolved all) (take (i + 1) rows))
+numbered_more {C} values all rows i number row value old new l is valued counted pushed so =
+    let f : C × List ℕ → C × ℕ = λ r. (r.0, number_in values r.1) in
+    let h : C × Span → C × List ℕ = resolved all in
+    let make : ℕ → C × ℕ = λ n. (row.0, n) in
+    let added : make number ≡ f (h (get_or rows i row)) = ap make (counted ∙ ap (number_in values) valued) ∙ ap (λ (r : C × Span). f (h r)) is in
+    pushed
+    ∙ (ap₂ (λ (xs : List (C × ℕ)) (x : C × ℕ). xs ++ x ∷ []) so added
+    ∙ sym (ap (map f) (map_more h rows i row l) ∙ map-append f (map h (take i rows)) (h (get_or rows i row) ∷ [])))

@@ -13,9 +13,9 @@ use Rattle.netset_commands.specs.Causes.{TextFails}
 use Rattle.cidr_lists.specs.Lists.{Text, bits_in, lines_of, text_in}
 use Rattle.cidr_lists.specs.Forms.{IsBadRow, RowSays}
 use Rattle.netset_commands.specs.Look.{IsUnreadTable}
-use Rattle.cidr_lists.specs.Tables.{row_in, rows_in, said_in, AreCopies, AreSpansWithin, Stores, kept, resolved, stored, value_at}
+use Rattle.cidr_lists.specs.Tables.{row_in, rows_in, said_in, AreCopies, AreSpansWithin, IsTable, Stores, resolved, stored, value_at}
 use Rattle.netset_commands.specs.Keeping.{AllSaid}
-use Rattle.netset_commands.specs.LookUps.{Adds, IsErrorAt, ReadsFileRows, ReadsRows, ReadsTable, unread}
+use Rattle.netset_commands.specs.LookUps.{Adds, IsErrorAt, ReadsFileRows, ReadsRows, unread}
 use Rattle.netset_commands.specs.Reading.{IsNextLine, IsStopped}
 use Rattle.netset_commands.specs.declared.errors.ReadError.{ReadError}
 use Rattle.netset_commands.specs.declared.errors.ReadError.TheVariants.{Line, Input, NoMemory}
@@ -26,7 +26,6 @@ use Rattle.cidr_lists.specs.declared.forms.RowLayout.{RowLayout}
 use Rattle.cidr_lists.specs.declared.records.ListForm.{ListForm}
 use Rattle.cidr_lists.specs.declared.rows.Rows.{Rows}
 use Rattle.cidr_lists.specs.declared.rows.Span.{Span}
-use Rattle.cidr_lists.specs.declared.table.Table.{Table}
 use Rattle.netset_commands.proofs.Causes.{KnownOf, too_many}
 use Rattle.netset_commands.proofs.ReadBy.{bytes_read, text_same}
 use Rattle.netset_commands.proofs.TextProgress.{Passed, none_passed, one_passed, all_passed, error_passed}
@@ -216,11 +215,11 @@ bytes_copied contents kept bytes are copies = λ text is.
     let (begins, same) = are text is in
     (begins, each_same kept bytes copies ∙ same)
 
-pub table_read : (form : RowForm) (contents : Option Text) (name : List ℕ) (rows : Rows) (table : Table) → ReadsFileRows form contents name (Ok rows)
-    → ((family : Family) → AreLastRows (map (resolved rows.values.items) (stored rows family)) (kept table family)) → ReadsTable form contents name (Ok table)
+pub table_read : (form : RowForm) (contents : Option Text) (name : List ℕ) (rows : Rows) (table : Family → List (List Bool × List ℕ)) → ReadsFileRows form contents name (Ok rows)
+    → ((family : Family) → AreLastRows (map (resolved rows.values.items) (stored rows family)) (table family)) → (text : Text) → contents ≡ Some text → IsTable form text table
 table_read form contents name rows table reads last = λ text is.
     let (said, says, s) = reads text is in
-    (said, says, λ family. subst (λ (k : List (List Bool × List ℕ)). AreLastRows k (kept table family)) (s.same family) (last family))
+    (said, says, λ family. subst (λ (k : List (List Bool × List ℕ)). AreLastRows k (table family)) (s.same family) (last family))
 
 pub table_unread : (form : RowForm) (contents : Option Text) (left : Option (List ℕ)) (bits : ListForm) (file : Bor (List ℕ)) (e : ReadError)
     → ((text : Text) → contents ≡ Some text → left ≡ Some text.bytes) → ((text : Text) → contents ≡ Some text → text.form ≡ bits)

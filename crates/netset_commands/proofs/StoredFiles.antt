@@ -9,16 +9,17 @@ use Rattle.std.proofs.lemmas.Slice.Zip.{get_or-zip, length-zip}
 use Rattle.cidr.specs.laws.BitLaws.{length-bits}
 use Rattle.cidr.specs.model.Bits.{bits}
 use Rattle.cidr.specs.model.Network.{BeginsWith}
-use Rattle.cidr_arrays.specs.Arrays.{prefix_bits}
 use Rattle.cidr_files.specs.Layout.{wide_words, words}
 use Rattle.cidr_files.specs.Tables.{IsFile, IsStoredTable, IsTableCutFrom, part_at, parts_in, stored_networks, value_in}
 use Rattle.cidr_files.specs.declared.layout.Table.{Table}
+use Rattle.cidr_lookup.specs.Keys.{prefix_bits}
 use Rattle.cidr_lists.specs.Forms.{AreFit, Fits, IsUnfit, IsUnfitAt}
 use Rattle.cidr_lists.specs.declared.errors.LineError.{LineError}
 use Rattle.cidr_lists.specs.declared.formats.LineFormat.{LineFormat}
 use Rattle.cidr_table.proofs.MapLaws.{contains_cases, contains_first, contains_later, contains_nothing}
 use Rattle.cidr_table.specs.model.Prefixes.{IsLongestAt, IsLongestMatch, IsLookedUp}
 use Rattle.netset_commands.specs.Compiled.{HasTable, HasTheRows}
+use Rattle.netset_commands.specs.KeptLines.{IsRowAmong}
 use Rattle.netset_commands.specs.Stored.{AreTables, by_family, rows_from, stored_rows, file_rows}
 
 module _ (w : ℕ) (value : ℕ → List ℕ) where
@@ -125,12 +126,11 @@ network_clipped w asked network fits begins =
     let long : length (prefix_bits w network) ≡ network.1 = omega (arith, length-take network.1 (bits w network.0), length-bits w network.0, fits) in
     subst (λ (k : ℕ). take k asked ≡ prefix_bits w network) long begins
 
--- the row that was found, by the beginning of the address and by its value
-pub found_clipped : (w padding : ℕ) (numbers : List ℕ → List ℕ) (parts : List (List ℕ)) (steps : ℕ) (asked : List Bool) (i len : ℕ) (network : List Bool) (value : List ℕ)
+-- the row that was found, by its length and its value
+pub found_clipped : (w padding : ℕ) (numbers : List ℕ → List ℕ) (parts : List (List ℕ)) (steps : ℕ) (asked : List Bool) (i len : ℕ) (value : List ℕ)
     → IsStoredTable w padding numbers parts steps → IsLongestMatch (prefix_bits w) asked (stored_networks numbers parts) (Some i)
-    → len ≡ get_or (part_at parts 3) i 0 → network ≡ take len asked → value ≡ value_in parts i
-    → IsLookedUp (λ (p : List Bool). p) asked (stored_rows w numbers parts) (Some (network, value))
-found_clipped w padding numbers parts steps asked i len network value table m at clipped valued =
+    → len ≡ get_or (part_at parts 3) i 0 → value ≡ value_in parts i → IsRowAmong (stored_rows w numbers parts) asked (Some (len, value))
+found_clipped w padding numbers parts steps asked i len value table m at valued =
     let networks = stored_networks numbers parts in
     let addresses = numbers (part_at parts 2) in
     let lengths = part_at parts 3 in
@@ -140,7 +140,7 @@ found_clipped w padding numbers parts steps asked i len network value table m at
     get_or-zip addresses lengths i (0, 0) (omega (arith, l, length-zip addresses lengths)) (omega (arith, l, length-zip addresses lengths)) in
     let long : len ≡ m.key.1 = at ∙ ap (λ (n : ℕ × ℕ). n.1) (sym pair ∙ first) in
     let fits : m.key.1 ≤ w = subst (λ (n : ℕ × ℕ). n.1 ≤ w) first (table.look_ups.keys.each i l).fits in
-    let named : network ≡ prefix_bits w m.key = clipped ∙ (ap (λ (k : ℕ). take k asked) long ∙ network_clipped w asked m.key fits m.begins) in
+    let named : take len asked ≡ prefix_bits w m.key = ap (λ (k : ℕ). take k asked) long ∙ network_clipped w asked m.key fits m.begins in
     subst (λ (row : List Bool × List ℕ). IsLookedUp (λ (p : List Bool). p) asked (stored_rows w numbers parts) (Some row))
     (ap₂ (λ (p : List Bool) (v : List ℕ). (p, v)) (sym named) (sym valued)) (found_row w (value_in parts) asked networks i m)
 

@@ -1,17 +1,12 @@
 -- The rows of one family, as a file has them: what private functions promise.
-use Rattle.std.specs.Prelude.{◌≡◌, ℕ, ◌+◌, ◌<◌, ◌≤◌, Bool, List, length, map, slice_index_or, slice_range}
+use Rattle.std.specs.Prelude.{◌≡◌, ℕ, ◌+◌, ◌<◌, ◌≤◌, Bool, List, length, slice_index_or, slice_range}
 use Rattle.std.specs.List.{sum_by}
-use Rattle.cidr.specs.model.Bits.{number}
-use Rattle.cidr.specs.model.Network.{first_of}
-use Rattle.cidr_arrays.specs.Arrays.{key_networks}
 use Rattle.cidr_files.specs.Tables.{AreOffsets}
+use Rattle.cidr_lookup.specs.Keys.{key_networks}
+use Rattle.cidr_lookup.specs.Rows.{numbered_rows}
 use Rattle.cidr_lists.specs.Tables.{value_at}
 use Rattle.cidr_lists.specs.declared.rows.Span.{Span}
 use Rattle.netset_commands.specs.declared.output.compiled.Columns.{Columns}
-
--- a network by the number of its first address and its prefix length
-abbrev pub numbered_network : ℕ → List Bool → ℕ × ℕ
-numbered_network w network = (number (first_of w network), length network)
 
 -- how many bytes the values of rows are, which stand among those of all
 abbrev pub value_bytes : {C : Type 0} → List ℕ → List (C × Span) → ℕ
@@ -19,7 +14,7 @@ value_bytes {C} all rows = sum_by (λ (row : C × Span). length (value_at all ro
 
 -- the networks and the values are those of the rows
 pub record AreColumns {C W : Type 0} (w : ℕ) (value : W → ℕ) (bits_of : C → List Bool) (all : List ℕ) (rows : List (C × Span)) (columns : Columns W) : Type 0 where
-  pub networks : key_networks value columns.keys.items ≡ map (λ (row : C × Span). numbered_network w (bits_of row.0)) rows
+  pub networks : key_networks value columns.keys.items ≡ numbered_rows bits_of w rows
   pub fit : (any : C × Span) (i : ℕ) → i < length rows → length (bits_of (slice_index_or rows i any).0) ≤ w
   pub offsets : AreOffsets columns.offsets.items (length rows) (length columns.values.items)
   pub values : (any : C × Span) (i : ℕ) → i < length rows

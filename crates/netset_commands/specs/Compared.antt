@@ -1,8 +1,6 @@
 -- Where two tables differ, by the numbers of their values: what private functions promise.
-use Rattle.std.specs.Prelude.{◌≡◌, ◌≢◌, ℕ, ◌≤◌, Bool, List, [], Contains, length, map, Option, option_map}
-use Rattle.cidr.specs.either.IpNetwork.{network_family, network_prefix}
-use Rattle.cidr.specs.declared.cidr.combined.IpCidr.{IpCidr}
-use Rattle.cidr.specs.model.Network.{HasWidth, width_of}
+use Rattle.std.specs.Prelude.{◌≡◌, ◌≢◌, ℕ, Bool, List, [], map, Option, option_map}
+use Rattle.cidr.specs.model.Network.{HasWidth}
 use Rattle.cidr_forwarding.specs.Differences.{AreDifferences}
 use Rattle.cidr_forwarding.specs.Forwarding.{AreNetworksOf, in_bits}
 use Rattle.cidr.specs.declared.family.Family.{Family}
@@ -19,25 +17,16 @@ named values answers = (option_map (value_in values) answers.0, option_map (valu
 abbrev pub named_row : {C : Type 0} → List (List ℕ) → C × (Option ℕ × Option ℕ) → C × (Option (List ℕ) × Option (List ℕ))
 named_row values row = (row.0, named values row.1)
 
--- these are the networks for which the tables have different numbers, where none is longer than an address
-abbrev pub AreListed : {C : Type 0} → (C → List Bool) → List (List ℕ) → List (C × List ℕ) → List (C × List ℕ) → List (C × (Option ℕ × Option ℕ)) → Type 0
-AreListed bits values these those listed = (w : ℕ) → w ≤ 129 → AreNetworksOf bits w these → AreNetworksOf bits w those
-    → AreDifferences (in_bits bits (numbered values these)) (in_bits bits (numbered values those)) (HasWidth w) (in_bits bits listed)
-    × AreNetworksOf bits w listed
-
 -- what was found of a family, with the values of the numbers
 abbrev pub found : Differing → Family → List (List Bool × (Option (List ℕ) × Option (List ℕ)))
 found differing Ipv4 = map (named_row differing.numbers) differing.v4.items
 found differing Ipv6 = map (named_row differing.numbers) differing.v6.items
 
--- the networks of rows are no longer than an address of their family
-abbrev pub AreOfFamily : {C V : Type 0} → (C → IpCidr) → List (C × V) → Type 0
-AreOfFamily {C} {V} network rows = (row : C × V) → Contains rows row → length (network_prefix (network row.0)) ≤ width_of (network_family (network row.0))
-
--- the differences of tables, where none of these networks is longer than an address
-abbrev pub AreFound : {C : Type 0} → (C → List Bool) → (C → IpCidr) → List (List ℕ) → List (C × List ℕ) → List (C × List ℕ) → List (C × (Option ℕ × Option ℕ)) → Type 0
-AreFound bits network values these those listed =
-    AreOfFamily network these × AreOfFamily network those × AreListed bits values these those listed
+-- these are the networks for which the tables have different numbers, of w bits at most
+abbrev pub AreFound : {C : Type 0} → (C → List Bool) → ℕ → List (List ℕ) → List (C × List ℕ) → List (C × List ℕ) → List (C × (Option ℕ × Option ℕ)) → Type 0
+AreFound bits w values these those listed =
+    AreDifferences (in_bits bits (numbered values these)) (in_bits bits (numbered values those)) (HasWidth w) (in_bits bits listed)
+    × AreNetworksOf bits w listed
 
 -- yes where there is no difference
 abbrev pub AreAlike : (Family → List (List Bool × (Option (List ℕ) × Option (List ℕ)))) → Verdict → Type 0

@@ -1,17 +1,17 @@
 -- The file of look-ups that a table is compiled into. What bytes are such a file is said in `cidr_files/specs/Tables.antt`.
-use Rattle.std.specs.Prelude.{◌≡◌, ◌⊎◌, ℕ, ◌^◌, ◌<◌, ◌≤◌, ◌==◌, Bool, false, List, [], ◌∷◌, length, map, slice_index_or}
+use Rattle.std.specs.Prelude.{◌≡◌, ◌⊎◌, ℕ, ◌^◌, ◌<◌, ◌≤◌, ◌==◌, Bool, false, List, [], ◌∷◌, length, slice_index_or}
 use Rattle.std.specs.List.{sum_by}
 use Rattle.cidr.specs.declared.family.Family.{Family}
 use Rattle.cidr.specs.declared.family.Family.TheVariants.{Ipv4, Ipv6}
-use Rattle.cidr_arrays.specs.Arrays.{prefix_bits}
 use Rattle.cidr_files.specs.Layout.{ipv4_counts, ipv4_parts, ipv6_counts, ipv6_parts, wide_words, words}
 use Rattle.cidr_files.specs.Tables.{IsFile, IsSmall, stored_networks, value_in}
+use Rattle.cidr_lookup.specs.Keys.{prefix_bits}
+use Rattle.cidr_lookup.specs.Rows.{numbered_rows}
 use Rattle.cidr_lookup.specs.Tables.{HasTooManyWords, ipv4_steps, ipv6_steps}
 use Rattle.cidr_lists.specs.Forms.{AreFit}
 use Rattle.cidr_lists.specs.Lists.{Text}
 use Rattle.cidr_lists.specs.Tables.{IsTable}
 use Rattle.cidr_lists.specs.declared.forms.RowForm.{RowForm}
-use Rattle.netset_commands.specs.Columns.{numbered_network}
 
 -- the rows of a table in a file, where an address has w bits and bytes spell these numbers: each a network and its value
 pub record HasTheRows (w : ℕ) (numbers : List ℕ → List ℕ) (parts : List (List ℕ)) (rows : List (List Bool × List ℕ)) : Type 0 where
@@ -32,10 +32,10 @@ pub record IsTableFile (table : Family → List (List Bool × List ℕ)) (bytes 
   pub ipv4_own : (ipv4_counts bytes).steps ≡ ipv4_steps (length (table Ipv4))
   pub ipv6_own : (ipv6_counts bytes).steps ≡ ipv6_steps (length (table Ipv6))
 
--- the rows of one family are more than a file has: 2 ^ 31 of them, values of 2 ^ 32 bytes, or look-ups of 2 ^ 31 words
+-- the rows of one family are more than a file has: 2 ^ 31 of them, values of 2 ^ 32 bytes, or look-ups of 2 ^ 30 words
 abbrev pub AreTooLarge : (w padding : ℕ) → (ℕ → ℕ) → List (List Bool × List ℕ) → Type 0
 AreTooLarge w padding steps rows = (2 ^ 31 ≤ length rows) ⊎ ((2 ^ 32 ≤ sum_by (λ (row : List Bool × List ℕ). length row.1) rows)
-    ⊎ HasTooManyWords w padding (steps (length rows)) (map (λ (row : List Bool × List ℕ). numbered_network w row.0) rows))
+    ⊎ HasTooManyWords w padding (steps (length rows)) (numbered_rows (λ (p : List Bool). p) w rows))
 
 -- the table is too large for a file: one of its families is
 abbrev pub IsTooLarge : (Family → List (List Bool × List ℕ)) → Type 0

@@ -57,10 +57,14 @@ IsBehindHeader (error.Line name number e) new = ((number < 18446744073709551615)
     ⊎ ((number ≡ 18446744073709551615) × (new ≡ error.Input name Unknown))
 IsBehindHeader e new = new ≡ e
 
--- the length of the longest network of an address, and its value
+-- the length of the longest network of rows that an address is in, and its value
+abbrev pub IsRowAmong : List (List Bool × List ℕ) → List Bool → Option (ℕ × List ℕ) → Type 0
+IsRowAmong rows address row =
+    IsLookedUp (λ (p : List Bool). p) address rows (option_map (λ (one : ℕ × List ℕ). (take one.0 address, one.1)) row)
+
+-- the same of a table
 abbrev pub IsRowOf : (Family → List (List Bool × List ℕ)) → IpAddr → Option (ℕ × List ℕ) → Type 0
-IsRowOf table address row = IsLookedUp (λ (p : List Bool). p) (plain_bits address) (table (address_family address))
-    (option_map (λ (one : ℕ × List ℕ). (take one.0 (plain_bits address), one.1)) row)
+IsRowOf table address row = IsRowAmong (table (address_family address)) (plain_bits address) row
 
 -- the network of an address, as it is printed, and its value
 abbrev pub IsNetworkOf : (Family → List (List Bool × List ℕ)) → IpAddr → Option (List ℕ × List ℕ) → Type 0

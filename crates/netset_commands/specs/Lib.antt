@@ -32,7 +32,9 @@ pub mod Program
 pub mod Leaving
 pub mod Begun
 pub mod Reading
+pub mod Rows
 pub mod Columns
+pub mod Networks
 pub mod Numbers
 pub mod Compared
 pub mod Command

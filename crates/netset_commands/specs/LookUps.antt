@@ -12,7 +12,8 @@ use Rattle.cidr_table.specs.model.Prefixes.{IsLookedUp}
 use Rattle.cidr_io.specs.Collecting.{Collects}
 use Rattle.cidr_lists.specs.Lists.{IsTooLong, Text, bits_in, lines_of}
 use Rattle.cidr_lists.specs.Forms.{IsBadRow, RowSays}
-use Rattle.cidr_lists.specs.Tables.{IsTable, Stores, Pushes, kept, value_at}
+use Rattle.cidr_lists.specs.Tables.{IsTable, Stores, Pushes, value_at}
+use Rattle.netset_commands.specs.Rows.{kept, searched}
 use Rattle.netset_commands.specs.Look.{IsUnreadTable}
 use Rattle.netset_commands.specs.Stored.{AreFileBytes, IsNoTable}
 use Rattle.cidr_lists.specs.LookUps.{IsBadAsked, LineLooks, LookUp, SaysAsked, found_line, is_found, look_line}
@@ -32,7 +33,8 @@ use Rattle.netset_commands.specs.declared.commands.look.LookError.{LookError}
 use Rattle.netset_commands.specs.declared.commands.look.LookError.TheVariants.{Reading, Output}
 use Rattle.cidr_lists.specs.declared.rows.Rows.{Rows}
 use Rattle.cidr_lists.specs.declared.rows.Span.{Span}
-use Rattle.cidr_lists.specs.declared.table.Table.{Table}
+use Rattle.netset_commands.specs.declared.input.tables.SearchedTable.{SearchedTable}
+use Rattle.netset_commands.specs.declared.input.tables.Table.{Table}
 
 -- the row of a line, if it says one
 abbrev pub Adds : Rows → Rows → Option (IpCidr × List ℕ) → Type 0
@@ -95,8 +97,8 @@ GivesRows form contents name (Ok (Stored bytes)) = AreFileBytes contents bytes.i
 GivesRows form contents name (Err e) = IsNoTable form contents name e
 
 -- the same with the table of these rows
-abbrev pub GivesTable : RowForm → Option Text → List ℕ → Result (Given Table) CommandError → Type 0
-GivesTable form contents name (Ok (Lines table)) = ReadsTable form contents name (Ok table)
+abbrev pub GivesTable : RowForm → Option Text → List ℕ → Result (Given SearchedTable) CommandError → Type 0
+GivesTable form contents name (Ok (Lines table)) = (text : Text) → contents ≡ Some text → IsTable form text (searched table)
 GivesTable form contents name (Ok (Stored bytes)) = AreFileBytes contents bytes.items
 GivesTable form contents name (Err e) = IsNoTable form contents name e
 
@@ -128,8 +130,8 @@ abbrev pub answer_row : List ℕ → IpAddr → Answer → List Bool × List ℕ
 answer_row values address answer = (take answer.len (plain_bits address), value_at values answer.value)
 
 -- this is what a table has of an address
-abbrev pub HasAnswer : Table → IpAddr → Option Answer → Type 0
-HasAnswer table address found = IsLookedUp (λ (p : List Bool). p) (plain_bits address) (kept table (address_family address))
+abbrev pub HasAnswer : SearchedTable → IpAddr → Option Answer → Type 0
+HasAnswer table address found = IsLookedUp (λ (p : List Bool). p) (plain_bits address) (searched table (address_family address))
     (option_map (answer_row table.values.items address) found)
 
 -- a line that is not too long has this address, or none

@@ -2,7 +2,7 @@
 use Rattle.std.specs.Prelude.{◌≡◌, ◌⊎◌, ℕ, suc, Bool, true, false, List, [], ◌∷◌, Option, Some, None, Result, Ok, Err}
 use Rattle.cidr.specs.declared.family.Family.{Family}
 use Rattle.cidr.specs.declared.family.Family.TheVariants.{Ipv4, Ipv6}
-use Rattle.cidr_arrays.specs.Arrays.{prefix_bits}
+use Rattle.cidr_lookup.specs.Keys.{prefix_bits}
 use Rattle.cidr_files.specs.Faults.{IsFaultOfBytes}
 use Rattle.cidr_files.specs.Layout.{wide_words, words}
 use Rattle.cidr_files.specs.Tables.{IsStoredTable, parts_in, stored_networks, value_in}

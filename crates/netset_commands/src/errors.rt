@@ -151,7 +151,7 @@ pub enum Unsaved {
 /// Why a file is not written, or one of look-ups not read, or its table not told.
 #[derive(Clone, Copy, Drop)]
 pub enum FileError {
-    /// The table has 2^31 networks of a family or more, values of 2^32 bytes or more, or look-ups of 2^31 words or more.
+    /// The table has 2^31 networks of a family or more, values of 2^32 bytes or more, or look-ups of 2^30 words or more.
     TooLarge,
     /// The file is not written; if there was one, it is left as it was.
     NotSaved(Unsaved),
@@ -159,7 +159,7 @@ pub enum FileError {
     Hole,
     /// It has the first byte of a file of look-ups, with which no line begins, and not the others of its first word.
     Unlike,
-    /// It is of version 1, which earlier releases wrote.
+    /// It is of version 1 or 2, which earlier releases wrote.
     Old,
     /// It is of another version that is not read, such as a newer one.
     Version,

@@ -2,7 +2,6 @@
 
 pub mod answers;
 pub mod compiled;
-pub mod families;
 pub mod folder;
 pub mod held;
 pub mod printing;

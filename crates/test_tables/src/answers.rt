@@ -1,7 +1,7 @@
 //! Smallest tables with the same forwarding as the tables that are read.
 
 use crate::failure::Failure;
-use crate::finding::{write_found, write_speed};
+use crate::finding::LookedUp;
 use cidr::NetworkBits;
 use cidr::errors::NetworkParseError;
 use cidr_forwarding::{SmallestTable, forwards_same};
@@ -13,7 +13,7 @@ use std::str::FromStr;
 use std::time::Instant;
 
 /// Does what the lines of standard input say.
-pub fn write<C: NetworkBits + Copy + Display + FromStr<Err = NetworkParseError>>(
+pub fn write<C: LookedUp + Display + FromStr<Err = NetworkParseError>>(
     rt: &HostRuntime,
 ) -> Result<(), Failure> {
     let text = io::read_to_string(rt.alloc(), rt.reader())?;
@@ -55,7 +55,7 @@ fn set<C: NetworkBits + Copy + FromStr<Err = NetworkParseError>>(
 }
 
 /// Does what a line says, and returns the rows that are kept.
-fn done<C: NetworkBits + Copy + Display>(
+fn done<C: LookedUp + Display>(
     rt: &HostRuntime,
     line: &str,
     table: LpmTable<C, u32>,
@@ -64,8 +64,11 @@ fn done<C: NetworkBits + Copy + Display>(
     match line {
         "time" => time(rt, &table)?,
         "holes" => write_with_holes(rt, &table)?,
-        "find" => write_found(rt, table, asked)?,
-        "speed" => return write_speed(rt, table, asked),
+        "find" => C::write_found(rt, table.iter().as_slice(), asked)?,
+        "speed" => {
+            C::write_speed(rt, table.iter().as_slice(), asked)?;
+            return Ok(table);
+        }
         _ => write_smallest(rt, &table)?,
     }
     Ok(LpmTable::new(rt.alloc()))

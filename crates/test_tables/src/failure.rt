@@ -1,6 +1,6 @@
 //! What this program fails by.
 use cidr::errors::NetworkParseError;
-use cidr_fib::ForwardingError;
+use cidr_lookup::TableError;
 use std::alloc::AllocError;
 use std::io;
 use std::num::ParseIntError;
@@ -8,16 +8,18 @@ use std::num::ParseIntError;
 /// What this program fails by.
 #[derive(Debug, Drop)]
 pub enum Failure {
-    Forwarding(ForwardingError),
+    Table(TableError),
     Network(NetworkParseError),
     Value(ParseIntError),
+    /// A look-up of a table made ready is another than that of its rows.
+    Differs,
     NoMemory,
     System(io::Error),
 }
 
-impl From<ForwardingError> for Failure {
-    fn from(error: ForwardingError) -> Failure {
-        Failure::Forwarding(error)
+impl From<TableError> for Failure {
+    fn from(error: TableError) -> Failure {
+        Failure::Table(error)
     }
 }
 

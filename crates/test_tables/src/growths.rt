@@ -3,7 +3,7 @@
 
 mod forwarding;
 mod loading;
-mod ranges;
+mod ready;
 mod rules;
 mod sets;
 mod tables;
@@ -47,8 +47,6 @@ pub fn write(rt: &HostRuntime) -> io::Result<()> {
     let rows = [
         ("insert", tables::insert(rt.alloc())),
         ("capacity and reserve", tables::reserve(rt.alloc())),
-        ("lookups", tables::lookups(rt.alloc())),
-        ("into_lookups", tables::into_lookups(rt.alloc())),
         ("clone", tables::clone(rt.alloc())),
         ("from_rows", tables::from_rows(rt.alloc())),
         ("load", loading::load(rt.alloc())),
@@ -60,8 +58,8 @@ pub fn write(rt: &HostRuntime) -> io::Result<()> {
         ("from_range", sets::range(rt.alloc())),
         ("access lists", rules::access_lists(rt.alloc())),
         ("smallest tables", forwarding::smallest(rt.alloc())),
-        ("a forwarding table", ranges::forwarding_table(rt.alloc())),
-        ("a set made ready", ranges::ready_set(rt.alloc())),
+        ("a table made ready", ready::table(rt.alloc())),
+        ("networks made ready", ready::set(rt.alloc())),
     ];
     for (call, held) in rows {
         println!(rt; "{call}: {}", outcome(held))?;

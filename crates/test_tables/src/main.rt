@@ -1,4 +1,4 @@
-//! Calls that are refused memory, smallest tables with the same forwarding, and what forwarding tables find.
+//! Calls that are refused memory, smallest tables with the same forwarding, and what is found in tables made ready.
 //!
 //! What the arguments say is done, one after the other. `growths` prints, a line each, what calls return that may be
 //! refused memory. `ipv4`, `ipv6` and `any`, which is `AnyIpCidr`, say of which type the networks of standard input are,
@@ -9,8 +9,9 @@
 //! hole, and behind them whether the one without holes forwards the same; `time` writes how many rows there are, and for
 //! both how many are left and the least microseconds of five turns.
 //!
-//! A line `ask` with a network is a look-up key. `find` writes the value that a forwarding table of the rows has for each
-//! key since the last such line, or `none`; `speed` writes how long these look-ups take, and keeps the rows.
+//! A line `ask` with a network is a look-up key. `find` writes the value that the rows made ready have for each key since
+//! the last such line, or `none`, and fails where the rows themselves have another; `speed` writes how long these look-ups
+//! take, and keeps the rows. Rows of `any` are looked up as they are.
 #![tactic(auto)]
 
 mod answers;

@@ -11,6 +11,7 @@ mod long_loose_texts;
 mod long_texts;
 mod order;
 mod refusals;
+mod serde_forms;
 mod std_addresses;
 
 use std::fmt::Debug;

@@ -14,11 +14,11 @@ use crate::{
     pairs, parsers, prefixes, sets, sizes, tables, walks,
 };
 use cidr::{
-    AddrParseError, Address, AnyIpCidr, Cidr, Inet, InetPair, IpAddr, Ipv4Addr, Ipv4Cidr, Ipv4Inet,
-    Ipv6Addr, Ipv6Cidr, Ipv6Inet, PrefixBytes,
+    AddrParseError, Address, AnyIpCidr, Cidr, FamilyCidr, Inet, InetPair, IpAddr, Ipv4Addr,
+    Ipv4Cidr, Ipv4Inet, Ipv6Addr, Ipv6Cidr, Ipv6Inet, PrefixBytes,
 };
 use cidr_ext::{AddressReverseName, CidrMaskText, CidrReverseName, SpecialAddress};
-use cidr_sets::{AddressSpace, Addressed, PoolNetwork};
+use cidr_sets::{Addressed, PoolNetwork};
 use std::fmt::Debug;
 use std::str;
 use std::str::FromStr;
@@ -131,7 +131,7 @@ fn by_prefix<C, H>(
     answer: &mut Answer,
 ) -> Outcome
 where
-    C: AddressSpace + Key + Network + PrefixBytes,
+    C: FamilyCidr + Key + Network + PrefixBytes,
     C::Address: Debug + FromStr<Err = AddrParseError>,
     H: Bits,
 {

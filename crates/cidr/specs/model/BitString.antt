@@ -1,7 +1,6 @@
 -- A network as a string of bits: those that its addresses begin with, which its operations read and change.
 use Rattle.std.specs.Prelude.{◌≡◌, ℕ, zero, suc, ◌+◌, ◌≤◌, min, not, Bool, List, [], ◌∷◌, ◌++◌, length, take, set, get_or, false}
-use Rattle.cidr.specs.model.Bits.{number}
-use Rattle.cidr.specs.model.Network.{first_of, zeros, BeginsWith}
+use Rattle.cidr.specs.model.Network.{first_of, BeginsWith}
 use Rattle.cidr.specs.model.Host.{Host}
 
 -- n is the length of the longest list that both begin with: their longest common prefix
@@ -12,10 +11,6 @@ pub record IsSharedLength (p q : List Bool) (n : ℕ) : Type 0 where
 -- bit i inverted, where i is counted from 0
 abbrev pub inverted : ℕ → List Bool → Bool
 inverted i p = not (get_or p i false)
-
--- the number that the first 64 bits are in base two, where bits that are missing count as unset
-abbrev pub leading : List Bool → ℕ
-leading p = number (take 64 (p ++ zeros 64))
 
 -- ---- hosts, whose string is the network's; w is the width of addresses
 -- the host with bit i of its address set to b

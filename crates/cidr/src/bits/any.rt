@@ -49,15 +49,6 @@ impl BitString for AnyIpCidr {
         }
     }
 
-    #[tactic(auto, using(crate::proofs::LeadingBits::leading_laws))]
-    fn first_bits(&self) -> u64 {
-        match self {
-            AnyIpCidr::Any => 0,
-            AnyIpCidr::V4(network) => network.first_bits() / 2,
-            AnyIpCidr::V6(network) => (1 << 63) + network.first_bits() / 2,
-        }
-    }
-
     fn room(&self) -> usize {
         match self {
             AnyIpCidr::Any => 33,

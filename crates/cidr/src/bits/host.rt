@@ -21,10 +21,6 @@ impl<A: SingleBits> BitString for Host<A> {
         usize::from(self.network_length())
     }
 
-    fn first_bits(&self) -> u64 {
-        self.network().first_bits()
-    }
-
     #[tactic(auto, using(crate::specs::laws::NetworkLaws::taken_laws, crate::proofs::StringBits::width_laws))]
     fn room(&self) -> usize {
         // the call tells the proof how many bits the address has

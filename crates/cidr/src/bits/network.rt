@@ -29,11 +29,6 @@ impl<A: SingleBits> BitString for Network<A> {
         usize::from(self.network_length())
     }
 
-    #[tactic(auto, using(crate::proofs::LeadingBits::leading_laws))]
-    fn first_bits(&self) -> u64 {
-        self.first_address().first_64()
-    }
-
     #[tactic(auto, using(crate::proofs::StringBits::width_laws))]
     fn room(&self) -> usize {
         usize::from(A::FAMILY.len() - self.network_length())

@@ -1,6 +1,6 @@
 //! Single bits of an address, and how many bits two addresses begin with alike.
 ghost use Rattle.std.specs.Prelude.{◌≡◌, ◌<◌, false, get_or, set};
-ghost use Rattle.cidr.specs.model.BitString.{IsSharedLength, inverted, leading};
+ghost use Rattle.cidr.specs.model.BitString.{IsSharedLength, inverted};
 ghost use Rattle.cidr.specs.model.Network.{width_of};
 
 use crate::addr::v4::Ipv4Addr;
@@ -25,10 +25,6 @@ pub trait SingleBits: AddressBits {
         requires { i < width_of Self.FAMILY }
         ensures { Self.bits result ≡ set (Self.bits self) i (inverted i (Self.bits self)) };
 
-    /// The number that the first 64 bits are; bits that are missing count as unset.
-    fn first_64(self) -> u64
-        ensures { result ≡ leading (Self.bits self) };
-
     /// How many bits both begin with.
     fn shared_len(self, other: Self) -> u8
         ensures { IsSharedLength (Self.bits self) (Self.bits other) result };
@@ -49,10 +45,6 @@ impl SingleBits for Ipv4Addr {
         Ipv4Addr::from_bits(with_flipped_bit(self.to_bits(), i))
     }
 
-    fn first_64(self) -> u64 {
-        u64::from(self.to_bits()) << 32
-    }
-
     fn shared_len(self, other: Ipv4Addr) -> u8 {
         shared_len(self.to_bits(), other.to_bits())
     }
@@ -71,11 +63,6 @@ impl SingleBits for Ipv6Addr {
     #[tactic(auto, using(crate::proofs::SingleBits::single_bit_laws))]
     fn with_flipped_bit(self, i: u8) -> Ipv6Addr {
         Ipv6Addr::from_halves(self.halves().with_flipped_bit(i))
-    }
-
-    #[tactic(auto, using(crate::proofs::LeadingBits::leading_laws))]
-    fn first_64(self) -> u64 {
-        self.halves().upper()
     }
 
     fn shared_len(self, other: Ipv6Addr) -> u8 {

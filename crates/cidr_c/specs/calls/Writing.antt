@@ -1,6 +1,6 @@
 -- Files that are written.
 use Rattle.std.specs.Prelude.{◌≡◌, ◌≢◌, ◌⊎◌, ℕ, suc, ◌+◌, ◌^◌, ◌<◌, ◌≤◌, nat_lt, if◌then◌else◌, List, [], ◌∷◌, drop, length, map, replicate, slice_index_or, slice_range, take, Some}
-use Rattle.cidr_arrays.specs.Arrays.{AreAscendingNetworks, IsFirstRefused}
+use Rattle.cidr_lookup.specs.Keys.{AreAscendingNetworks, IsFirstRefused}
 use Rattle.cidr_files.specs.Contents.{HasZerosBetween}
 use Rattle.cidr_files.specs.Layout.{ipv4_counts, ipv4_parts, ipv6_counts, ipv6_parts, wide_words, words}
 use Rattle.cidr_files.specs.Tables.{AreOffsets, IsFile, stored_networks, value_in}

@@ -51,13 +51,9 @@ no_memory = 12
 abbrev pub wrapped : ℕ
 wrapped = 13
 
--- there are too many networks
+-- there are too many networks, or words of their look-up table
 abbrev pub too_many : ℕ
 too_many = 15
-
--- a shift is not below the number of bits of an address
-abbrev pub wrong_shift : ℕ
-wrong_shift = 16
 
 -- arrays are not those of the networks
 abbrev pub no_table : ℕ
@@ -86,6 +82,10 @@ wrong_values = 22
 -- there is none
 abbrev pub no_such : ℕ
 no_such = 23
+
+-- it stands there already
+abbrev pub present : ℕ
+present = 30
 
 -- a string with a mask has no slash
 abbrev pub no_slash : ℕ
@@ -141,7 +141,6 @@ message code =
     else (if code == 13 then codes "step leaves the network"
     else (if code == 14 then codes "invalid IP address syntax"
     else (if code == 15 then codes "too many networks"
-    else (if code == 16 then codes "shift is too great for the family"
     else (if code == 17 then codes "arrays are not those of the networks"
     else (if code == 18 then codes "not a file of look-up tables"
     else (if code == 19 then codes "file is of another version"
@@ -155,4 +154,5 @@ message code =
     else (if code == 27 then codes "line is longer than 1 MiB"
     else (if code == 28 then codes "the ends of the range are of two families"
     else (if code == 29 then codes "the first address of the range is above the last one"
+    else (if code == 30 then codes "the network stands there already"
     else []))))))))))))))))))))))))))))

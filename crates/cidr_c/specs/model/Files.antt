@@ -4,7 +4,7 @@ use Rattle.std.specs.Prelude.{◌≡◌, ◌≢◌, ◌⊎◌, ℕ, ◌+◌, ◌
 use Rattle.cidr.specs.model.Bits.{bits}
 use Rattle.cidr.specs.model.Network.{BeginsWith}
 use Rattle.cidr_table.specs.model.Prefixes.{IsLongestMatch}
-use Rattle.cidr_arrays.specs.Arrays.{prefix_bits}
+use Rattle.cidr_lookup.specs.Keys.{prefix_bits}
 use Rattle.cidr_files.specs.Faults.{IsFaultOfBytes}
 use Rattle.cidr_files.specs.Layout.{IsLaidOut, header, ipv4_counts, ipv4_parts, ipv4_sizes, ipv6_counts, ipv6_parts, padded, padded_room, sizes_of, wide_words, words}
 use Rattle.cidr_files.specs.Tables.{IsFile, IsStoredTable, stored_networks, value_in}
@@ -12,14 +12,10 @@ use Rattle.cidr_files.specs.declared.faults.Fault.{Fault}
 use Rattle.cidr_files.specs.declared.faults.Fault.TheVariants.{Magic, Old, Version, Short, Long, Ipv4, Ipv6}
 use Rattle.cidr_files.specs.declared.faults.TableFault.{TableFault}
 use Rattle.cidr_files.specs.declared.faults.TableFault.TheVariants.{Words, Offsets}
-use Rattle.cidr_lookup.specs.declared.checking.Fault.{Fault as WordsFault}
-use Rattle.cidr_lookup.specs.declared.checking.Fault.TheVariants.{Keys}
-use Rattle.cidr_lookup.specs.declared.table.TableError.{TableError}
-use Rattle.cidr_lookup.specs.declared.table.TableError.TheVariants.{TooMany, Refused, TooLarge, NoMemory}
 use Rattle.cidr_files.specs.declared.layout.Counts.{Counts}
 use Rattle.cidr_c.specs.calls.Calls.{IsYesOrNo}
-use Rattle.cidr_c.specs.model.Codes.{long_file, no_file, no_memory, no_room, no_table, no_value, other_version, short_file, too_many, wrong_values}
-use Rattle.cidr_c.specs.model.Tables.{no_row}
+use Rattle.cidr_c.specs.model.Codes.{long_file, no_file, no_room, other_version, short_file, wrong_values}
+use Rattle.cidr_c.specs.model.Tables.{no_row, words_fault_code}
 use Rattle.cidr_c.specs.model.Values.{IsAddressValue, IsLow, number_in}
 use Rattle.cidr_c.specs.declared.files.CFile.{CFile}
 use Rattle.cidr_c.specs.declared.files.CFileTable.{CFileTable}
@@ -57,19 +53,7 @@ file_in bytes = record {
 }
 
 -- ---- opening and checking
--- the number of why keys have no words
-abbrev pub table_error_code : TableError → ℕ
-table_error_code TooMany = too_many
-table_error_code (Refused place) = no_value
-table_error_code TooLarge = no_table
-table_error_code NoMemory = no_memory
-
--- of what is wrong with words
-abbrev pub words_fault_code : WordsFault → ℕ
-words_fault_code (Keys error) = table_error_code error
-words_fault_code other = no_table
-
--- with a table
+-- the number of what is wrong with a table
 abbrev pub table_fault_code : TableFault → ℕ
 table_fault_code (Words fault) = words_fault_code fault
 table_fault_code Offsets = wrong_values

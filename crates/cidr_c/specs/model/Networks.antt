@@ -7,7 +7,7 @@ use Rattle.cidr.specs.either.IpNetwork.{network_family, network_prefix}
 use Rattle.cidr.specs.declared.addr.ip.IpAddr.{IpAddr}
 use Rattle.cidr.specs.declared.cidr.combined.IpCidr.{IpCidr}
 use Rattle.cidr.specs.declared.family.Family.{Family}
-use Rattle.cidr_arrays.specs.declared.word.Halves.{Halves}
+use Rattle.cidr_lookup.specs.declared.halves.Halves.{Halves}
 use Rattle.cidr_ext.specs.model.Inside.{usable_of}
 use Rattle.cidr_ext.specs.texts.Reverse.{IsReverseName}
 use Rattle.cidr_ext.specs.model.Subnets.{IsSubnetAt, NoSubnetAt}

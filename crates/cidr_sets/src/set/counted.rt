@@ -6,9 +6,10 @@ ghost use Rattle.cidr_table.specs.model.Cover.{Covers};
 ghost use Rattle.cidr_sets.specs.model.Counts.{AreAddresses, HaveCount, IsAtIndex};
 
 use crate::set::NetworkSet;
-use crate::walk::{AddressSpace, SetAddresses};
+use crate::walk::SetAddresses;
+use cidr::FamilyCidr;
 
-impl<C: AddressSpace + Copy> NetworkSet<C> {
+impl<C: FamilyCidr> NetworkSet<C> {
     /// How many addresses the set has, or `None` for all of IPv6, whose 2^128 are more than a `u128` has room for.
     ///
     /// It looks at each network of the set once: O(n).
@@ -19,8 +20,8 @@ impl<C: AddressSpace + Copy> NetworkSet<C> {
     /// ```
     pub fn address_count(&self) -> Option<u128>
         ensures { MatchOption result
-            (HaveCount (width_of C.family) (map C.bits self.now) (2 ^ 128))
-            (HaveCount (width_of C.family) (map C.bits self.now)) }
+            (HaveCount (width_of C.FAMILY) (map C.bits self.now) (2 ^ 128))
+            (HaveCount (width_of C.FAMILY) (map C.bits self.now)) }
     {
         let mut count: u128 = 0;
         for network in self.as_slice() {
@@ -41,7 +42,7 @@ impl<C: AddressSpace + Copy> NetworkSet<C> {
     /// blocks.nth(144) // None
     /// ```
     pub fn nth(&self, index: u128) -> Option<C::Address>
-        ensures { IsAtIndex (width_of C.family) (map C.bits self.now) index (option_map C.address_bits result) }
+        ensures { IsAtIndex (width_of C.FAMILY) (map C.bits self.now) index (option_map C.Address.bits result) }
     {
         let mut left = index;
         for network in self.as_slice() {
@@ -63,8 +64,8 @@ impl<C: AddressSpace + Copy> NetworkSet<C> {
     /// blocks.position("192.0.2.16".parse()?) // None
     /// ```
     pub fn position(&self, address: C::Address) -> Option<u128>
-        ensures { MatchOption result (¬ (Covers (map C.bits self.now) (C.address_bits address)))
-            (λ index. IsAtIndex (width_of C.family) (map C.bits self.now) index (Some (C.address_bits address))) }
+        ensures { MatchOption result (¬ (Covers (map C.bits self.now) (C.Address.bits address)))
+            (λ index. IsAtIndex (width_of C.FAMILY) (map C.bits self.now) index (Some (C.Address.bits address))) }
     {
         let number = C::to_number(address);
         let mut before: u128 = 0;
@@ -87,7 +88,7 @@ impl<C: AddressSpace + Copy> NetworkSet<C> {
     /// blocks.addresses().next() // Some(192.0.2.0)
     /// ```
     pub fn addresses(&self) -> SetAddresses<'_, C>
-        ensures { AreAddresses (width_of C.family) (map C.bits self.now) result }
+        ensures { AreAddresses (width_of C.FAMILY) (map C.bits self.now) result }
     {
         SetAddresses::_new(self.as_slice())
     }

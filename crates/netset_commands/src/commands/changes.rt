@@ -4,6 +4,7 @@ ghost use Rattle.std.specs.List.{flat_map};
 ghost use Rattle.cidr_io.specs.Writing.{Answered, Writes};
 ghost use Rattle.netset_commands.specs.Answering.{AreSame, changed};
 ghost use Rattle.cidr_lists.specs.Changes.{change_layout_in, change_line, merged, printed_changes};
+ghost use Rattle.cidr_lists.specs.Formats.{family_by};
 ghost use Rattle.cidr_io.specs.Collecting.{Collects};
 ghost use Rattle.netset_commands.specs.Causes.{Cause, FileFails};
 ghost use Rattle.netset_commands.specs.Commands.{Diff};
@@ -13,26 +14,26 @@ use crate::errors::CommandError;
 use crate::input::files::Sources;
 use crate::input::several::read_both;
 use crate::output::answers::{Verdict, by_output};
-use cidr::Family;
+use cidr::{Family, FamilyCidr};
 use cidr_io::block::Block;
 use cidr_io::memory::Memory;
 use cidr_io::sink::{OutputFailed, Sink};
 use cidr_io::writing::flush;
 use cidr_lists::changes::{ChangeLayout, Changes, Sign, change_layout, sign_text};
-use cidr_lists::formats::{LineFormat, Written};
+use cidr_lists::formats::{LineFormat, written};
 use cidr_lists::sets::{Sets, Step};
 
 /// Appends a network with its sign to a block, as a line.
-fn push_change<C: Written, S: Sink>(
+fn push_change<C: FamilyCidr, S: Sink>(
     block: &mut Block,
     out: &mut S,
     layout: ChangeLayout<'static>,
     change: (Sign, C),
 ) -> Result<(), OutputFailed>
     ensures { Collects (S.state out.old) (S.state out.new) block.old block.new
-        (change_line C.written_as (change_layout_in layout.entry) change) result }
+        (change_line (family_by C.FAMILY C.bits) (change_layout_in layout.entry) change) result }
 {
-    let text = change.1.written(layout.notation);
+    let text = written(&change.1, layout.notation);
     block.push_line(
         out,
         &[
@@ -47,14 +48,14 @@ fn push_change<C: Written, S: Sink>(
 }
 
 /// Writes the networks of two lists in blocks, each with its sign, one a line.
-fn write_changes<C: Written, S: Sink>(
+fn write_changes<C: FamilyCidr, S: Sink>(
     out: &mut S,
     layout: ChangeLayout<'static>,
     added: &[C],
     lacking: &[C],
 ) -> Result<(), OutputFailed>
     ensures { Writes (S.state out.old) (S.state out.new)
-        (flat_map (change_line C.written_as (change_layout_in layout.entry)) (merged C.bits added.now lacking.now)) result }
+        (flat_map (change_line (family_by C.FAMILY C.bits) (change_layout_in layout.entry)) (merged C.bits added.now lacking.now)) result }
 {
     let mut changes = Changes { added, lacking };
     let mut block = Block::new();

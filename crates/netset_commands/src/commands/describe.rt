@@ -12,6 +12,7 @@ ghost use Rattle.cidr_lists.specs.Printing.{line};
 ghost use Rattle.netset_commands.specs.Describing.{IsMaskOfLength, told_of, zone_lines};
 ghost use Rattle.netset_commands.specs.declared.commands.describe.Description.TheVariants.{Masks};
 ghost use Rattle.netset_commands.specs.Free.{all_told};
+ghost use Rattle.netset_commands.specs.Networks.{ip_of};
 ghost use Rattle.netset_commands.specs.Program.{AnswersRequest};
 ghost use Rattle.netset_commands.specs.Single.{IsNumber};
 
@@ -20,9 +21,8 @@ use crate::errors::CommandError;
 use crate::input::files::Sources;
 use crate::input::operands::read_operand;
 use crate::output::answers::{Verdict, by_output};
-use crate::output::families::OneFamily;
 use crate::output::report::write_line;
-use cidr::{IpAddr, IpCidr};
+use cidr::{FamilyCidr, IpAddr, IpCidr};
 use cidr_ext::CidrReverseName;
 use cidr_io::block::Block;
 use cidr_io::decimal::decimal_text;
@@ -75,17 +75,17 @@ fn push_told<S: Sink>(
 }
 
 /// Writes what is told of networks in blocks.
-fn write_each<C: OneFamily, S: Sink>(
+fn write_each<C: FamilyCidr, S: Sink>(
     out: &mut S,
     what: Description,
     networks: &[C],
 ) -> Result<(), OutputFailed>
     ensures { Writes (S.state out.old) (S.state out.new)
-        (flat_map (λ network. told_of what (C.network network)) networks.now) result }
+        (flat_map (λ network. told_of what (ip_of C.FAMILY (C.bits network))) networks.now) result }
 {
     let mut block = Block::new();
     for network in networks {
-        push_told(&mut block, out, what, &network.to_network())?;
+        push_told(&mut block, out, what, &network.to_ip())?;
     }
     block.write(out)
 }

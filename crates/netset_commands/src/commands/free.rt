@@ -10,6 +10,7 @@ ghost use Rattle.netset_commands.specs.Causes.{Cause, FileFails};
 ghost use Rattle.netset_commands.specs.Command.{extent_of};
 ghost use Rattle.netset_commands.specs.Commands.{Free};
 ghost use Rattle.netset_commands.specs.Free.{IsBadCount, IsMost, inside_of, less, taken, TakesLayout, TakesRows};
+ghost use Rattle.netset_commands.specs.Networks.{ip_of};
 ghost use Rattle.netset_commands.specs.Program.{AnswersRequest, IsBadArgument};
 ghost use Rattle.netset_commands.specs.Single.{IsNumber};
 ghost use Rattle.cidr_io.specs.Writing.{Answered};
@@ -20,9 +21,8 @@ use crate::errors::{ArgumentError, CommandError};
 use crate::input::files::Sources;
 use crate::input::operands::read_pool;
 use crate::output::answers::{Verdict, by_output};
-use crate::output::families::OneFamily;
 use crate::output::walks::{push_last, push_next};
-use cidr::{Family, IpCidr, Ipv4Cidr, Ipv6Cidr};
+use cidr::{Family, FamilyCidr, IpCidr, Ipv4Cidr, Ipv6Cidr};
 use cidr_ext::{CidrExt, Subnets};
 use cidr_io::block::Block;
 use cidr_io::memory::Memory;
@@ -134,7 +134,7 @@ fn push_subnets<S: Sink>(
 }
 
 /// The same of those inside each of some networks.
-fn push_inside<C: OneFamily, S: Sink>(
+fn push_inside<C: FamilyCidr, S: Sink>(
     block: &mut Block,
     out: &mut S,
     layout: Layout<'_>,
@@ -143,13 +143,13 @@ fn push_inside<C: OneFamily, S: Sink>(
     most: Option<u64>,
 ) -> Result<(Option<u64>, Option<IpCidr>), OutputFailed>
     ensures { TakesRows (before_next (layout_in layout.entry)) most None
-        (flat_map (λ network. inside_of len (C.network network)) networks.now)
+        (flat_map (λ network. inside_of len (ip_of C.FAMILY (C.bits network))) networks.now)
         (S.state out.old) (S.state out.new) block.old block.new result }
 {
     let mut left = most;
     let mut last = None;
     for network in networks {
-        let (more, one) = push_subnets(block, out, layout, &network.to_network(), len, left, last)?;
+        let (more, one) = push_subnets(block, out, layout, &network.to_ip(), len, left, last)?;
         left = more;
         last = one;
     }
@@ -158,7 +158,7 @@ fn push_inside<C: OneFamily, S: Sink>(
 
 /// Appends the networks of a prefix length inside each of some networks to a block as a layout has them, up to a number;
 /// tells how many more may be written.
-fn push_layout<C: OneFamily, S: Sink>(
+fn push_layout<C: FamilyCidr, S: Sink>(
     block: &mut Block,
     out: &mut S,
     layout: Layout<'_>,
@@ -166,7 +166,7 @@ fn push_layout<C: OneFamily, S: Sink>(
     len: u8,
     most: Option<u64>,
 ) -> Result<Option<u64>, OutputFailed>
-    ensures { TakesLayout (layout_in layout.entry) most (flat_map (λ network. inside_of len (C.network network)) networks.now)
+    ensures { TakesLayout (layout_in layout.entry) most (flat_map (λ network. inside_of len (ip_of C.FAMILY (C.bits network))) networks.now)
         (S.state out.old) (S.state out.new) block.old block.new result }
 {
     let (left, last) = push_inside(block, out, layout, networks, len, most)?;

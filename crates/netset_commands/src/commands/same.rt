@@ -10,10 +10,11 @@ ghost use Rattle.cidr_io.specs.Collecting.{Collects};
 ghost use Rattle.cidr_io.specs.Writing.{Answered, Writes};
 ghost use Rattle.cidr_lists.specs.LookUps.{gap};
 ghost use Rattle.cidr_lists.specs.Printing.{line};
-ghost use Rattle.cidr_lists.specs.Tables.{kept, resolved};
+ghost use Rattle.cidr_lists.specs.Tables.{resolved};
+ghost use Rattle.netset_commands.specs.Rows.{kept};
 ghost use Rattle.netset_commands.specs.Causes.{Cause, FileFails};
 ghost use Rattle.netset_commands.specs.Commands.{Same};
-ghost use Rattle.netset_commands.specs.Compared.{AreAlike, AreFound, AreOfFamily, found, named};
+ghost use Rattle.netset_commands.specs.Compared.{AreAlike, AreFound, found, named};
 ghost use Rattle.netset_commands.specs.Numbers.{HaveValues, value_in};
 ghost use Rattle.netset_commands.specs.Program.{AnswersRequest};
 ghost use Rattle.netset_commands.specs.Same.{value_line, value_lines};
@@ -22,10 +23,10 @@ use crate::errors::CommandError;
 use crate::input::files::Sources;
 use crate::input::numbers::Numbers;
 use crate::input::table::read_table;
+use crate::input::tables::Table;
 use crate::output::answers::{Verdict, by_output};
-use crate::output::families::OneFamily;
 use arrayvec::ArrayString;
-use cidr::{Ipv4Cidr, Ipv6Cidr};
+use cidr::{FamilyCidr, Ipv4Cidr, Ipv6Cidr};
 use cidr_forwarding::{Answers, differences};
 use cidr_io::block::Block;
 use cidr_io::memory::Memory;
@@ -33,9 +34,7 @@ use cidr_io::sink::{OutputFailed, Sink};
 use cidr_io::writing::flush;
 use cidr_lists::changes::{Sign, sign_text};
 use cidr_lists::forms::RowForm;
-use cidr_lists::printing::Printed;
 use cidr_lists::rows::Span;
-use cidr_lists::table::Table;
 use cidr_table::LpmTable;
 use std::alloc::{AllocError, Global};
 
@@ -47,17 +46,8 @@ struct Differing<'a> {
     v6: Vec<(Ipv6Cidr, Answers<usize>)>,
 }
 
-/// No network is longer than an address of its family, which a proof gets from the calls.
-fn know_all<C: OneFamily, V>(rows: &[(C, V)])
-    ensures { AreOfFamily C.network rows.now }
-{
-    for row in rows {
-        row.0.to_network().network_length();
-    }
-}
-
 /// The networks of one family for which two tables have different numbers.
-fn listed<C: OneFamily>(
+fn listed<C: FamilyCidr>(
     alloc: Global,
     numbers: &Numbers<'_>,
     old: &LpmTable<C, Span>,
@@ -65,11 +55,9 @@ fn listed<C: OneFamily>(
     new: &LpmTable<C, Span>,
     new_values: &[u8],
 ) -> Result<Vec<(C, Answers<usize>)>, AllocError>
-    ensures { IfOk result (λ listed. AreFound C.bits C.network numbers.now (map (resolved old_values.now) old.now.rows)
+    ensures { IfOk result (λ listed. AreFound C.bits (width_of C.FAMILY) numbers.now (map (resolved old_values.now) old.now.rows)
         (map (resolved new_values.now) new.now.rows) listed.items) }
 {
-    know_all(old.iter().as_slice());
-    know_all(new.iter().as_slice());
     let before = numbers.table(alloc, old, old_values)?;
     let after = numbers.table(alloc, new, new_values)?;
     differences(alloc, &before, &after)
@@ -83,22 +71,8 @@ fn compare<'a>(alloc: Global, old: &'a Table, new: &'a Table) -> Result<Differin
     let numbers = Numbers::of_tables(alloc, old, new)?;
     let old_values = old.values.as_slice();
     let new_values = new.values.as_slice();
-    let v4 = listed(
-        alloc,
-        &numbers,
-        old.v4.table(),
-        old_values,
-        new.v4.table(),
-        new_values,
-    )?;
-    let v6 = listed(
-        alloc,
-        &numbers,
-        old.v6.table(),
-        old_values,
-        new.v6.table(),
-        new_values,
-    )?;
+    let v4 = listed(alloc, &numbers, &old.v4, old_values, &new.v4, new_values)?;
+    let v6 = listed(alloc, &numbers, &old.v6, old_values, &new.v6, new_values)?;
     Ok(Differing { numbers, v4, v6 })
 }
 
@@ -145,28 +119,28 @@ fn push_number<S: Sink>(
 }
 
 /// Appends the lines of the values that two tables have for a network.
-fn push_row<C: Printed, S: Sink>(
+fn push_row<C: FamilyCidr, S: Sink>(
     block: &mut Block,
     out: &mut S,
     numbers: &Numbers<'_>,
     row: (C, Answers<usize>),
 ) -> Result<(), OutputFailed>
     ensures { Collects (S.state out.old) (S.state out.new) block.old block.new
-        (value_lines (C.text row.0) (named numbers.now row.1)) result }
+        (value_lines (plain_text C.FAMILY (C.bits row.0)) (named numbers.now row.1)) result }
 {
-    let text = row.0.printed();
+    let text = row.0.to_text();
     push_number(block, out, numbers, Sign::Minus, text, row.1.0)?;
     push_number(block, out, numbers, Sign::Plus, text, row.1.1)
 }
 
 /// Writes the lines of networks of one family in blocks.
-fn write_rows<C: Printed, S: Sink>(
+fn write_rows<C: FamilyCidr, S: Sink>(
     out: &mut S,
     numbers: &Numbers<'_>,
     rows: &[(C, Answers<usize>)],
 ) -> Result<(), OutputFailed>
     ensures { Writes (S.state out.old) (S.state out.new)
-        (flat_map (λ row. value_lines (C.text row.0) (named numbers.now row.1)) rows.now) result }
+        (flat_map (λ row. value_lines (plain_text C.FAMILY (C.bits row.0)) (named numbers.now row.1)) rows.now) result }
 {
     let mut block = Block::new();
     for row in rows {

@@ -1,15 +1,18 @@
 //! The fewest rows in which a table gives each address its value.
-ghost use Rattle.std.specs.Prelude.{◌≡◌, ◌≤◌, ◌++◌, ℕ, List, true, false, codes, length, map, IfErr, IfOk};
+ghost use Rattle.std.specs.Prelude.{◌≡◌, ◌++◌, true, false, codes, map, IfErr, IfOk};
 ghost use Rattle.std.specs.Bool.{Decides};
-ghost use Rattle.std.specs.List.{All, Contains, flat_map};
+ghost use Rattle.std.specs.List.{Contains, flat_map};
 ghost use Rattle.std.specs.Map.{values_of};
 ghost use Rattle.cidr.specs.declared.family.Family.{Family};
 ghost use Rattle.cidr.specs.declared.family.Family.TheVariants.{Ipv4, Ipv6};
-ghost use Rattle.cidr_forwarding.specs.Forwarding.{in_bits};
+ghost use Rattle.cidr.specs.model.Network.{width_of};
+ghost use Rattle.cidr.specs.texts.Printed.{forced_text};
+ghost use Rattle.cidr_forwarding.specs.Forwarding.{AreNetworksOf, in_bits};
 ghost use Rattle.cidr_io.specs.Collecting.{Collects};
 ghost use Rattle.cidr_io.specs.Writing.{Answered};
 ghost use Rattle.cidr_lists.specs.LookUps.{gap};
-ghost use Rattle.cidr_lists.specs.Tables.{kept, resolved};
+ghost use Rattle.cidr_lists.specs.Tables.{resolved};
+ghost use Rattle.netset_commands.specs.Rows.{kept};
 ghost use Rattle.netset_commands.specs.Causes.{Cause, FileFails};
 ghost use Rattle.netset_commands.specs.Commands.{Smallest};
 ghost use Rattle.netset_commands.specs.Fewest.{AreFewestNumbers, TellsFewest, all_rows, told_row, told_value, with_numbers};
@@ -20,87 +23,18 @@ use crate::errors::{CommandError, FileError};
 use crate::input::files::Sources;
 use crate::input::numbers::Numbers;
 use crate::input::table::read_table;
+use crate::input::tables::Table;
 use crate::output::answers::{Verdict, by_output};
 use arrayvec::ArrayString;
-use cidr::{Ipv4Cidr, Ipv6Cidr, NetworkBits};
+use cidr::{FamilyCidr, Ipv4Cidr, Ipv6Cidr, NetworkBits};
 use cidr_forwarding::SmallestTable;
 use cidr_io::block::Block;
 use cidr_io::memory::Memory;
 use cidr_io::sink::{OutputFailed, Sink};
 use cidr_lists::forms::RowForm;
 use cidr_lists::rows::{Span, value_of};
-use cidr_lists::table::Table;
 use cidr_table::LpmTable;
 use std::alloc::{AllocError, Global};
-
-/// A network of one family.
-trait OfWidth: NetworkBits + Copy {
-    /// How many bits it has at most.
-    ghost width: { ℕ };
-
-    /// Tells a proof that it has no more.
-    fn know_width(&self)
-        ensures { length (Self.bits self.now) ≤ width };
-
-    /// The string, with its prefix length.
-    ghost text: { Self → List ℕ };
-
-    /// The string with the prefix length also where that is full, so that a row is not taken for one of a range.
-    fn text_with_length(&self) -> ArrayString<43>
-        ensures { result.bytes ≡ text self.now };
-
-    /// These are few.
-    ghost narrow: { width ≤ 129 };
-}
-
-impl OfWidth for Ipv4Cidr {
-    ghost use Rattle.std.proofs.Common.{lit≤};
-    ghost use Rattle.cidr.specs.texts.Printed.{forced_text};
-    ghost use Rattle.cidr.specs.declared.family.Family.TheVariants.{Ipv4};
-
-    ghost width = { 32 };
-
-    ghost narrow = { lit≤ tt };
-
-    ghost text = { forced_text Ipv4 };
-
-    fn know_width(&self) {
-        let _len = self.network_length();
-    }
-
-    fn text_with_length(&self) -> ArrayString<43> {
-        self.with_length().to_text()
-    }
-}
-
-impl OfWidth for Ipv6Cidr {
-    ghost use Rattle.std.proofs.Common.{lit≤};
-    ghost use Rattle.cidr.specs.texts.Printed.{forced_text};
-    ghost use Rattle.cidr.specs.declared.family.Family.TheVariants.{Ipv6};
-
-    ghost width = { 128 };
-
-    ghost narrow = { lit≤ tt };
-
-    ghost text = { forced_text Ipv6 };
-
-    fn know_width(&self) {
-        let _len = self.network_length();
-    }
-
-    fn text_with_length(&self) -> ArrayString<43> {
-        self.with_length().to_text()
-    }
-}
-
-/// Tells a proof that the networks of rows have no more bits than addresses.
-fn know_widths<C: OfWidth, V>(rows: &[(C, V)])
-    ensures { All (λ row. length (C.bits row.0) ≤ C.width) rows.now }
-{
-    for row in rows {
-        row.0.know_width();
-    }
-}
 
 /// The rows of a table.
 fn rows_of<C: NetworkBits + Copy, V>(table: &LpmTable<C, V>) -> &[(C, V)]
@@ -124,26 +58,26 @@ fn no_holes<C: Copy>(
 }
 
 /// The fewest rows that forward as a table does, without holes.
-fn plain_rows<C: OfWidth>(
+fn plain_rows<C: FamilyCidr>(
     alloc: Global,
     table: &LpmTable<C, usize>,
 ) -> Result<Vec<(C, Option<usize>)>, AllocError>
-    ensures { IfOk result (λ made. AreFewestNumbers false C.width (in_bits C.bits table.now.rows) (in_bits C.bits made.items)) }
+    requires { AreNetworksOf C.bits (width_of C.FAMILY) table.now.rows }
+    ensures { IfOk result (λ made. AreFewestNumbers false (width_of C.FAMILY) (in_bits C.bits table.now.rows) (in_bits C.bits made.items)) }
 {
-    know_widths(rows_of(table));
     let smallest = table.smallest(alloc)?;
     let made = no_holes(alloc, rows_of(&smallest))?;
     Ok(made)
 }
 
 /// The same with holes.
-fn holed_rows<C: OfWidth>(
+fn holed_rows<C: FamilyCidr>(
     alloc: Global,
     table: &LpmTable<C, usize>,
 ) -> Result<Vec<(C, Option<usize>)>, AllocError>
-    ensures { IfOk result (λ made. AreFewestNumbers true C.width (in_bits C.bits table.now.rows) (in_bits C.bits made.items)) }
+    requires { AreNetworksOf C.bits (width_of C.FAMILY) table.now.rows }
+    ensures { IfOk result (λ made. AreFewestNumbers true (width_of C.FAMILY) (in_bits C.bits table.now.rows) (in_bits C.bits made.items)) }
 {
-    know_widths(rows_of(table));
     let smallest = table.smallest_with_holes(alloc)?;
     let mut made = Vec::new(alloc);
     made.extend_from_slice(rows_of(&smallest))?;
@@ -151,12 +85,13 @@ fn holed_rows<C: OfWidth>(
 }
 
 /// One or the other.
-fn fewest_rows<C: OfWidth>(
+fn fewest_rows<C: FamilyCidr>(
     alloc: Global,
     table: &LpmTable<C, usize>,
     holes: bool,
 ) -> Result<Vec<(C, Option<usize>)>, AllocError>
-    ensures { IfOk result (λ made. AreFewestNumbers holes C.width (in_bits C.bits table.now.rows) (in_bits C.bits made.items)) }
+    requires { AreNetworksOf C.bits (width_of C.FAMILY) table.now.rows }
+    ensures { IfOk result (λ made. AreFewestNumbers holes (width_of C.FAMILY) (in_bits C.bits table.now.rows) (in_bits C.bits made.items)) }
 {
     if holes {
         holed_rows(alloc, table)
@@ -182,9 +117,9 @@ fn fewest_of<'a>(alloc: Global, table: &'a Table, holes: bool) -> Result<Fewest<
 {
     let numbers = Numbers::of_table(alloc, table)?;
     let all = table.values.as_slice();
-    let ipv4 = numbers.table(alloc, table.v4.table(), all)?;
+    let ipv4 = numbers.table(alloc, &table.v4, all)?;
     let v4 = fewest_rows(alloc, &ipv4, holes)?;
-    let ipv6 = numbers.table(alloc, table.v6.table(), all)?;
+    let ipv6 = numbers.table(alloc, &table.v6, all)?;
     let v6 = fewest_rows(alloc, &ipv6, holes)?;
     Ok(Fewest { numbers, v4, v6 })
 }
@@ -217,20 +152,20 @@ fn push_row<S: Sink>(
 }
 
 /// Appends the lines of the rows of one family to a block.
-fn push_rows<C: OfWidth, S: Sink>(
+fn push_rows<C: FamilyCidr, S: Sink>(
     block: &mut Block,
     out: &mut S,
     numbers: &Numbers<'_>,
     rows: &[(C, Option<usize>)],
 ) -> Result<(), OutputFailed>
     ensures { Collects (S.state out.old) (S.state out.new) block.old block.new
-        (flat_map (told_row C.text numbers.now) rows.now) result }
+        (flat_map (told_row (λ p. forced_text C.FAMILY (C.bits p)) numbers.now) rows.now) result }
 {
     for row in rows {
         push_row(
             block,
             out,
-            row.0.text_with_length(),
+            row.0.to_text_with_length(),
             told_value(numbers, row.1),
         )?;
     }
@@ -278,10 +213,10 @@ fn has_hole(table: &Table) -> bool
     ensures { Decides result ((family : Family) × Contains (values_of (kept table.now family)) (codes "-")) }
 {
     let all = table.values.as_slice();
-    if has_value(rows_of(table.v4.table()), all, b"-") {
+    if has_value(rows_of(&table.v4), all, b"-") {
         return true;
     }
-    has_value(rows_of(table.v6.table()), all, b"-")
+    has_value(rows_of(&table.v6), all, b"-")
 }
 
 /// Whether there may be holes, and the table has that value.

@@ -1,14 +1,17 @@
 //! The values of tables by numbers. The calls of `cidr_forwarding` take values of which `==` tells equality, as it does for
 //! numbers: equal bytes have the same number here, and others another one.
 ghost use Rattle.std.specs.Prelude.{◌≡◌, ◌++◌, List, ℕ, Contains, IfOk, OnOk, map};
+ghost use Rattle.cidr.specs.model.Network.{width_of};
+ghost use Rattle.cidr_forwarding.specs.Forwarding.{AreNetworksOf};
 ghost use Rattle.netset_commands.specs.Numbers.{AreAscending, HaveValues, number_in, numbered, row_values, slices, table_values, value_in};
-ghost use Rattle.cidr_lists.specs.Tables.{kept, resolved};
+ghost use Rattle.cidr_lists.specs.Tables.{resolved};
+ghost use Rattle.netset_commands.specs.Rows.{kept};
 ghost use Rattle.std.specs.Cmp.Lexicographic.{slice_cmp};
 ghost use Rattle.std.specs.Ordering.{is_lt, nat_cmp};
 
-use cidr::NetworkBits;
+use crate::input::tables::Table;
+use cidr::FamilyCidr;
 use cidr_lists::rows::{Span, value_of};
-use cidr_lists::table::Table;
 use cidr_table::LpmTable;
 use std::alloc::{AllocError, Global};
 use std::marker::Model;
@@ -56,8 +59,8 @@ fn push_table<'a>(values: &mut Vec<&'a [u8]>, table: &'a Table) -> Result<(), Al
     ensures { OnOk result (slices values.new.items ≡ slices values.old.items ++ table_values (kept table.now)) }
 {
     let all = table.values.as_slice();
-    push_values(values, table.v4.table().iter().as_slice(), all)?;
-    push_values(values, table.v6.table().iter().as_slice(), all)
+    push_values(values, table.v4.iter().as_slice(), all)?;
+    push_values(values, table.v6.iter().as_slice(), all)
 }
 
 impl<'a> Numbers<'a> {
@@ -118,16 +121,19 @@ impl<'a> Numbers<'a> {
     }
 
     /// The table of the same networks, each with the number of its value, which stands among the bytes of all.
-    pub fn table<C: NetworkBits + Copy>(
+    pub fn table<C: FamilyCidr>(
         &self,
         alloc: Global,
         table: &LpmTable<C, Span>,
         all: &[u8],
     ) -> Result<LpmTable<C, usize>, AllocError>
-        ensures { IfOk result (λ made. made.rows ≡ numbered self.now (map (resolved all.now) table.now.rows)) }
+        ensures rows { IfOk result (λ made. made.rows ≡ numbered self.now (map (resolved all.now) table.now.rows)) }
+        ensures fit { IfOk result (λ made. AreNetworksOf C.bits (width_of C.FAMILY) made.rows) }
     {
         let mut rows = Vec::with_capacity(alloc, table.len())?;
         for row in table.iter().as_slice() {
+            // the call tells the proof that the prefix length fits
+            row.0.network_length();
             let number = self.number(value_of(all, row.1));
             rows.push((row.0, number))?;
         }

@@ -2,23 +2,23 @@
 ghost use Rattle.std.specs.Prelude.{◌≡◌, ◌<◌, ◌+◌, ◌^◌, ◌++◌, None, Bool, List, ℕ, IfErr, IfOk, MatchResult, OnOk, length, map, option_map};
 ghost use Rattle.cidr.specs.declared.family.Family.{Family as AddressFamily};
 ghost use Rattle.cidr.specs.model.Bits.{bits};
+ghost use Rattle.cidr.specs.model.Network.{width_of};
 ghost use Rattle.cidr_files.specs.Faults.{IsFaultOfBytes};
 ghost use Rattle.cidr_files.specs.Tables.{AreOffsets, IsStoredTable, offsets_in, part_at, parts_in, stored_networks, value_in};
-ghost use Rattle.cidr_table.specs.model.Prefixes.{IsLookedUp};
-ghost use Rattle.cidr_arrays.specs.Arrays.{prefix_bits};
+ghost use Rattle.cidr_lookup.specs.Keys.{prefix_bits};
 ghost use Rattle.cidr_lists.specs.Forms.{AreFit, IsUnfitAt};
 ghost use Rattle.cidr_lists.specs.Sets.{networks_of};
 ghost use Rattle.cidr_sets.specs.model.Sets.{IsSetOf};
 ghost use Rattle.netset_commands.specs.Causes.{Cause};
 ghost use Rattle.netset_commands.specs.Commands.{IsInRow};
 ghost use Rattle.netset_commands.specs.Compiled.{HasTable};
+ghost use Rattle.netset_commands.specs.KeptLines.{IsRowAmong, IsRowOf};
 ghost use Rattle.netset_commands.specs.LookUps.{LooksUp};
 ghost use Rattle.netset_commands.specs.Stored.{ChecksFile, IsFaultTold, TellsUnfit, by_family, stored_rows, file_error_of, keys_error_of, table_error_of, words_error_of};
 
 use crate::errors::{CommandError, FileError};
 use crate::input::table::{Answer, LookUps, Networks, push_match, push_none};
-use cidr::{BitString, IpAddr, Ipv4Addr, Ipv4Cidr, Ipv6Addr, Ipv6Cidr};
-use cidr_arrays::Word;
+use cidr::{BitString, FamilyCidr, IpAddr, Ipv4Cidr, Ipv6Cidr};
 use cidr_files::{Family, Fault, Ipv4Bytes, Ipv6Bytes, Part, Table, TableFault, checked, lookup};
 use cidr_io::block::Block;
 use cidr_io::memory::Memory;
@@ -27,8 +27,9 @@ use cidr_lists::errors::LineError;
 use cidr_lists::formats::LineFormat;
 use cidr_lists::forms::check_value;
 use cidr_lists::lists::Lists;
+use cidr_lists::printing::block_text;
 use cidr_lists::sets::Sets;
-use cidr_lookup::TableError;
+use cidr_lookup::{Address, TableError};
 use std::alloc::{AllocError, Global};
 use std::marker::Model;
 
@@ -110,6 +111,22 @@ impl<'a> Stored<'a> {
         push_networks::<Ipv6Bytes, Ipv6Cidr>(&self.tables.ipv6, &mut lists.v6)?;
         Ok(Sets::of_lists(lists))
     }
+
+    /// The length of the longest network that an address is in, and its value.
+    fn row_of(&self, address: &IpAddr) -> Option<(u8, &'a [u8])>
+        ensures { IsRowOf (by_family self.now) address.now (option_map (λ row. (row.0, row.1.now)) result) }
+    {
+        match address {
+            IpAddr::V4(address) => {
+                let bytes = Ipv4Bytes::of(u128::from(address.to_bits()));
+                found_in(&self.tables.ipv4, bytes)
+            }
+            IpAddr::V6(address) => {
+                let bytes = Ipv6Bytes::of(address.to_bits());
+                found_in(&self.tables.ipv6, bytes)
+            }
+        }
+    }
 }
 
 /// The value of a row; no bytes where the offsets are wrong.
@@ -147,16 +164,17 @@ fn check_part<W: Family>(format: LineFormat, part: &Part<'_>) -> Result<(), (u64
 }
 
 /// Adds the networks of the rows of a table to others of their family.
-fn push_networks<W: Family, C: OfFile<W>>(
+fn push_networks<W: Family, C: FamilyCidr>(
     part: &Part<'_>,
     networks: &mut Vec<C>,
 ) -> Result<(), AllocError>
+    requires { W.width ≡ width_of C.FAMILY }
     ensures { OnOk result (map C.bits networks.new.items ≡ map C.bits networks.old.items
         ++ map (prefix_bits W.width) (stored_networks W.numbers (parts_in part.now))) }
 {
     let addresses = W::addresses(part.addresses);
     for row in 0..addresses.len().min(part.lengths.len()) {
-        let mut network = C::host(addresses[row]);
+        let mut network = C::new_host(C::from_number(addresses[row].number()));
         network.clip(usize::from(part.lengths[row]));
         networks.push(network)?;
     }
@@ -212,35 +230,14 @@ fn file_error_of(fault: &Fault) -> Option<FileError>
     }
 }
 
-/// Networks of a family, of whose addresses a file has the bytes.
-trait OfFile<W: Family>: BitString + Copy {
-    /// The network of one address.
-    fn host(address: W) -> Self
-        ensures { Self.bits result ≡ bits W.width (W.value address) };
-}
-
-impl OfFile<Ipv4Bytes> for Ipv4Cidr {
-    fn host(address: Ipv4Bytes) -> Ipv4Cidr {
-        Ipv4Cidr::new_host(Ipv4Addr::from_bits(address.number() as u32))
-    }
-}
-
-impl OfFile<Ipv6Bytes> for Ipv6Cidr {
-    fn host(address: Ipv6Bytes) -> Ipv6Cidr {
-        Ipv6Cidr::new_host(Ipv6Addr::from_bits(address.number()))
-    }
-}
-
-/// The longest network of a table that an address is in, and its value.
-fn found_in<'a, W: Family, C: OfFile<W>>(part: &Part<'a>, address: W) -> Option<(C, &'a [u8])>
+/// The length of the longest network of a table that an address is in, and its value.
+fn found_in<'a, W: Family>(part: &Part<'a>, address: W) -> Option<(u8, &'a [u8])>
     requires { IsStoredTable W.width W.padding W.numbers (parts_in part.now) part.now.steps }
-    ensures { IsLookedUp (λ p. p) (bits W.width (W.value address)) (stored_rows W.width W.numbers (parts_in part.now))
-        (option_map (λ found. (C.bits found.0, found.1.now)) result) }
+    ensures { IsRowAmong (stored_rows W.width W.numbers (parts_in part.now)) (bits W.width (W.value address))
+        (option_map (λ row. (row.0, row.1.now)) result) }
 {
     let (row, value) = lookup(part, address)?;
-    let mut network = C::host(address);
-    network.clip(usize::from(part.lengths[row]));
-    Some((network, value))
+    Some((part.lengths[row], value))
 }
 
 impl LookUps for Stored<'_> {
@@ -260,42 +257,15 @@ impl LookUps for Stored<'_> {
         out: &mut S,
     ) -> Result<bool, OutputFailed> {
         let text = address.to_text();
-        match address {
-            IpAddr::V4(address) => {
-                let bytes = Ipv4Bytes::of(u128::from(address.to_bits()));
-                match found_in::<Ipv4Bytes, Ipv4Cidr>(&self.tables.ipv4, bytes) {
-                    Some(found) => push_match(block, out, text, found.0.to_text(), found.1),
-                    None => push_none(block, out, text),
-                }
-            }
-            IpAddr::V6(address) => {
-                let bytes = Ipv6Bytes::of(address.to_bits());
-                match found_in::<Ipv6Bytes, Ipv6Cidr>(&self.tables.ipv6, bytes) {
-                    Some(found) => push_match(block, out, text, found.0.to_text(), found.1),
-                    None => push_none(block, out, text),
-                }
-            }
+        match self.row_of(address) {
+            Some((len, value)) => push_match(block, out, text, block_text(address, len), value),
+            None => push_none(block, out, text),
         }
     }
 }
 
 impl Networks for Stored<'_> {
     fn row(&self, address: &IpAddr) -> Option<(u8, &[u8])> {
-        match address {
-            IpAddr::V4(address) => {
-                let bytes = Ipv4Bytes::of(u128::from(address.to_bits()));
-                match found_in::<Ipv4Bytes, Ipv4Cidr>(&self.tables.ipv4, bytes) {
-                    Some(found) => Some((found.0.len() as u8, found.1)),
-                    None => None,
-                }
-            }
-            IpAddr::V6(address) => {
-                let bytes = Ipv6Bytes::of(address.to_bits());
-                match found_in::<Ipv6Bytes, Ipv6Cidr>(&self.tables.ipv6, bytes) {
-                    Some(found) => Some((found.0.len() as u8, found.1)),
-                    None => None,
-                }
-            }
-        }
+        self.row_of(address)
     }
 }

@@ -7,7 +7,7 @@ ghost use Rattle.netset_commands.specs.Causes.{Cause, FileFails};
 ghost use Rattle.cidr_lists.specs.LookUps.{found_line};
 ghost use Rattle.netset_commands.specs.KeptLines.{IsRowOf};
 ghost use Rattle.netset_commands.specs.LookUps.{GivesRows, GivesTable, HasAnswer, LooksUp, PushesFound, ReadsFileRows, answer_of, ReadsTable, unread};
-ghost use Rattle.cidr_lists.specs.Tables.{kept};
+ghost use Rattle.netset_commands.specs.Rows.{searched};
 ghost use Rattle.netset_commands.specs.declared.input.table.Answer.{Answer};
 
 use crate::errors::{CommandError, ReadError, Reason};
@@ -15,6 +15,7 @@ use crate::input::begun::{Given, begin_file, read_whole};
 use crate::input::files::Sources;
 use crate::input::keeping::Said;
 use crate::input::rows::read_rows;
+use crate::input::tables::{SearchedTable, Table};
 use arrayvec::ArrayString;
 use cidr::{BitString, Family, IpAddr, Ipv4Cidr, Ipv6Cidr};
 use cidr_io::block::Block;
@@ -25,7 +26,6 @@ use cidr_lists::formats::LineFormat;
 use cidr_lists::forms::{RowColumns, RowForm, RowLayout};
 use cidr_lists::printing::block_text;
 use cidr_lists::rows::{Rows, Span, value_of};
-use cidr_lists::table::Table;
 
 /// The longest network of a table that an address is in, by its length, and where its value stands.
 #[derive(Clone, Copy, Drop)]
@@ -77,8 +77,8 @@ fn answer_of<C: BitString>(found: Option<&(C, Span)>) -> Option<Answer>
     })
 }
 
-impl LookUps for Table {
-    ghost rows = { kept };
+impl LookUps for SearchedTable {
+    ghost rows = { searched };
 
     ghost is_found = { HasAnswer };
 
@@ -112,7 +112,7 @@ impl LookUps for Table {
     }
 }
 
-impl Networks for Table {
+impl Networks for SearchedTable {
     fn row(&self, address: &IpAddr) -> Option<(u8, &[u8])> {
         match self.find(address) {
             Some(answer) => Some((answer.len, value_of(self.values.as_slice(), answer.value))),
@@ -296,13 +296,13 @@ pub fn give_table<'a, M: Memory, F: Sources>(
     sources: &F,
     form: RowForm,
     file: &'a str,
-) -> Result<Given<Table>, CommandError<'a>>
+) -> Result<Given<SearchedTable>, CommandError<'a>>
     ensures gives { GivesTable form (F.contents sources.now file.now) file.now result }
     ensures cause { IfErr result (Cause (FileFails (F.contents sources.now) (F.reasons sources.now)) (M.refused memory.new)) }
 {
     match give_rows(memory, sources, form, file)? {
         Given::Lines(rows) => {
-            let table = Table::of_rows(memory.alloc(), rows);
+            let table = SearchedTable::of_rows(memory.alloc(), rows);
             let table = memory.watch(table)?;
             Ok(Given::Lines(table))
         }
@@ -341,7 +341,5 @@ pub fn read_table<'a, M: Memory, F: Sources>(
     ensures cause { IfErr result (Cause (FileFails (F.contents sources.now) (F.reasons sources.now)) (M.refused memory.new)) }
 {
     let rows = rows_of(memory, sources, form, file)?;
-    let table = Table::of_rows(memory.alloc(), rows);
-    let table = memory.watch(table)?;
-    Ok(table)
+    Ok(Table::of_rows(rows))
 }

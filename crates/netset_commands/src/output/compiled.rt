@@ -1,47 +1,16 @@
 //! Tables as files of look-ups.
-ghost use Rattle.std.specs.Prelude.{◌≡◌, ◌≤◌, ◌^◌, IfNone, IfOk, IfSome, length};
-ghost use Rattle.cidr.specs.model.Bits.{number};
-ghost use Rattle.cidr.specs.model.Network.{first_of};
-ghost use Rattle.cidr_lists.specs.Tables.{kept};
+ghost use Rattle.std.specs.Prelude.{◌≡◌, ◌≤◌, ◌^◌, IfNone, IfOk, IfSome};
+ghost use Rattle.cidr.specs.model.Network.{width_of};
+ghost use Rattle.netset_commands.specs.Rows.{kept};
 ghost use Rattle.netset_commands.specs.Columns.{AreColumns, value_bytes};
 ghost use Rattle.netset_commands.specs.Compiled.{IsTableFile, IsTooLarge};
 
-use cidr::{Ipv4Cidr, Ipv6Cidr, NetworkBits};
-use cidr_arrays::{Key, Word};
+use crate::input::tables::Table;
+use cidr::{FamilyCidr, Ipv4Cidr, Ipv6Cidr};
 use cidr_files::{Family, Ipv4Bytes, Ipv6Bytes, Rows, WriteError, written};
 use cidr_lists::rows::{Span, value_of};
-use cidr_lists::table::Table;
-use cidr_lookup::TableError;
+use cidr_lookup::{Key, TableError};
 use std::alloc::{AllocError, Global};
-
-/// A network of one family, as a file has it.
-trait Keyed<W: Family>: NetworkBits + Copy {
-    /// Its first address and its prefix length.
-    fn key(&self) -> Key<W>
-        ensures address { W.value result.address ≡ number (first_of W.width (Self.bits self.now)) }
-        ensures len { result.len ≡ length (Self.bits self.now) }
-        ensures fits { result.len ≤ W.width };
-}
-
-impl Keyed<Ipv4Bytes> for Ipv4Cidr {
-    fn key(&self) -> Key<Ipv4Bytes> {
-        let first = self.first_address().to_bits();
-        Key {
-            address: Ipv4Bytes::of(u128::from(first)),
-            len: u32::from(self.network_length()),
-        }
-    }
-}
-
-impl Keyed<Ipv6Bytes> for Ipv6Cidr {
-    fn key(&self) -> Key<Ipv6Bytes> {
-        let first = self.first_address().to_bits();
-        Key {
-            address: Ipv6Bytes::of(first),
-            len: u32::from(self.network_length()),
-        }
-    }
-}
 
 /// The rows of one family, as a file has them.
 #[derive(Drop)]
@@ -68,11 +37,12 @@ impl<W> Columns<W> {
 }
 
 /// The rows of one family, whose values stand among those of all; `None` where these are more bytes than an offset counts.
-fn columns_of<W: Family, C: Keyed<W>>(
+fn columns_of<W: Family, C: FamilyCidr>(
     alloc: Global,
     rows: &[(C, Span)],
     all: &[u8],
 ) -> Result<Option<Columns<W>>, AllocError>
+    requires { W.width ≡ width_of C.FAMILY }
     ensures made { IfOk result (λ made. IfSome made (AreColumns W.width W.value C.bits all.now rows.now)) }
     ensures large { IfOk result (λ made. IfNone made (2 ^ 32 ≤ value_bytes all.now rows.now)) }
 {
@@ -81,7 +51,7 @@ fn columns_of<W: Family, C: Keyed<W>>(
     let mut values = Vec::new(alloc);
     offsets.push(0)?;
     for row in rows {
-        let key = row.0.key();
+        let key = Key::<W>::of(&row.0);
         keys.push(key)?;
         values.extend_from_slice(value_of(all, row.1))?;
         let end = values.len();
@@ -98,17 +68,17 @@ fn columns_of<W: Family, C: Keyed<W>>(
 }
 
 /// The bytes of a file of look-ups that has the rows of a table; `None` where it is too large for one: where a family has
-/// 2^31 rows or more, values of 2^32 bytes or more, or look-ups of 2^31 words or more. The error is that there is no memory.
+/// 2^31 rows or more, values of 2^32 bytes or more, or look-ups of 2^30 words or more. The error is that there is no memory.
 pub fn compiled(alloc: Global, table: &Table) -> Result<Option<Vec<u8>>, AllocError>
     ensures file { IfOk result (λ file. IfSome file (λ bytes. IsTableFile (kept table.now) bytes.items)) }
     ensures large { IfOk result (λ file. IfNone file (IsTooLarge (kept table.now))) }
 {
     let all = table.values.as_slice();
-    let made = columns_of::<Ipv4Bytes, Ipv4Cidr>(alloc, table.v4.table().iter().as_slice(), all)?;
+    let made = columns_of::<Ipv4Bytes, Ipv4Cidr>(alloc, table.v4.iter().as_slice(), all)?;
     let Some(ipv4) = made else {
         return Ok(None);
     };
-    let others = columns_of::<Ipv6Bytes, Ipv6Cidr>(alloc, table.v6.table().iter().as_slice(), all)?;
+    let others = columns_of::<Ipv6Bytes, Ipv6Cidr>(alloc, table.v6.iter().as_slice(), all)?;
     let Some(ipv6) = others else {
         return Ok(None);
     };

@@ -1,15 +1,16 @@
 //! Writing networks, one a line, in blocks.
 ghost use Rattle.std.specs.List.{flat_map};
+ghost use Rattle.cidr.specs.texts.Printed.{plain_text};
 ghost use Rattle.cidr_io.specs.Writing.{Writes};
 ghost use Rattle.cidr_lists.specs.Printing.{line};
 ghost use Rattle.std.specs.Prelude.{[]};
 ghost use Rattle.cidr_io.specs.Collecting.{Collects};
 
+use cidr::FamilyCidr;
 use cidr_io::block::Block;
 use cidr_io::lines::LineReader;
 use cidr_io::sink::{OutputFailed, Sink};
 use cidr_io::source::Source;
-use cidr_lists::printing::Printed;
 
 /// Writes the lines of a block before more is read, so that they don't wait for it.
 pub fn catch_up<R: Source + Drop, S: Sink>(
@@ -26,12 +27,16 @@ pub fn catch_up<R: Source + Drop, S: Sink>(
 }
 
 /// Writes networks in blocks, one a line.
-pub fn write_networks<C: Printed, S: Sink>(out: &mut S, networks: &[C]) -> Result<(), OutputFailed>
-    ensures { Writes (S.state out.old) (S.state out.new) (flat_map (λ network. line (C.text network)) networks.now) result }
+pub fn write_networks<C: FamilyCidr, S: Sink>(
+    out: &mut S,
+    networks: &[C],
+) -> Result<(), OutputFailed>
+    ensures { Writes (S.state out.old) (S.state out.new)
+        (flat_map (λ network. line (plain_text C.FAMILY (C.bits network))) networks.now) result }
 {
     let mut block = Block::new();
     for network in networks {
-        let text = network.printed();
+        let text = network.to_text();
         block.push_line(out, &[text.as_str().as_bytes(), b"\n"])?;
     }
     block.write(out)

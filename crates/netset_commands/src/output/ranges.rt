@@ -1,32 +1,34 @@
 //! Writing sets as ranges of addresses.
+ghost use Rattle.std.specs.Prelude.{◌≡◌};
 ghost use Rattle.std.specs.List.{flat_map};
+ghost use Rattle.cidr.specs.texts.PrintedAddress.{address_text};
 ghost use Rattle.cidr_io.specs.Writing.{Writes};
 ghost use Rattle.cidr_io.specs.Collecting.{Collects};
 ghost use Rattle.netset_commands.specs.Sets.{Prints};
 ghost use Rattle.cidr_lists.specs.Sets.{networks_of, range_line};
 ghost use Rattle.cidr_lists.specs.declared.sets.Form.TheVariants.{Ranges as AsRanges};
 
+use cidr::FamilyCidr;
 use cidr_io::block::Block;
 use cidr_io::sink::{OutputFailed, Sink};
 use cidr_io::writing::flush;
-use cidr_lists::printing::PrintedAddress;
 use cidr_lists::sets::Sets;
-use cidr_sets::{AddressRange, Ranges};
+use cidr_sets::{AddressRange, Addressed, Ranges};
 
 /// Appends a range to a block, as a line.
-fn push_range<C: PrintedAddress, S: Sink>(
+fn push_range<C: FamilyCidr, S: Sink>(
     block: &mut Block,
     out: &mut S,
     range: AddressRange<C::Address>,
 ) -> Result<(), OutputFailed>
     ensures { Collects (S.state out.old) (S.state out.new) block.old block.new
-        (range_line C.shown (C.address_bits range.first, C.address_bits range.last)) result }
+        (range_line (address_text C.FAMILY) (C.Address.bits range.first, C.Address.bits range.last)) result }
 {
-    let first = C::shown(&range.first);
-    if C::are_same(&range.first, &range.last) {
+    let first = C::address_text(&range.first);
+    if C::to_number(range.first) == C::to_number(range.last) {
         return block.push_line(out, &[first.as_str().as_bytes(), b"\n"]);
     }
-    let last = C::shown(&range.last);
+    let last = C::address_text(&range.last);
     block.push_line(
         out,
         &[
@@ -39,11 +41,12 @@ fn push_range<C: PrintedAddress, S: Sink>(
 }
 
 /// Writes ranges in blocks, one a line.
-fn write_each<C: PrintedAddress, S: Sink>(
+fn write_each<C: FamilyCidr + Addressed<Address = <C as FamilyCidr>::Address>, S: Sink>(
     out: &mut S,
     mut ranges: Ranges<'_, C>,
 ) -> Result<(), OutputFailed>
-    ensures { Writes (S.state out.old) (S.state out.new) (flat_map (range_line C.shown) ranges.entry) result }
+    requires { (address : C.Address) → C.address_bits address ≡ C.Address.bits address }
+    ensures { Writes (S.state out.old) (S.state out.new) (flat_map (range_line (address_text C.FAMILY)) ranges.entry) result }
 {
     let mut block = Block::new();
     while let Some(range) = ranges.next() {

@@ -1,7 +1,7 @@
 //! Tables whose allocations are refused.
 use crate::growths::block;
 use cidr::Ipv4Cidr;
-use cidr_table::{LpmTable, ReadyTable};
+use cidr_table::LpmTable;
 use std::alloc::{AllocError, Global};
 
 /// A table of networks with a number each.
@@ -31,14 +31,6 @@ pub fn hosts(alloc: Global, rows: u32, apart: u32) -> Result<Routes, AllocError>
 fn has(routes: &Routes, key: &Ipv4Cidr, value: u32) -> bool {
     match routes.get(key) {
         Some(found) => *found == value,
-        None => false,
-    }
-}
-
-/// Whether a look-up found the row with this number.
-fn is_row(found: Option<&(Ipv4Cidr, u32)>, i: u32) -> bool {
-    match found {
-        Some((network, value)) => *network == key(i) && *value == i,
         None => false,
     }
 }
@@ -87,65 +79,6 @@ pub fn reserve(alloc: Global) -> Result<bool, AllocError> {
         held &= matches!(routes.insert(key(i), i), Ok(None));
     }
     Ok(held && routes.len() == 5)
-}
-
-/// Whether each key is looked up in the rows made ready.
-fn are_found(alloc: Global, routes: &Routes, rows: u32) -> Result<bool, AllocError> {
-    let ready = routes.lookups(alloc)?;
-    let mut held = true;
-    for i in 0..rows {
-        held &= is_row(ready.lookup(&key(i)), i);
-    }
-    Ok(held)
-}
-
-/// Whether so many rows are made ready for look-ups.
-fn are_ready(alloc: Global, rows: u32) -> Result<bool, AllocError> {
-    let routes = hosts(alloc, rows, APART)?;
-    match are_found(alloc, &routes, rows) {
-        Ok(found) => Ok(found),
-        Err(_) => are_found(alloc, &routes, rows),
-    }
-}
-
-/// Whether rows are made ready for look-ups, few and many.
-pub fn lookups(alloc: Global) -> Result<bool, AllocError> {
-    let mut held = true;
-    for rows in [0_u32, 3, 16_384] {
-        held &= are_ready(alloc, rows)?;
-    }
-    Ok(held)
-}
-
-/// A table made ready, once more where it comes back, and whether all rows came back then.
-fn made_ready(
-    alloc: Global,
-    routes: Routes,
-) -> Result<(ReadyTable<Ipv4Cidr, u32>, bool), AllocError> {
-    let rows = routes.len();
-    match routes.into_lookups(alloc) {
-        Ok(ready) => Ok((ready, true)),
-        Err(same) => {
-            let came_back = same.len() == rows;
-            match same.into_lookups(alloc) {
-                Ok(ready) => Ok((ready, came_back)),
-                Err(_) => Err(AllocError),
-            }
-        }
-    }
-}
-
-/// Whether a table is made ready, and comes back as it was where that is refused.
-pub fn into_lookups(alloc: Global) -> Result<bool, AllocError> {
-    let mut held = true;
-    for rows in [3_u32, 16_384] {
-        let (ready, came_back) = made_ready(alloc, hosts(alloc, rows, APART)?)?;
-        held &= came_back && ready.table().len() == rows as usize;
-        for i in 0..rows {
-            held &= is_row(ready.lookup(&key(i)), i);
-        }
-    }
-    Ok(held)
 }
 
 /// Whether a table is cloned.

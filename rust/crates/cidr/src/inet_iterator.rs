@@ -46,7 +46,9 @@ impl<A: Address> InetIterator<A> {
         left.size_hint()
     }
 
-    /// How many are left, or `None` where that is 2^64 or more. It takes no step, unlike `Iterator::count`.
+    /// How many are left, or `None` where that is 2^64 or more. It takes no step.
+    ///
+    /// It hides `Iterator::count`, which takes a step for each and returns a `usize`: call that as `Iterator::count(walk)`.
     ///
     /// ```
     /// # use cidr::{canon::*, errors::*, parsers::*, *};
@@ -192,7 +194,9 @@ pub struct InetAddressIterator<A: Address> {
 }
 
 impl<A: Address> InetAddressIterator<A> {
-    /// How many are left, or `None` where that is 2^64 or more. It takes no step, unlike `Iterator::count`.
+    /// How many are left, or `None` where that is 2^64 or more. It takes no step.
+    ///
+    /// It hides `Iterator::count`, which takes a step for each and returns a `usize`: call that as `Iterator::count(walk)`.
     ///
     /// ```
     /// # use cidr::{canon::*, errors::*, parsers::*, *};

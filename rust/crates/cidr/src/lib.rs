@@ -228,6 +228,12 @@
 #![no_std]
 #![forbid(unsafe_code)]
 #![allow(unused_imports, unused_variables, dead_code, unstable_name_collisions)]
+#![allow(clippy::style, clippy::complexity, clippy::perf)]
+#![allow(clippy::manual_unwrap_or_default, clippy::non_canonical_partial_ord_impl)]
+#![allow(clippy::incompatible_msrv)]
+
+#[cfg(feature = "serde")]
+mod serde_forms;
 
 mod addr;
 mod arithmetic;
@@ -254,14 +260,15 @@ pub use addr::v6::Ipv6Addr;
 pub use bits::{BitString, NetworkBits};
 pub use cidr::any::AnyIpCidr;
 pub use cidr::combined::IpCidr;
-pub use cidr::network::{Ipv4Cidr, Ipv6Cidr};
+pub use cidr::network::{Ipv4Cidr, Ipv6Cidr, Network};
 pub use family::Family;
 pub use inet::combined::IpInet;
-pub use inet::host::{Ipv4Inet, Ipv6Inet};
+pub use inet::host::{Ipv4Inet, Ipv6Inet, Host};
 pub use inet_iterator::driving::{End, drive};
 pub use inet_iterator::{InetAddressIterator, InetIterator};
 pub use inet_pair::combined::IpInetPair;
-pub use inet_pair::host_pair::{Ipv4InetPair, Ipv6InetPair};
+pub use inet_pair::host_pair::{Ipv4InetPair, Ipv6InetPair, HostPair};
 pub use prefix_bytes::PrefixBytes;
 pub use text::with_length::WithLength;
+pub use traits::family_cidr::FamilyCidr;
 pub use traits::{Address, Cidr, Inet, InetPair};

@@ -12,6 +12,7 @@ use core::hash::Hash;
 use core::str::FromStr;
 
 pub(crate) mod combined;
+pub(crate) mod family_cidr;
 mod one_family;
 pub(crate) mod sealed_types;
 pub(crate) mod v4;
@@ -92,6 +93,10 @@ pub trait Cidr: Sized + Copy + Debug + Display + FromStr<Err = NetworkParseError
     /// assert_eq!(format!("{:?}", <IpCidr as Cidr>::new("192.0.2.48".parse()?, 27)), "Err(host part of address was not zero)");
     /// # Ok::<(), Box<dyn std::error::Error>>(())
     /// ```
+    ///
+    /// # Errors
+    ///
+    /// `NetworkParseError`, whose variant is the first of the errors in the order that the crate's page has.
     fn new(addr: Self::Address, len: u8) -> Result<Self, NetworkParseError>;
 
     /// The network that has only this address, of full prefix length: /32 in IPv4 and /128 in IPv6.
@@ -232,6 +237,10 @@ pub trait Inet: Sized + Copy + Debug + Display + FromStr<Err = NetworkParseError
     /// assert!(<IpInet as Inet>::new("192.0.2.50".parse()?, 33).is_err());
     /// # Ok::<(), Box<dyn std::error::Error>>(())
     /// ```
+    ///
+    /// # Errors
+    ///
+    /// `NetworkLengthTooLongError` for a prefix length above the width, 32 or 128.
     fn new(addr: Self::Address, len: u8) -> Result<Self, NetworkLengthTooLongError>;
 
     /// The host of full prefix length, whose network has only this address: /32 in IPv4 and /128 in IPv6.
@@ -445,6 +454,10 @@ pub trait InetPair: Sized + Copy + Debug + Eq + Hash + PrivInetPair {
     /// assert_eq!(format!("{}", <IpInetPair as InetPair>::new(first, second)?), "(10.0.0.1/8, 10.0.0.3/8)");
     /// # Ok::<(), Box<dyn std::error::Error>>(())
     /// ```
+    ///
+    /// # Errors
+    ///
+    /// `InetTupleError`, whose variant says whether the prefix length is above the width or the networks differ.
     fn new(
         first: <Self::Address as Address>::Inet,
         second: <Self::Address as Address>::Inet,
@@ -462,6 +475,10 @@ pub trait InetPair: Sized + Copy + Debug + Eq + Hash + PrivInetPair {
     /// assert_eq!(format!("{:?}", <IpInetPair as InetPair>::new_from_addresses(first, second, 0)), "Err(addresses not in shared network)");
     /// # Ok::<(), Box<dyn std::error::Error>>(())
     /// ```
+    ///
+    /// # Errors
+    ///
+    /// `InetTupleError`, whose variant says whether the prefix length is above the width or the networks differ.
     fn new_from_addresses(
         first: Self::Address,
         second: Self::Address,

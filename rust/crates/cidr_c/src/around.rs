@@ -7,8 +7,8 @@ use crate::finding::{
 };
 use crate::values::{CValue, address_of, ip_network_of, network_of, put_address, put_network};
 use cidr::{IpAddr, IpCidr, Ipv4Addr, Ipv4Cidr};
-use cidr_arrays::Halves;
 use cidr_ext::{CidrExt, IpCidrExt, NetworkExt};
+use cidr_lookup::Halves;
 
 /// The network of prefix length `len` that contains that of a host, or none where `len` is above the length of that.
 #[inline]

@@ -35,10 +35,8 @@ pub const NO_MEMORY: u32 = 12;
 pub const WRAPPED: u32 = 13;
 /// A string that is to be an address alone is none.
 pub const NOT_ADDRESS: u32 = 14;
-/// There are more than 2,147,483,647 networks, or words of their look-up table.
+/// There are more than 2,147,483,647 networks, or more than 1,073,741,823 words of their look-up table.
 pub const TOO_MANY: u32 = 15;
-/// A shift is not below the number of bits of an address.
-pub const SHIFT: u32 = 16;
 /// Arrays are not those of the networks.
 pub const NO_TABLE: u32 = 17;
 /// Bytes are no file of look-up tables.
@@ -66,6 +64,8 @@ pub const LINE_TOO_LONG: u32 = 27;
 pub const TWO_FAMILIES: u32 = 28;
 /// The first address of a range is above the last one.
 pub const REVERSED: u32 = 29;
+/// It stands there already.
+pub const PRESENT: u32 = 30;
 
 /// The number of an error of parsing.
 #[inline]
@@ -151,7 +151,6 @@ pub fn message(code: u32) -> &'static str {
         13 => "step leaves the network",
         14 => "invalid IP address syntax",
         15 => "too many networks",
-        16 => "shift is too great for the family",
         17 => "arrays are not those of the networks",
         18 => "not a file of look-up tables",
         19 => "file is of another version",
@@ -165,6 +164,7 @@ pub fn message(code: u32) -> &'static str {
         27 => "line is longer than 1 MiB",
         28 => "the ends of the range are of two families",
         29 => "the first address of the range is above the last one",
+        30 => "the network stands there already",
         _ => "",
     }
 }

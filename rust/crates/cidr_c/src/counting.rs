@@ -5,60 +5,22 @@ use cidr_support::vec::Vec;
 use crate::codes::{NO_MEMORY, NO_VALUE};
 use crate::finding::{joined, put_found_address, put_number};
 use crate::values::{CValue, network_of};
-use cidr::{AnyIpCidr, BitString, IpAddr, Ipv4Addr, Ipv4Cidr, Ipv6Addr, Ipv6Cidr};
-use cidr_arrays::Halves;
-use cidr_sets::{AddressSpace, NetworkSet};
+use cidr::{AnyIpCidr, BitString, FamilyCidr, IpAddr, IpCidr, Ipv4Cidr, Ipv6Cidr};
+use cidr_lookup::Halves;
+use cidr_sets::NetworkSet;
 use cidr_support::alloc::Global;
 
-/// The networks of one family, as parts of any networks.
-trait OneFamily: Sized + AddressSpace {
-    /// The part of a network whose addresses are of the family, if there is one: of `Any` all of them.
-    fn part(network: &AnyIpCidr) -> Option<Self>;
-
-    /// An address.
-    fn to_ip(address: Self::Address) -> IpAddr;
-}
-
-impl OneFamily for Ipv4Cidr {
-    fn part(network: &AnyIpCidr) -> Option<Ipv4Cidr> {
-        match network {
-            AnyIpCidr::Any => Some(Ipv4Cidr::null()),
-            AnyIpCidr::V4(network) => {
-                // the call tells the proof that the prefix length fits
-                network.network_length();
-                Some(*network)
-            }
-            AnyIpCidr::V6(_) => None,
-        }
-    }
-
-    #[inline]
-    fn to_ip(address: Ipv4Addr) -> IpAddr {
-        IpAddr::V4(address)
-    }
-}
-
-impl OneFamily for Ipv6Cidr {
-    fn part(network: &AnyIpCidr) -> Option<Ipv6Cidr> {
-        match network {
-            AnyIpCidr::Any => Some(Ipv6Cidr::null()),
-            AnyIpCidr::V4(_) => None,
-            AnyIpCidr::V6(network) => {
-                // the call tells the proof that the prefix length fits
-                network.network_length();
-                Some(*network)
-            }
-        }
-    }
-
-    #[inline]
-    fn to_ip(address: Ipv6Addr) -> IpAddr {
-        IpAddr::V6(address)
+/// The part of a network whose addresses are of the family, if there is one: of `any` all of them.
+#[inline]
+fn part_of<C: FamilyCidr>(network: &AnyIpCidr) -> Option<C> {
+    match Option::<IpCidr>::from(*network) {
+        Some(network) => C::from_ip(network),
+        None => Some(C::null()),
     }
 }
 
 /// The set of the addresses of a family that some networks have, or the number of the error.
-fn family_set<C: OneFamily + Copy>(alloc: Global, values: &[CValue]) -> Result<NetworkSet<C>, u32> {
+fn family_set<C: FamilyCidr>(alloc: Global, values: &[CValue]) -> Result<NetworkSet<C>, u32> {
     let Ok(mut networks) = Vec::with_capacity(alloc, values.len()) else {
         return Err(NO_MEMORY);
     };
@@ -66,7 +28,7 @@ fn family_set<C: OneFamily + Copy>(alloc: Global, values: &[CValue]) -> Result<N
         let Some(network) = network_of(value) else {
             return Err(NO_VALUE);
         };
-        if let Some(part) = C::part(&network) {
+        if let Some(part) = part_of::<C>(&network) {
             let Ok(()) = networks.push(part) else {
                 return Err(NO_MEMORY);
             };
@@ -77,7 +39,7 @@ fn family_set<C: OneFamily + Copy>(alloc: Global, values: &[CValue]) -> Result<N
 
 /// How many addresses of a family some networks have.
 #[inline]
-fn counted<C: OneFamily + Copy>(alloc: Global, networks: &[CValue], count: &mut Halves) -> u32 {
+fn counted<C: FamilyCidr>(alloc: Global, networks: &[CValue], count: &mut Halves) -> u32 {
     match family_set::<C>(alloc, networks) {
         Ok(set) => put_number(set.address_count(), count),
         Err(code) => code,
@@ -86,7 +48,7 @@ fn counted<C: OneFamily + Copy>(alloc: Global, networks: &[CValue], count: &mut 
 
 /// The address at an index among those of a family that some networks have.
 #[inline]
-fn address_at<C: OneFamily + Copy>(
+fn address_at<C: FamilyCidr>(
     alloc: Global,
     networks: &[CValue],
     high: u64,
@@ -101,9 +63,9 @@ fn address_at<C: OneFamily + Copy>(
 
 /// The address of a set at an index.
 #[inline]
-fn nth_of<C: OneFamily + Copy>(set: &NetworkSet<C>, index: u128) -> Option<IpAddr> {
+fn nth_of<C: FamilyCidr>(set: &NetworkSet<C>, index: u128) -> Option<IpAddr> {
     match set.nth(index) {
-        Some(address) => Some(C::to_ip(address)),
+        Some(address) => Some(C::to_ip_address(address)),
         None => None,
     }
 }

@@ -1,15 +1,17 @@
 //! The calls for C. Each passes on what it is given, which is as the header says: see `pointers`.
 #![allow(unsafe_code, clippy::missing_safety_doc)]
 
-use cidr_arrays::Halves;
+use cidr_lookup::Halves;
 use cidr_support::alloc::Global;
 use crate::files::CFile;
 use crate::files::CFound;
 use crate::forwarding::CRow;
-use crate::pointers::{slice, slice_mut, Table};
+use crate::pointers::{slice, slice_mut};
 use crate::ranges::CRange;
 use crate::rules::CRule;
 use crate::special::CSpecial;
+use crate::tables::CTable;
+use crate::tables::CTableSizes;
 use crate::values::CValue;
 
 #[no_mangle]
@@ -483,6 +485,21 @@ pub unsafe extern "C" fn pcidr_rows_covered(networks: *const CValue, networks_le
 }
 
 #[no_mangle]
+pub unsafe extern "C" fn pcidr_rows_covering(networks: *const CValue, networks_len: usize, asked: *const CValue, out: *mut usize, out_len: usize, count: *mut usize) -> u32 {
+    crate::rows::pcidr_rows_covering(slice(networks, networks_len), &*asked, slice_mut(out, out_len), &mut *count)
+}
+
+#[no_mangle]
+pub unsafe extern "C" fn pcidr_rows_insert(networks: *mut CValue, networks_len: usize, count: *mut usize, network: *const CValue, index: *mut usize) -> u32 {
+    crate::rows::pcidr_rows_insert(slice_mut(networks, networks_len), &mut *count, &*network, &mut *index)
+}
+
+#[no_mangle]
+pub unsafe extern "C" fn pcidr_rows_remove(networks: *mut CValue, networks_len: usize, count: *mut usize, network: *const CValue, index: *mut usize) -> u32 {
+    crate::rows::pcidr_rows_remove(slice_mut(networks, networks_len), &mut *count, &*network, &mut *index)
+}
+
+#[no_mangle]
 pub unsafe extern "C" fn pcidr_permits(rules: *const CRule, rules_len: usize, address: *const CValue) -> u32 {
     crate::rules::pcidr_permits(slice(rules, rules_len), &*address)
 }
@@ -588,48 +605,43 @@ pub unsafe extern "C" fn pcidr_subnets(host: *const CValue, len: u8, high: u64, 
 }
 
 #[no_mangle]
-pub unsafe extern "C" fn pcidr_table_room(rows: u32) -> usize {
-    crate::tables::pcidr_table_room(rows)
+pub unsafe extern "C" fn pcidr_ipv4_table_build(networks: *const CValue, networks_len: usize, first: *mut u32, first_len: usize, words: *mut u32, words_len: usize, sizes: *mut CTableSizes) -> u32 {
+    crate::tables::pcidr_ipv4_table_build(Global, slice(networks, networks_len), slice_mut(first, first_len), slice_mut(words, words_len), &mut *sizes)
 }
 
 #[no_mangle]
-pub unsafe extern "C" fn pcidr_ipv4_table_build(networks: *const CValue, networks_len: usize, starts: *mut u32, starts_len: usize, answers: *mut u32, answers_len: usize, level: *mut u32, level_len: usize, shift: u32, count: *mut usize) -> u32 {
-    crate::tables::pcidr_ipv4_table_build(Global, slice(networks, networks_len), slice_mut(starts, starts_len), slice_mut(answers, answers_len), slice_mut(level, level_len), shift, &mut *count)
+pub unsafe extern "C" fn pcidr_ipv6_table_build(networks: *const CValue, networks_len: usize, first: *mut u32, first_len: usize, words: *mut u32, words_len: usize, sizes: *mut CTableSizes) -> u32 {
+    crate::tables::pcidr_ipv6_table_build(Global, slice(networks, networks_len), slice_mut(first, first_len), slice_mut(words, words_len), &mut *sizes)
 }
 
 #[no_mangle]
-pub unsafe extern "C" fn pcidr_ipv6_table_build(networks: *const CValue, networks_len: usize, starts: *mut Halves, starts_len: usize, answers: *mut u32, answers_len: usize, level: *mut u32, level_len: usize, shift: u32, count: *mut usize) -> u32 {
-    crate::tables::pcidr_ipv6_table_build(Global, slice(networks, networks_len), slice_mut(starts, starts_len), slice_mut(answers, answers_len), slice_mut(level, level_len), shift, &mut *count)
+pub unsafe extern "C" fn pcidr_ipv4_table_check(networks: *const CValue, networks_len: usize, first: *const u32, first_len: usize, words: *const u32, words_len: usize, steps: u32) -> u32 {
+    crate::tables::pcidr_ipv4_table_check(Global, slice(networks, networks_len), slice(first, first_len), slice(words, words_len), steps)
 }
 
 #[no_mangle]
-pub unsafe extern "C" fn pcidr_ipv4_table_check(networks: *const CValue, networks_len: usize, starts: *const u32, starts_len: usize, answers: *const u32, answers_len: usize, level: *const u32, level_len: usize, shift: u32) -> u32 {
-    crate::tables::pcidr_ipv4_table_check(Global, slice(networks, networks_len), slice(starts, starts_len), slice(answers, answers_len), slice(level, level_len), shift)
+pub unsafe extern "C" fn pcidr_ipv6_table_check(networks: *const CValue, networks_len: usize, first: *const u32, first_len: usize, words: *const u32, words_len: usize, steps: u32) -> u32 {
+    crate::tables::pcidr_ipv6_table_check(Global, slice(networks, networks_len), slice(first, first_len), slice(words, words_len), steps)
 }
 
 #[no_mangle]
-pub unsafe extern "C" fn pcidr_ipv6_table_check(networks: *const CValue, networks_len: usize, starts: *const Halves, starts_len: usize, answers: *const u32, answers_len: usize, level: *const u32, level_len: usize, shift: u32) -> u32 {
-    crate::tables::pcidr_ipv6_table_check(Global, slice(networks, networks_len), slice(starts, starts_len), slice(answers, answers_len), slice(level, level_len), shift)
+pub unsafe extern "C" fn pcidr_ipv4_table_lookup(first: *const u32, first_len: usize, words: *const u32, words_len: usize, table: *const CTable, address: *const CValue) -> u32 {
+    crate::tables::pcidr_ipv4_table_lookup(slice(first, first_len), slice(words, words_len), &*table, &*address)
 }
 
 #[no_mangle]
-pub unsafe extern "C" fn pcidr_ipv4_table_lookup(starts: *const u32, starts_len: usize, level: *const u32, level_len: usize, table: *const Table, address: *const CValue) -> u32 {
-    crate::tables::pcidr_ipv4_table_lookup(slice(starts, starts_len), slice(level, level_len), &(*table).parts(), &*address)
+pub unsafe extern "C" fn pcidr_ipv6_table_lookup(first: *const u32, first_len: usize, words: *const u32, words_len: usize, table: *const CTable, address: *const CValue) -> u32 {
+    crate::tables::pcidr_ipv6_table_lookup(slice(first, first_len), slice(words, words_len), &*table, &*address)
 }
 
 #[no_mangle]
-pub unsafe extern "C" fn pcidr_ipv6_table_lookup(starts: *const Halves, starts_len: usize, level: *const u32, level_len: usize, table: *const Table, address: *const CValue) -> u32 {
-    crate::tables::pcidr_ipv6_table_lookup(slice(starts, starts_len), slice(level, level_len), &(*table).parts(), &*address)
+pub unsafe extern "C" fn pcidr_ipv4_table_lookup_each(first: *const u32, first_len: usize, words: *const u32, words_len: usize, table: *const CTable, asked: *const CValue, asked_len: usize, out: *mut u32, out_len: usize) -> u32 {
+    crate::tables::pcidr_ipv4_table_lookup_each(slice(first, first_len), slice(words, words_len), &*table, slice(asked, asked_len), slice_mut(out, out_len))
 }
 
 #[no_mangle]
-pub unsafe extern "C" fn pcidr_ipv4_table_lookup_each(starts: *const u32, starts_len: usize, answers: *const u32, answers_len: usize, level: *const u32, level_len: usize, shift: u32, rows: u32, asked: *const CValue, asked_len: usize, out: *mut u32, out_len: usize) -> u32 {
-    crate::tables::pcidr_ipv4_table_lookup_each(slice(starts, starts_len), slice(answers, answers_len), slice(level, level_len), shift, rows, slice(asked, asked_len), slice_mut(out, out_len))
-}
-
-#[no_mangle]
-pub unsafe extern "C" fn pcidr_ipv6_table_lookup_each(starts: *const Halves, starts_len: usize, answers: *const u32, answers_len: usize, level: *const u32, level_len: usize, shift: u32, rows: u32, asked: *const CValue, asked_len: usize, out: *mut u32, out_len: usize) -> u32 {
-    crate::tables::pcidr_ipv6_table_lookup_each(slice(starts, starts_len), slice(answers, answers_len), slice(level, level_len), shift, rows, slice(asked, asked_len), slice_mut(out, out_len))
+pub unsafe extern "C" fn pcidr_ipv6_table_lookup_each(first: *const u32, first_len: usize, words: *const u32, words_len: usize, table: *const CTable, asked: *const CValue, asked_len: usize, out: *mut u32, out_len: usize) -> u32 {
+    crate::tables::pcidr_ipv6_table_lookup_each(slice(first, first_len), slice(words, words_len), &*table, slice(asked, asked_len), slice_mut(out, out_len))
 }
 
 #[no_mangle]

@@ -7,7 +7,7 @@ use cidr_ext::text_fault;
 /// most 73; 0 where none of the faults that are looked for is found, or the string is not UTF-8.
 #[inline]
 pub fn pcidr_text_fault(text: &[u8], out: &mut [u8]) -> usize {
-    let Ok(text) = str::from_utf8(text) else {
+    let Ok(text) = core::str::from_utf8(text) else {
         return 0;
     };
     match text_fault(text) {

@@ -1,13 +1,10 @@
 //! Look-up tables in files.
 
-use crate::codes::{
-    LONG, NO_FILE, NO_MEMORY, NO_ROOM, NO_TABLE, NO_VALUE, OK, OTHER_VERSION, SHORT, TOO_MANY,
-    VALUES,
-};
-use crate::tables::NO_ROW;
+use crate::codes::{LONG, NO_FILE, NO_ROOM, OK, OTHER_VERSION, SHORT, VALUES};
+use crate::tables::{NO_ROW, words_fault_code};
 use crate::values::CValue;
 use cidr_files::{Counts, Family, Fault, Ipv4Bytes, Ipv6Bytes, TableFault, checked, counts, open};
-use cidr_lookup::{TableError, find};
+use cidr_lookup::find;
 use cidr_support::alloc::Global;
 
 /// The size of the header of a file.
@@ -158,29 +155,6 @@ fn table_fault_code(fault: &TableFault) -> u32 {
     match fault {
         TableFault::Words(fault) => words_fault_code(fault),
         TableFault::Offsets => VALUES,
-    }
-}
-
-/// The number of what is wrong with its words.
-#[inline]
-fn words_fault_code(fault: &cidr_lookup::Fault) -> u32 {
-    match fault {
-        cidr_lookup::Fault::Keys(error) => table_error_code(error),
-        cidr_lookup::Fault::Steps
-        | cidr_lookup::Fault::TooLong
-        | cidr_lookup::Fault::First(_)
-        | cidr_lookup::Fault::Word(_) => NO_TABLE,
-    }
-}
-
-/// The number of why keys have no words.
-#[inline]
-fn table_error_code(error: &TableError) -> u32 {
-    match error {
-        TableError::TooMany => TOO_MANY,
-        TableError::Refused(_) => NO_VALUE,
-        TableError::TooLarge => NO_TABLE,
-        TableError::NoMemory => NO_MEMORY,
     }
 }
 

@@ -7,7 +7,7 @@ use crate::sets::set_of;
 use crate::values::{CValue, network_of};
 use cidr::AnyIpCidr;
 use cidr_sets::NetworkSet;
-use cidr_table::{Lookups, LpmTable};
+use cidr_table::LpmTable;
 use cidr_support::alloc::{AllocError, Global};
 
 /// For each asked network 1, where it lies in the others together, and 0 where not, at its index of `out`: 0, or the
@@ -59,14 +59,11 @@ pub fn pcidr_longest_match_each(
     if out.len() < asked.len() {
         return NO_ROOM;
     }
-    let Ok(ready) = table.lookups(alloc) else {
-        return NO_MEMORY;
-    };
     for i in 0..asked.len() {
         let Some(network) = network_of(&asked[i]) else {
             return NO_VALUE;
         };
-        out[i] = index_of(&ready, &network);
+        out[i] = index_of(&table, &network);
     }
     OK
 }
@@ -103,8 +100,8 @@ fn with_indexes(
 
 /// The index of the longest match, or `usize::MAX` where there is none.
 #[inline]
-pub fn index_of(ready: &Lookups<'_, AnyIpCidr, usize>, asked: &AnyIpCidr) -> usize {
-    match ready.lookup(asked) {
+pub fn index_of(table: &LpmTable<AnyIpCidr, usize>, asked: &AnyIpCidr) -> usize {
+    match table.lookup(asked) {
         Some(row) => row.1,
         None => usize::MAX,
     }

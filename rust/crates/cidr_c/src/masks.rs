@@ -145,7 +145,7 @@ fn print_both(front: &str, back: &str, out: &mut [u8]) -> usize {
 /// Reads a network with a network mask or a host mask in place of the prefix length: 0 and the network in `out`, or the
 /// number of the first error.
 pub fn pcidr_read_masked_network(text: &[u8], out: &mut CValue) -> u32 {
-    let Ok(text) = str::from_utf8(text) else {
+    let Ok(text) = core::str::from_utf8(text) else {
         return NOT_UTF8;
     };
     match IpCidr::from_mask_text(text) {

@@ -42,7 +42,7 @@ fn zone_at(network: &IpCidr, index: usize) -> Option<ArrayString<72>> {
 /// Reads a name in reverse DNS: 0 and the network that has it in `out`, or the number of the error.
 #[inline]
 pub fn pcidr_read_reverse_name(text: &[u8], out: &mut CValue) -> u32 {
-    let Ok(name) = str::from_utf8(text) else {
+    let Ok(name) = core::str::from_utf8(text) else {
         return NOT_UTF8;
     };
     put_found_network(IpCidr::from_reverse_name(name), out)

@@ -7,7 +7,7 @@ use crate::lookups::{index_of, rows_of, table_of};
 use crate::values::{CValue, network_of};
 use cidr::{AnyIpCidr, NetworkBits};
 use cidr_ext::NetworkExt;
-use cidr_table::{Lookups, LpmTable};
+use cidr_table::LpmTable;
 use cidr_support::alloc::{AllocError, Global};
 
 /// Rows in the order of their networks, and those of one network by index.
@@ -78,9 +78,9 @@ pub fn pcidr_table_order(
 
 /// The index of the row of the smallest network around a network, or `usize::MAX` where there is none.
 #[inline]
-fn nearest_of(ready: &Lookups<'_, AnyIpCidr, usize>, network: &AnyIpCidr) -> usize {
+fn nearest_of(table: &LpmTable<AnyIpCidr, usize>, network: &AnyIpCidr) -> usize {
     match network.parent() {
-        Some(parent) => index_of(ready, &parent),
+        Some(parent) => index_of(table, &parent),
         None => usize::MAX,
     }
 }
@@ -97,14 +97,11 @@ pub fn pcidr_nearest_each(alloc: Global, networks: &[CValue], out: &mut [usize])
     if out.len() < networks.len() {
         return NO_ROOM;
     }
-    let Ok(ready) = table.lookups(alloc) else {
-        return NO_MEMORY;
-    };
     for i in 0..networks.len() {
         let Some(network) = network_of(&networks[i]) else {
             return NO_VALUE;
         };
-        out[i] = nearest_of(&ready, &network);
+        out[i] = nearest_of(&table, &network);
     }
     OK
 }

@@ -104,5 +104,5 @@ pub fn pcidr_message(code: u32, out: &mut [u8]) -> usize {
 /// The version: 65536 for the major one, 256 for the minor one, and the patch.
 #[inline]
 pub fn pcidr_version() -> u32 {
-    0x300
+    0x400
 }

@@ -1,12 +1,15 @@
 //! Rows that change, in an array of the caller: networks that ascend, each once, as `pcidr_compare` has them. A call costs as
-//! many comparisons as a search by halving, and allocates nothing. Of networks in another order it finds some index that there
-//! is, or none; of a value that is no network the bits after its prefix do not count.
+//! many comparisons as a few searches by halving, and allocates nothing. Of networks in another order it finds some index that
+//! there is, or none; of a value that is no network the bits after its prefix do not count.
 
-use crate::codes::{NO_VALUE, NONE, OK};
-use crate::finding::put_plain;
+use crate::codes::{NO_ROOM, NO_VALUE, NONE, OK, PRESENT};
+use crate::finding::{put_list, put_plain};
 use crate::values::{CValue, network_at, network_of};
 use cidr::AnyIpCidr;
-use cidr_rows::{Keys, covered, find, longest};
+use cidr_rows::{Keys, covered, covering, find, insert, longest, remove};
+
+/// So many networks can begin the bits of one: those of each length up to its own, of 129 at most.
+const MOST: usize = 130;
 
 /// The networks of an array.
 #[derive(Clone, Copy)]
@@ -66,5 +69,73 @@ pub fn pcidr_rows_covered(
     let (first, end) = covered(&Networks { values: networks }, &outer);
     *from = first;
     *to = end;
+    OK
+}
+
+/// The indexes of all networks that a network, or an address, is in, ascending, and so the shortest network first: the first
+/// `count` of `out`; where there is too little room, `count` becomes how many they are.
+#[inline]
+pub fn pcidr_rows_covering(
+    networks: &[CValue],
+    asked: &CValue,
+    out: &mut [usize],
+    count: &mut usize,
+) -> u32 {
+    let Some(asked) = network_of(asked) else {
+        return NO_VALUE;
+    };
+    let mut indexes = [0; MOST];
+    let found = covering(&Networks { values: networks }, &asked, &mut indexes);
+    put_list(&indexes[..found], out, count)
+}
+
+/// Puts a network in its place among the first `count`, and those from there on move by one: 0 and its index. Or the number of
+/// one that stands there already, and its index.
+pub fn pcidr_rows_insert(
+    networks: &mut [CValue],
+    count: &mut usize,
+    network: &CValue,
+    index: &mut usize,
+) -> u32 {
+    if networks.len() < *count {
+        return NO_ROOM;
+    }
+    let mut place = 0;
+    let code = pcidr_rows_find(&networks[..*count], network, &mut place);
+    if code == NO_VALUE {
+        return NO_VALUE;
+    }
+    if code == OK {
+        *index = place;
+        return PRESENT;
+    }
+    if networks.len() == *count {
+        return NO_ROOM;
+    }
+    insert(networks, *count, place, *network);
+    *count += 1;
+    *index = place;
+    OK
+}
+
+/// Takes a network out of the first `count`, and those behind it move by one: 0 and the index where it stood, or the number of
+/// none.
+pub fn pcidr_rows_remove(
+    networks: &mut [CValue],
+    count: &mut usize,
+    network: &CValue,
+    index: &mut usize,
+) -> u32 {
+    if networks.len() < *count {
+        return NO_ROOM;
+    }
+    let mut place = 0;
+    let code = pcidr_rows_find(&networks[..*count], network, &mut place);
+    if code != OK {
+        return code;
+    }
+    remove(networks, *count, place);
+    *count -= 1;
+    *index = place;
     OK
 }

@@ -36,6 +36,8 @@
 #![no_std]
 #![forbid(unsafe_code)]
 #![allow(unused_imports, unused_variables, dead_code, unstable_name_collisions)]
+#![allow(clippy::style, clippy::complexity, clippy::perf)]
+#![allow(clippy::manual_unwrap_or_default, clippy::non_canonical_partial_ord_impl)]
 
 mod address;
 mod either_family;

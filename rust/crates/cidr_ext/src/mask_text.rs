@@ -53,6 +53,10 @@ pub trait CidrMaskText: Sized + Cidr {
     /// assert_eq!(format!("{:?}", Ipv4Cidr::from_mask_text("192.0.2.1/0.0.0.255")), "Err(host part of address was not zero)");
     /// # Ok::<(), Box<dyn std::error::Error>>(())
     /// ```
+    ///
+    /// # Errors
+    ///
+    /// `MaskParseError`, whose variant says which part of the string is wrong.
     fn from_mask_text(text: &str) -> Result<Self, MaskParseError>;
 }
 

@@ -18,8 +18,8 @@ use cidr_support::alloc::Global;
 /// before any.
 ///
 /// ```
-/// # use cidr_arrays::{Key, Word};
 /// # use cidr_files::*;
+/// # use cidr_lookup::{Address, Key};
 /// # use cidr_support::{alloc::Global, vec::Vec};
 /// # use core::net::{Ipv4Addr, Ipv6Addr};
 /// # fn name<'a>(table: &Table<'a>, address: Ipv4Addr) -> Option<&'a str> {
@@ -37,8 +37,8 @@ use cidr_support::alloc::Global;
 /// With such rows of IPv6 as well:
 ///
 /// ```
-/// # use cidr_arrays::{Key, Word};
 /// # use cidr_files::*;
+/// # use cidr_lookup::{Address, Key};
 /// # use cidr_support::{alloc::Global, vec::Vec};
 /// # use core::net::{Ipv4Addr, Ipv6Addr};
 /// # fn name<'a>(table: &Table<'a>, address: Ipv4Addr) -> Option<&'a str> {
@@ -53,6 +53,10 @@ use cidr_support::alloc::Global;
 /// # assert_eq!(name(&checked(Global, file.as_slice())?, Ipv4Addr::new(10, 1, 2, 3)), Some("outer"));
 /// # Ok::<(), Box<dyn std::error::Error>>(())
 /// ```
+///
+/// # Errors
+///
+/// `WriteError`, which tells what is wrong.
 #[inline]
 pub fn written(
     alloc: Global,
@@ -86,7 +90,7 @@ fn table_of<W: Family>(alloc: Global, rows: &Rows<'_, W>) -> Result<LookupTable,
     if rows.values.len() >= 1 << 32 {
         return Err(WriteError::Values);
     }
-    if !are_offsets(rows.offsets, rows.keys.len(), rows.values.len()) {
+    if !are_offsets(&rows.offsets, rows.keys.len(), rows.values.len()) {
         return Err(WriteError::Values);
     }
     let table = build(alloc, rows.keys)?;

@@ -5,9 +5,9 @@ use crate::family::{Family, Ipv4Bytes, Ipv6Bytes};
 use crate::faults::{Fault, TableFault};
 use crate::layout::{Part, Table};
 use crate::opening::open;
-use cidr_arrays::{Index, Key, Word};
 use cidr_lookup::Fault::Keys;
 use cidr_lookup::TableError::NoMemory;
+use cidr_lookup::{Address, Key, Words};
 use cidr_support::alloc::{AllocError, Global};
 
 /// The tables of a file, by [`open`] and by [`check`](crate::check) of both, in the time and memory of these. The error
@@ -15,8 +15,8 @@ use cidr_support::alloc::{AllocError, Global};
 /// is wrong with it.
 ///
 /// ```
-/// # use cidr_arrays::{Key, Word};
 /// # use cidr_files::*;
+/// # use cidr_lookup::{Address, Key};
 /// # use cidr_support::{alloc::Global, vec::Vec};
 /// # use core::net::{Ipv4Addr, Ipv6Addr};
 /// # fn name<'a>(table: &Table<'a>, address: Ipv4Addr) -> Option<&'a str> {
@@ -30,6 +30,10 @@ use cidr_support::alloc::{AllocError, Global};
 /// assert_eq!(format!("{:?}", name(&table, Ipv4Addr::new(192, 0, 3, 0))), "None");
 /// # Ok::<(), Box<dyn std::error::Error>>(())
 /// ```
+///
+/// # Errors
+///
+/// `Fault`, which tells what is wrong.
 pub fn checked(alloc: Global, bytes: &[u8]) -> Result<Table<'_>, Fault> {
     let table = open(bytes)?;
     if let Err(fault) = check::<Ipv4Bytes>(alloc, &table.ipv4) {
@@ -49,8 +53,8 @@ pub fn checked(alloc: Global, bytes: &[u8]) -> Result<Table<'_>, Fault> {
 /// them.
 ///
 /// ```
-/// # use cidr_arrays::{Key, Word};
 /// # use cidr_files::*;
+/// # use cidr_lookup::{Address, Key};
 /// # use cidr_support::{alloc::Global, vec::Vec};
 /// # use core::net::{Ipv4Addr, Ipv6Addr};
 /// # fn name<'a>(table: &Table<'a>, address: Ipv4Addr) -> Option<&'a str> {
@@ -63,6 +67,10 @@ pub fn checked(alloc: Global, bytes: &[u8]) -> Result<Table<'_>, Fault> {
 /// assert_eq!(format!("{:?}", check::<Ipv4Bytes>(Global, &table.ipv4)), "Ok(())");
 /// # Ok::<(), Box<dyn std::error::Error>>(())
 /// ```
+///
+/// # Errors
+///
+/// `TableFault`, which tells what is wrong.
 pub fn check<W: Family>(alloc: Global, part: &Part<'_>) -> Result<(), TableFault> {
     let addresses = W::addresses(part.addresses);
     let Ok(keys) = keys_of(alloc, addresses, part.lengths) else {
@@ -74,14 +82,14 @@ pub fn check<W: Family>(alloc: Global, part: &Part<'_>) -> Result<(), TableFault
         return Err(TableFault::Words(fault));
     }
     let (offsets, _) = part.offsets.as_chunks::<4>();
-    if !are_offsets(offsets, keys.len(), part.values.len()) {
+    if !are_offsets(&offsets, keys.len(), part.values.len()) {
         return Err(TableFault::Offsets);
     }
     Ok(())
 }
 
 /// The keys of addresses and lengths.
-fn keys_of<W: Word>(
+fn keys_of<W: Address>(
     alloc: Global,
     addresses: &[W],
     lengths: &[u8],
@@ -104,31 +112,35 @@ fn keys_of<W: Word>(
 /// The caller has to ensure that there are fewer than 2^63 rows.
 ///
 /// ```
-/// # use cidr_arrays::{Key, Word};
 /// # use cidr_files::*;
+/// # use cidr_lookup::{Address, Key};
 /// # use cidr_support::{alloc::Global, vec::Vec};
 /// # use core::net::{Ipv4Addr, Ipv6Addr};
 /// # fn name<'a>(table: &Table<'a>, address: Ipv4Addr) -> Option<&'a str> {
 /// #     core::str::from_utf8(lookup(&table.ipv4, address.to_bits().to_le_bytes())?.1).ok()
 /// # }
-/// assert!(are_offsets(&[0u32, 5, 10], 2, 10));
+/// assert!(are_offsets(&[0u32, 5, 10].as_slice(), 2, 10));
 /// # Ok::<(), Box<dyn std::error::Error>>(())
 /// ```
-pub fn are_offsets<I: Index>(offsets: &[I], rows: usize, size: usize) -> bool {
+///
+/// # Panics
+///
+/// Unless `rows < usize::MAX / 2`.
+pub fn are_offsets<T: Words>(offsets: &T, rows: usize, size: usize) -> bool {
     assert!(rows < usize::MAX / 2);
     if offsets.len() != rows + 1 {
         return false;
     }
-    if offsets[0].as_index() != 0 {
+    if offsets.word(0) != 0 {
         return false;
     }
     let mut before = 0;
-    for i in 0..offsets.len() {
-        let offset = offsets[i].as_index();
+    for i in 0..rows + 1 {
+        let offset = offsets.word(i);
         if offset < before {
             return false;
         }
         before = offset;
     }
-    before == size
+    before as usize == size
 }

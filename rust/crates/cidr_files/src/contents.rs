@@ -1,7 +1,7 @@
 //! What is written in a file.
 
 use crate::layout::Counts;
-use cidr_arrays::Key;
+use cidr_lookup::Key;
 
 /// The rows of a table: networks, and a value for each.
 pub struct Rows<'a, W> {
@@ -20,7 +20,7 @@ pub struct Contents<'a, W> {
     pub rows: &'a Rows<'a, W>,
     /// The entries of the blocks of addresses, as `build` of `cidr_lookup` returns them.
     pub first: &'a [u32],
-    /// The words of the nodes, from the same.
+    /// The words of nodes and lists, from the same.
     pub words: &'a [u32],
     /// How many steps there are behind the first bits.
     pub steps: u32,

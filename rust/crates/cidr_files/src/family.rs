@@ -18,8 +18,8 @@ pub trait Family: Sized + Address {
     /// few for one are left out.
     ///
     /// ```
-    /// # use cidr_arrays::{Key, Word};
     /// # use cidr_files::*;
+    /// # use cidr_lookup::{Address, Key};
     /// # use cidr_support::{alloc::Global, vec::Vec};
     /// # use core::net::{Ipv4Addr, Ipv6Addr};
     /// # fn name<'a>(table: &Table<'a>, address: Ipv4Addr) -> Option<&'a str> {
@@ -35,8 +35,8 @@ pub trait Family: Sized + Address {
     /// is not told.
     ///
     /// ```
-    /// # use cidr_arrays::{Key, Word};
     /// # use cidr_files::*;
+    /// # use cidr_lookup::{Address, Key};
     /// # use cidr_support::{alloc::Global, vec::Vec};
     /// # use core::net::{Ipv4Addr, Ipv6Addr};
     /// # fn name<'a>(table: &Table<'a>, address: Ipv4Addr) -> Option<&'a str> {
@@ -47,6 +47,10 @@ pub trait Family: Sized + Address {
     /// assert_eq!(format!("{:?}", bytes.as_slice()), "[1, 2, 0, 192]");
     /// # Ok::<(), Box<dyn std::error::Error>>(())
     /// ```
+    ///
+    /// # Errors
+    ///
+    /// `AllocError` where memory runs out.
     fn put(number: u128, out: &mut Vec<u8>) -> Result<(), AllocError>;
 
 }

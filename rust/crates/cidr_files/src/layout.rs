@@ -7,7 +7,7 @@ pub struct Counts {
     pub rows: u32,
     /// How many entries there are, of blocks of addresses with the same first bits.
     pub entries: u32,
-    /// How many words the nodes have.
+    /// How many words nodes and lists have.
     pub words: u32,
     /// How many steps of six bits there are behind the first bits.
     pub steps: u32,
@@ -20,7 +20,7 @@ pub struct Counts {
 pub struct Part<'a> {
     /// The entries of the blocks of addresses that have the same first bits, as `cidr_lookup` has them.
     pub first: &'a [u8],
-    /// The words of the nodes.
+    /// The words of nodes and lists.
     pub words: &'a [u8],
     /// The first addresses of the keys.
     pub addresses: &'a [u8],

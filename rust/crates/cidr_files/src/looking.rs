@@ -23,8 +23,8 @@ pub struct Found {
 /// It takes one step for each six bits that are needed to tell the match, as `find` of `cidr_lookup`, and allocates nothing.
 ///
 /// ```
-/// # use cidr_arrays::{Key, Word};
 /// # use cidr_files::*;
+/// # use cidr_lookup::{Address, Key};
 /// # use cidr_support::{alloc::Global, vec::Vec};
 /// # use core::net::{Ipv4Addr, Ipv6Addr};
 /// # fn name<'a>(table: &Table<'a>, address: Ipv4Addr) -> Option<&'a str> {
@@ -54,8 +54,8 @@ pub fn lookup<'a, W: Family>(part: &Part<'a>, address: W) -> Option<(usize, &'a 
 /// are no table the place is inside of the values, too.
 ///
 /// ```
-/// # use cidr_arrays::{Key, Word};
 /// # use cidr_files::*;
+/// # use cidr_lookup::{Address, Key};
 /// # use cidr_support::{alloc::Global, vec::Vec};
 /// # use core::net::{Ipv4Addr, Ipv6Addr};
 /// # fn name<'a>(table: &Table<'a>, address: Ipv4Addr) -> Option<&'a str> {
@@ -80,8 +80,8 @@ pub fn find<W: Family>(part: &Part<'_>, address: W) -> Option<Found> {
 /// may be wrong, and nothing outside of them is read. In the time of [`lookup`], without the offsets and the values.
 ///
 /// ```
-/// # use cidr_arrays::{Key, Word};
 /// # use cidr_files::*;
+/// # use cidr_lookup::{Address, Key};
 /// # use cidr_support::{alloc::Global, vec::Vec};
 /// # use core::net::{Ipv4Addr, Ipv6Addr};
 /// # fn name<'a>(table: &Table<'a>, address: Ipv4Addr) -> Option<&'a str> {

@@ -7,10 +7,7 @@ use crate::layout::{Counts, Part, Table};
 pub(crate) const MAGIC: u32 = 0x4449_4389;
 
 /// The version that is read and written.
-pub(crate) const VERSION: u32 = 2;
-
-/// The version of the files of earlier releases.
-const OLD_VERSION: u32 = 1;
+pub(crate) const VERSION: u32 = 3;
 
 /// The size of the header.
 const HEADER: usize = 64;
@@ -19,8 +16,8 @@ const HEADER: usize = 64;
 /// error is the first of `Magic`, `Old` or `Version`, and `Short` or `Long`.
 ///
 /// ```
-/// # use cidr_arrays::{Key, Word};
 /// # use cidr_files::*;
+/// # use cidr_lookup::{Address, Key};
 /// # use cidr_support::{alloc::Global, vec::Vec};
 /// # use core::net::{Ipv4Addr, Ipv6Addr};
 /// # fn name<'a>(table: &Table<'a>, address: Ipv4Addr) -> Option<&'a str> {
@@ -29,12 +26,16 @@ const HEADER: usize = 64;
 /// assert_eq!(format!("{:?}", open(b"text").err()), "Some(Magic)");
 /// # Ok::<(), Box<dyn std::error::Error>>(())
 /// ```
+///
+/// # Errors
+///
+/// `Fault`, which tells what is wrong.
 pub fn open(bytes: &[u8]) -> Result<Table<'_>, Fault> {
     if word_at(bytes, 0) != MAGIC {
         return Err(Fault::Magic);
     }
     let version = word_at(bytes, 1);
-    if version == OLD_VERSION {
+    if 0 < version && version < VERSION {
         return Err(Fault::Old);
     }
     if version != VERSION {
@@ -59,8 +60,8 @@ pub fn open(bytes: &[u8]) -> Result<Table<'_>, Fault> {
 /// as 0. Whether the bytes are a file is for [`open`]. A few reads, and no allocation.
 ///
 /// ```
-/// # use cidr_arrays::{Key, Word};
 /// # use cidr_files::*;
+/// # use cidr_lookup::{Address, Key};
 /// # use cidr_support::{alloc::Global, vec::Vec};
 /// # use core::net::{Ipv4Addr, Ipv6Addr};
 /// # fn name<'a>(table: &Table<'a>, address: Ipv4Addr) -> Option<&'a str> {

@@ -5,19 +5,19 @@ use crate::contents::{Contents, counts_of};
 use crate::family::{Family, Ipv4Bytes, Ipv6Bytes};
 use crate::layout::Counts;
 use crate::opening::{MAGIC, VERSION};
-use cidr_arrays::Key;
+use cidr_lookup::Key;
 use cidr_support::alloc::{AllocError, Global};
 
 /// The bytes of a file of two tables whose words the caller has; of rows alone, take `written`. It takes a pass over
 /// the bytes and allocates them. The error is that an allocation fails.
 ///
 /// The caller has to ensure that each table is one: that its words are those of its keys, as `build` of `cidr_lookup`
-/// returns them, that its values lie one behind the other, and that there are fewer than 2^31 keys, entries and words,
-/// and fewer than 2^32 bytes of values.
+/// returns them, that its values lie one behind the other, and that there are fewer than 2^31 keys, 2^30 entries and 2^30
+/// words, and fewer than 2^32 bytes of values.
 ///
 /// ```
-/// # use cidr_arrays::{Key, Word};
 /// # use cidr_files::*;
+/// # use cidr_lookup::{Address, Key};
 /// # use cidr_support::{alloc::Global, vec::Vec};
 /// # use core::net::{Ipv4Addr, Ipv6Addr};
 /// # fn name<'a>(table: &Table<'a>, address: Ipv4Addr) -> Option<&'a str> {
@@ -32,6 +32,10 @@ use cidr_support::alloc::{AllocError, Global};
 /// assert_eq!(format!("{:?}", name(&checked(Global, file.as_slice())?, Ipv4Addr::new(10, 1, 2, 3))), "Some(\"outer\")");
 /// # Ok::<(), Box<dyn std::error::Error>>(())
 /// ```
+///
+/// # Errors
+///
+/// `AllocError` where memory runs out.
 #[inline]
 pub fn file_of(
     alloc: Global,

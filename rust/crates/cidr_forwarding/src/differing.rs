@@ -33,6 +33,10 @@ pub type Answers<V> = (Option<V>, Option<V>);
 /// assert_eq!(format!("{:?}", differences(Global, &routes, &smallest)?), "[(10.1.0.0/16, (Some(3), Some(2)))]");
 /// # Ok::<(), Box<dyn std::error::Error>>(())
 /// ```
+///
+/// # Errors
+///
+/// `AllocError` where memory runs out.
 #[inline]
 pub fn differences<C: NetworkBits + Copy, V: Copy + Eq>(
     alloc: Global,

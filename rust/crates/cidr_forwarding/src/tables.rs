@@ -31,6 +31,10 @@ pub trait SmallestTable<C: NetworkBits + Copy, V: Copy + Ord>: Sized {
     /// assert_eq!(format!("{:?}", smallest.lookup(&"10.1.2.3".parse()?)), "Some((10.0.0.0/8, 2))");
     /// # Ok::<(), Box<dyn std::error::Error>>(())
     /// ```
+    ///
+    /// # Errors
+    ///
+    /// `AllocError` where memory runs out.
     fn smallest(&self, alloc: Global) -> Result<LpmTable<C, V>, AllocError>;
 
     /// The same, in the same time, where a row may be a hole: with the value `None`, its addresses have no value.
@@ -47,6 +51,10 @@ pub trait SmallestTable<C: NetworkBits + Copy, V: Copy + Ord>: Sized {
     /// assert_eq!(format!("{:?}", smallest), "{10.0.0.0/8: Some(1), 10.224.0.0/11: None}");
     /// # Ok::<(), Box<dyn std::error::Error>>(())
     /// ```
+    ///
+    /// # Errors
+    ///
+    /// `AllocError` where memory runs out.
     fn smallest_with_holes(&self, alloc: Global) -> Result<LpmTable<C, Option<V>>, AllocError>;
 }
 

@@ -173,7 +173,7 @@ pub fn split_row(separator: Separator, line: &[u8]) -> Option<(&[u8], &[u8])> {
 /// end. The errors are `NotUtf8`, and then `NoNetwork` with the first error of parsing it.
 #[inline]
 pub fn network_in(host_bits: HostBits, field: &[u8]) -> Result<IpCidr, LineError> {
-    let Ok(text) = str::from_utf8(field) else {
+    let Ok(text) = core::str::from_utf8(field) else {
         return Err(LineError::NotUtf8(byte_excerpt(field)));
     };
     match network_of(host_bits, text) {
@@ -186,7 +186,7 @@ pub fn network_in(host_bits: HostBits, field: &[u8]) -> Result<IpCidr, LineError
 /// then `NoAddress`.
 #[inline]
 pub fn address_in(field: &[u8]) -> Result<IpAddr, LineError> {
-    let Ok(text) = str::from_utf8(field) else {
+    let Ok(text) = core::str::from_utf8(field) else {
         return Err(LineError::NotUtf8(byte_excerpt(field)));
     };
     match text.parse::<IpAddr>() {
@@ -198,7 +198,7 @@ pub fn address_in(field: &[u8]) -> Result<IpAddr, LineError> {
 /// The address that a whole line or field is, without white space and comments.
 #[inline]
 pub(crate) fn whole_address(line: &[u8]) -> Option<IpAddr> {
-    let Ok(text) = str::from_utf8(line) else {
+    let Ok(text) = core::str::from_utf8(line) else {
         return None;
     };
     match text.parse::<IpAddr>() {

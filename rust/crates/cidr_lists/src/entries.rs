@@ -72,7 +72,7 @@ pub fn entry_of<'a>(place: Place<'a>, line: &[u8]) -> Result<Option<Entry<'a>>, 
     if field.is_empty() {
         return Ok(None);
     }
-    let Ok(text) = str::from_utf8(field) else {
+    let Ok(text) = core::str::from_utf8(field) else {
         return Err(LineError::NotUtf8(byte_excerpt(field)));
     };
     match text.parse::<IpInet>() {

@@ -4,10 +4,9 @@
 //! a further one is such a layout.
 
 use cidr_support::vec::Vec;
-use crate::printing::Printed;
 use crate::sets::Sets;
 use cidr_support::arrayvec::ArrayString;
-use cidr::{BitString, Family, IpCidr, Ipv4Cidr, Ipv6Cidr};
+use cidr::{BitString, Family, FamilyCidr, IpCidr};
 use cidr_io::decimal::decimal_text;
 use cidr_support::alloc::{AllocError, Global};
 
@@ -132,91 +131,52 @@ fn members(network: &str, first: &str, last: &str, len: u8) -> ArrayString<MOST>
     text
 }
 
-/// A half of all IPv4 addresses.
+/// A half of all addresses of a family.
 #[inline]
-fn ipv4_half(is_upper: bool) -> Ipv4Cidr {
-    let mut half = Ipv4Cidr::null();
+fn half<C: FamilyCidr>(is_upper: bool) -> C {
+    let mut half = C::null();
     half.append(is_upper);
     half
 }
 
-/// A half of all IPv6 addresses.
+/// What stands between the two halves of the network of length 0: they are in two lines.
 #[inline]
-fn ipv6_half(is_upper: bool) -> Ipv6Cidr {
-    let mut half = Ipv6Cidr::null();
-    half.append(is_upper);
-    half
+fn second_half(family: Family) -> &'static str {
+    match family {
+        Family::Ipv4 => "\nadd netset4 ",
+        Family::Ipv6 => "\nadd netset6 ",
+    }
 }
 
 /// A network, or its two halves in two lines where it has all addresses.
-fn ipv4_halved(network: &Ipv4Cidr) -> ArrayString<MOST> {
+fn halved<C: FamilyCidr>(network: &C) -> ArrayString<MOST> {
     if network.network_length() > 0 {
         return widened(network.to_text().as_str());
     }
     both_halves(
-        ipv4_half(false).to_text().as_str(),
-        "\nadd netset4 ",
-        ipv4_half(true).to_text().as_str(),
+        half::<C>(false).to_text().as_str(),
+        second_half(C::FAMILY),
+        half::<C>(true).to_text().as_str(),
     )
 }
 
-/// A network, or its two halves in two lines where it has all addresses.
-fn ipv6_halved(network: &Ipv6Cidr) -> ArrayString<MOST> {
-    if network.network_length() > 0 {
-        return widened(network.to_text().as_str());
-    }
-    both_halves(
-        ipv6_half(false).to_text().as_str(),
-        "\nadd netset6 ",
-        ipv6_half(true).to_text().as_str(),
-    )
-}
-
-/// A network of one family in each notation.
-pub trait Written: Sized + Printed {
-    /// The string in a notation: at most 200 bytes.
-    fn written(&self, notation: Notation) -> ArrayString<MOST>;
-}
-
-impl Written for Ipv4Cidr {
-    fn written(&self, notation: Notation) -> ArrayString<MOST> {
-        match notation {
-            Notation::Plain => widened(self.to_text().as_str()),
-            Notation::WithLength => widened(self.with_length().to_text().as_str()),
-            Notation::AndLonger => and_longer(
-                self.with_length().to_text().as_str(),
-                self.network_length(),
-                32,
-            ),
-            Notation::Halved => ipv4_halved(self),
-            Notation::Members => members(
-                self.to_text().as_str(),
-                self.first_address().to_text().as_str(),
-                self.last_address().to_text().as_str(),
-                self.network_length(),
-            ),
-        }
-    }
-}
-
-impl Written for Ipv6Cidr {
-    fn written(&self, notation: Notation) -> ArrayString<MOST> {
-        match notation {
-            Notation::Plain => widened(self.to_text().as_str()),
-            Notation::WithLength => widened(self.with_length().to_text().as_str()),
-            Notation::AndLonger => and_longer(
-                self.with_length().to_text().as_str(),
-                self.network_length(),
-                128,
-            ),
-            Notation::Halved => ipv6_halved(self),
-            Notation::Members => members(
-                self.to_text().as_str(),
-                self.first_address().to_text().as_str(),
-                self.last_address().to_text().as_str(),
-                self.network_length(),
-            ),
-        }
+/// A network of one family in a notation: at most 200 bytes.
+pub fn written<C: FamilyCidr>(network: &C, notation: Notation) -> ArrayString<MOST> {
+    match notation {
+        Notation::Plain => widened(network.to_text().as_str()),
+        Notation::WithLength => widened(network.to_text_with_length().as_str()),
+        Notation::AndLonger => and_longer(
+            network.to_text_with_length().as_str(),
+            network.network_length(),
+            C::FAMILY.len(),
+        ),
+        Notation::Halved => halved(network),
+        Notation::Members => members(
+            network.to_text().as_str(),
+            C::address_text(&network.first_address()).as_str(),
+            C::address_text(&network.last_address()).as_str(),
+            network.network_length(),
+        ),
     }
 }
 
@@ -224,8 +184,8 @@ impl Written for Ipv6Cidr {
 #[inline]
 pub fn network_text(network: &IpCidr, notation: Notation) -> ArrayString<MOST> {
     match network {
-        IpCidr::V4(network) => network.written(notation),
-        IpCidr::V6(network) => network.written(notation),
+        IpCidr::V4(network) => written(network, notation),
+        IpCidr::V6(network) => written(network, notation),
     }
 }
 
@@ -438,20 +398,20 @@ pub fn walk_layout<'a>(style: Option<Style<'a>>, family: Family) -> Layout<'a> {
 
 /// Appends a network.
 #[inline]
-fn push_row<C: Written>(
+fn push_row<C: FamilyCidr>(
     text: &mut Vec<u8>,
     layout: &Layout<'_>,
     network: &C,
 ) -> Result<(), AllocError> {
     text.extend_from_slice(layout.before.as_bytes())?;
-    text.extend_from_slice(network.written(layout.notation).as_str().as_bytes())?;
+    text.extend_from_slice(written(network, layout.notation).as_str().as_bytes())?;
     text.extend_from_slice(layout.behind.as_bytes())?;
     Ok(())
 }
 
 /// Appends the networks behind the first.
 #[inline]
-fn push_later_rows<C: Written>(
+fn push_later_rows<C: FamilyCidr>(
     text: &mut Vec<u8>,
     layout: &Layout<'_>,
     networks: &[C],
@@ -464,7 +424,7 @@ fn push_later_rows<C: Written>(
 }
 
 /// Appends what is printed of the networks of a family.
-fn push_layout<C: Written>(
+fn push_layout<C: FamilyCidr>(
     text: &mut Vec<u8>,
     layout: &Layout<'_>,
     networks: &[C],

@@ -260,7 +260,7 @@ fn row_in<'a>(
 pub fn check_value(format: LineFormat, value: &[u8]) -> Result<(), LineError> {
     match format {
         LineFormat::Plain => Ok(()),
-        LineFormat::Json => match str::from_utf8(value) {
+        LineFormat::Json => match core::str::from_utf8(value) {
             Ok(_) => Ok(()),
             Err(_) => Err(LineError::NotUtf8(byte_excerpt(value))),
         },

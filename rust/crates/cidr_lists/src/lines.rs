@@ -183,7 +183,7 @@ fn without_masks(host_bits: HostBits) -> HostBits {
 /// The network that a whole line is, without white space, comments and masks.
 #[inline]
 pub(crate) fn whole_network(host_bits: HostBits, line: &[u8]) -> Option<IpCidr> {
-    let Ok(text) = str::from_utf8(line) else {
+    let Ok(text) = core::str::from_utf8(line) else {
         return None;
     };
     match network_of(without_masks(host_bits), text) {
@@ -204,7 +204,7 @@ pub fn content_of(host_bits: HostBits, line: &[u8]) -> Result<Content, LineError
         return Ok(Content::Network(network));
     }
     let field = without_comment(line).trim_ascii();
-    match str::from_utf8(field) {
+    match core::str::from_utf8(field) {
         Ok(text) => content_of_field(host_bits, text),
         Err(_) => Err(LineError::NotUtf8(byte_excerpt(field))),
     }

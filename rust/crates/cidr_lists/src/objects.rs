@@ -1,10 +1,11 @@
 //! Look-ups as objects of JSON.
 
 use cidr_support::vec::Vec;
-use crate::formats::{LineFormat, Notation, Written, object_end};
+use crate::formats::{LineFormat, Notation, object_end, written};
 use crate::json::push_string;
+use crate::printing::network_of;
 use cidr_support::arrayvec::ArrayString;
-use cidr::{BitString, Family, IpAddr, Ipv4Cidr, Ipv6Cidr};
+use cidr::{Family, IpAddr, Ipv4Cidr, Ipv6Cidr};
 use cidr_support::alloc::AllocError;
 
 /// How look-ups are told.
@@ -32,14 +33,12 @@ pub fn telling_by(format: LineFormat, keeps: bool) -> Telling {
 fn members_of(address: &IpAddr, len: u8) -> ArrayString<200> {
     match address {
         IpAddr::V4(address) => {
-            let mut network = Ipv4Cidr::new_host(*address);
-            network.clip(usize::from(len));
-            network.written(Notation::Members)
+            let network = network_of::<Ipv4Cidr>(*address, len);
+            written(&network, Notation::Members)
         }
         IpAddr::V6(address) => {
-            let mut network = Ipv6Cidr::new_host(*address);
-            network.clip(usize::from(len));
-            network.written(Notation::Members)
+            let network = network_of::<Ipv6Cidr>(*address, len);
+            written(&network, Notation::Members)
         }
     }
 }

@@ -101,7 +101,7 @@ fn last_by(first: Ipv4Addr, count: &str) -> Option<Ipv4Addr> {
 /// The addresses from a first one on, of which there are as many as the value says.
 #[inline]
 fn block_of(first: Ipv4Addr, value: &[u8]) -> Result<Content, LineError> {
-    let Ok(count) = str::from_utf8(value) else {
+    let Ok(count) = core::str::from_utf8(value) else {
         return Err(LineError::NotUtf8(byte_excerpt(value)));
     };
     match last_by(first, count) {

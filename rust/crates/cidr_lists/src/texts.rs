@@ -6,11 +6,10 @@ use cidr_support::vec::Vec;
 use crate::errors::{LineError, ListError};
 use crate::lines::{HostBits, content_of};
 use crate::lists::Lists;
-use crate::printing::{Printed, PrintedAddress};
 use crate::sets::{Form, Sets};
+use cidr::{FamilyCidr, Ipv4Cidr, Ipv6Cidr};
 use cidr_io::decimal::count_text;
 use cidr_io::lines::{feed_in, is_too_long};
-use cidr_sets::Ranges;
 use cidr_support::alloc::{AllocError, Global};
 
 /// How many bytes the first line has, without its line feed.
@@ -61,40 +60,28 @@ impl Lists {
 
 /// Appends networks, one a line.
 #[inline]
-fn push_networks<C: Printed>(text: &mut Vec<u8>, networks: &[C]) -> Result<(), AllocError> {
+fn push_networks<C: FamilyCidr>(text: &mut Vec<u8>, networks: &[C]) -> Result<(), AllocError> {
     for network in networks {
-        text.extend_from_slice(network.printed().as_str().as_bytes())?;
+        text.extend_from_slice(network.to_text().as_str().as_bytes())?;
         text.push(b'\n')?;
     }
     Ok(())
 }
 
 /// Appends a range, or its one address, as a line.
-fn push_range<C: PrintedAddress>(
+fn push_range<C: FamilyCidr>(
     text: &mut Vec<u8>,
     first: C::Address,
     last: C::Address,
 ) -> Result<(), AllocError> {
-    text.extend_from_slice(C::shown(&first).as_str().as_bytes())?;
-    if C::are_same(&first, &last) {
+    text.extend_from_slice(C::address_text(&first).as_str().as_bytes())?;
+    if C::to_number(first) == C::to_number(last) {
         text.push(b'\n')?;
         return Ok(());
     }
     text.push(b'-')?;
-    text.extend_from_slice(C::shown(&last).as_str().as_bytes())?;
+    text.extend_from_slice(C::address_text(&last).as_str().as_bytes())?;
     text.push(b'\n')?;
-    Ok(())
-}
-
-/// Appends ranges, one a line.
-#[inline]
-fn push_ranges<C: PrintedAddress>(
-    text: &mut Vec<u8>,
-    mut ranges: Ranges<'_, C>,
-) -> Result<(), AllocError> {
-    while let Some(range) = ranges.next() {
-        push_range::<C>(text, range.first, range.last)?;
-    }
     Ok(())
 }
 
@@ -117,11 +104,16 @@ impl Sets {
     }
 
     /// The longest ranges, one a line, ascending, IPv4 before IPv6.
-    #[inline]
     fn to_range_lines(&self, alloc: Global) -> Result<Vec<u8>, AllocError> {
         let mut text = Vec::new(alloc);
-        push_ranges(&mut text, self.v4.ranges())?;
-        push_ranges(&mut text, self.v6.ranges())?;
+        let mut v4 = self.v4.ranges();
+        while let Some(range) = v4.next() {
+            push_range::<Ipv4Cidr>(&mut text, range.first, range.last)?;
+        }
+        let mut v6 = self.v6.ranges();
+        while let Some(range) = v6.next() {
+            push_range::<Ipv6Cidr>(&mut text, range.first, range.last)?;
+        }
         Ok(text)
     }
 

@@ -60,7 +60,7 @@ impl Sets {
 
     /// Whether a string is an address of this family that is there.
     fn have_text(&self, family: Family, text: &[u8]) -> bool {
-        let Ok(text) = str::from_utf8(text) else {
+        let Ok(text) = core::str::from_utf8(text) else {
             return false;
         };
         match family {
@@ -126,7 +126,7 @@ impl Sets {
 
 /// The address of this family that a string is.
 fn address_in(family: Family, text: &[u8]) -> Option<IpAddr> {
-    let Ok(text) = str::from_utf8(text) else {
+    let Ok(text) = core::str::from_utf8(text) else {
         return None;
     };
     match family {

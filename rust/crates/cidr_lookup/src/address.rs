@@ -1,15 +1,55 @@
 //! Addresses by their numbers.
 
-use cidr_arrays::{Halves, Word};
-
-/// An address, as a `u32` of IPv4 or two halves of IPv6. Its number here has some zeros behind its bits, so that all bits
-/// but the first are parts of six.
-pub trait Address: Sized + Word {
+/// The number of an address, as it lies in an array: a `u32` of IPv4 or [`Halves`](crate::Halves) of IPv6, and the bytes
+/// of these, as a file has them.
+///
+/// The nodes of a look-up table divide by six bits. So that all bits but the first are parts of six, a number has some
+/// zeros behind its bits there.
+pub trait Address: Sized + Copy {
     /// The number.
     ///
     /// ```
     /// # use cidr::Ipv4Cidr;
-    /// # use cidr_arrays::Key;
+    /// # use cidr_lookup::*;
+    /// # use cidr_support::alloc::Global;
+    /// # use cidr_table::LpmTable;
+    /// # use core::net::Ipv4Addr;
+    /// assert_eq!(Halves { high: 1, low: 2 }.number(), 18446744073709551618);
+    /// # Ok::<(), Box<dyn std::error::Error>>(())
+    /// ```
+    fn number(self) -> u128;
+
+    /// The address with a number. The caller has to ensure that it is below 2^32 in IPv4, or below 2^128 in IPv6, as
+    /// each `u128` is.
+    ///
+    /// ```
+    /// # use cidr::Ipv4Cidr;
+    /// # use cidr_lookup::*;
+    /// # use cidr_support::alloc::Global;
+    /// # use cidr_table::LpmTable;
+    /// # use core::net::Ipv4Addr;
+    /// assert_eq!(Halves::of(18446744073709551618).low, 2);
+    /// # Ok::<(), Box<dyn std::error::Error>>(())
+    /// ```
+    fn of(number: u128) -> Self;
+
+    /// How many bits an address has: 32 or 128.
+    ///
+    /// ```
+    /// # use cidr::Ipv4Cidr;
+    /// # use cidr_lookup::*;
+    /// # use cidr_support::alloc::Global;
+    /// # use cidr_table::LpmTable;
+    /// # use core::net::Ipv4Addr;
+    /// assert_eq!(u32::width(), 32);
+    /// # Ok::<(), Box<dyn std::error::Error>>(())
+    /// ```
+    fn width() -> u32;
+
+    /// The number with its zeros.
+    ///
+    /// ```
+    /// # use cidr::Ipv4Cidr;
     /// # use cidr_lookup::*;
     /// # use cidr_support::alloc::Global;
     /// # use cidr_table::LpmTable;
@@ -19,11 +59,10 @@ pub trait Address: Sized + Word {
     /// ```
     fn padded(self) -> u128;
 
-    /// How many bits it has.
+    /// How many bits it has with them.
     ///
     /// ```
     /// # use cidr::Ipv4Cidr;
-    /// # use cidr_arrays::Key;
     /// # use cidr_lookup::*;
     /// # use cidr_support::alloc::Global;
     /// # use cidr_table::LpmTable;
@@ -37,7 +76,6 @@ pub trait Address: Sized + Word {
     ///
     /// ```
     /// # use cidr::Ipv4Cidr;
-    /// # use cidr_arrays::Key;
     /// # use cidr_lookup::*;
     /// # use cidr_support::alloc::Global;
     /// # use cidr_table::LpmTable;
@@ -51,7 +89,6 @@ pub trait Address: Sized + Word {
     ///
     /// ```
     /// # use cidr::Ipv4Cidr;
-    /// # use cidr_arrays::Key;
     /// # use cidr_lookup::*;
     /// # use cidr_support::alloc::Global;
     /// # use cidr_table::LpmTable;
@@ -65,7 +102,6 @@ pub trait Address: Sized + Word {
     ///
     /// ```
     /// # use cidr::Ipv4Cidr;
-    /// # use cidr_arrays::Key;
     /// # use cidr_lookup::*;
     /// # use cidr_support::alloc::Global;
     /// # use cidr_table::LpmTable;
@@ -74,9 +110,37 @@ pub trait Address: Sized + Word {
     /// # Ok::<(), Box<dyn std::error::Error>>(())
     /// ```
     fn digit(self, shift: u32) -> u32;
+
+    /// The number of the bits before the last 64, which is 0 in IPv4.
+    ///
+    /// ```
+    /// # use cidr::Ipv4Cidr;
+    /// # use cidr_lookup::*;
+    /// # use cidr_support::alloc::Global;
+    /// # use cidr_table::LpmTable;
+    /// # use core::net::Ipv4Addr;
+    /// assert_eq!(Halves { high: 1, low: 2 }.upper(), 1);
+    /// # Ok::<(), Box<dyn std::error::Error>>(())
+    /// ```
+    fn upper(self) -> u64;
 }
 
 impl Address for u32 {
+    #[inline(always)]
+    fn number(self) -> u128 {
+        u128::from(self)
+    }
+
+    #[inline(always)]
+    fn of(number: u128) -> u32 {
+        number as u32
+    }
+
+    #[inline(always)]
+    fn width() -> u32 {
+        32
+    }
+
     #[inline(always)]
     fn padded(self) -> u128 {
         u128::from(padded(self))
@@ -104,43 +168,16 @@ impl Address for u32 {
     fn digit(self, shift: u32) -> u32 {
         ((padded(self) >> shift) % 64) as u32
     }
+
+    #[inline(always)]
+    fn upper(self) -> u64 {
+        padded(self);
+        0
+    }
 }
 
 /// The number of an IPv4 address with its zeros.
 #[inline(always)]
 fn padded(address: u32) -> u64 {
     u64::from(address) * 16
-}
-
-impl Address for Halves {
-    #[inline(always)]
-    fn padded(self) -> u128 {
-        self.number()
-    }
-
-    #[inline(always)]
-    fn padded_width() -> u32 {
-        128
-    }
-
-    #[inline]
-    fn steps_for(networks: usize) -> u32 {
-        if networks < 64 {
-            return 20;
-        }
-        if networks < 100_000 { 19 } else { 18 }
-    }
-
-    #[inline(always)]
-    fn block(self, shift: u32) -> usize {
-        match self.part(shift) {
-            Some(part) => part,
-            None => unreachable!(),
-        }
-    }
-
-    #[inline(always)]
-    fn digit(self, shift: u32) -> u32 {
-        ((self.number() >> shift) % 64) as u32
-    }
 }

@@ -1,12 +1,16 @@
 //! The words of networks, by their ranges.
 
 use crate::address::Address;
+use crate::key::Key;
+use crate::list::{MOST_CHANGES, put_list};
 use crate::node::{PARTS, put_node};
 use crate::search::PLACE;
 use crate::words::{Sink, Stop, Stopped};
-use cidr_arrays::Key;
 
-/// Puts the entries of all blocks of 64^steps numbers, and the words of their nodes.
+/// How many words may stand before a node or a list.
+const MOST_WORDS: usize = 1 << 30;
+
+/// Puts the entries of all blocks of 64^steps numbers, and the words of their nodes and lists.
 pub(crate) fn put_table<A: Address, F: Sink, S: Sink>(
     keys: &[Key<A>],
     starts: &[A],
@@ -38,9 +42,9 @@ pub(crate) fn put_table<A: Address, F: Sink, S: Sink>(
     Ok(())
 }
 
-/// The entry of a block of 64^steps numbers. The words of its nodes are put behind those that were put. `near` is a range
-/// that begins at most with the first number, and then the last such range. The keys, whose ranges these are, are for the
-/// contract.
+/// The entry of a block of 64^steps numbers. The words of its nodes and lists are put behind those that were put. `near` is
+/// a range that begins at most with the first number, and then the last such range. The keys, whose ranges these are, are
+/// for the contract.
 pub(crate) fn entry_of<A: Address, S: Sink>(
     keys: &[Key<A>],
     starts: &[A],
@@ -54,6 +58,9 @@ pub(crate) fn entry_of<A: Address, S: Sink>(
     *near = last_upto(starts, *near, block << shift);
     if is_whole(starts, *near, shift, block) {
         return Ok(answers[*near]);
+    }
+    if let Some(count) = changes_in(keys, starts, answers, steps, block, *near) {
+        return put_listed(keys, starts, answers, sink, steps, block, *near, count);
     }
     let first = block * PARTS as u128;
     let mut entries = [0; PARTS];
@@ -84,11 +91,55 @@ pub(crate) fn entry_of<A: Address, S: Sink>(
         part += 1;
     }
     let place = sink.len();
-    if place >= PLACE as usize {
+    if place >= MOST_WORDS {
         return Err(Stop::TooMany);
     }
     put_node(&entries, sink)?;
-    Ok(PLACE + place as u32)
+    Ok(PLACE + 2 * place as u32)
+}
+
+/// How many changes the list of a block has, or `None` where it has no list. `range` is the last that begins at most with
+/// the first number, and another begins behind it. The rest is as in `entry_of`.
+fn changes_in<A: Address>(
+    keys: &[Key<A>],
+    starts: &[A],
+    answers: &[u32],
+    steps: u32,
+    block: u128,
+    range: usize,
+) -> Option<usize> {
+    let shift = 6 * steps;
+    let mut count = 0;
+    while !is_whole(starts, range + count, shift, block) {
+        count += 1;
+        if count > MOST_CHANGES {
+            return None;
+        }
+        if start_of(starts, range + count) % (1 << 64) != 0 {
+            return None;
+        }
+    }
+    Some(count)
+}
+
+/// Puts the list of a block, and returns its entry. It has the changes to so many ranges behind `range`.
+#[inline]
+fn put_listed<A: Address, S: Sink>(
+    keys: &[Key<A>],
+    starts: &[A],
+    answers: &[u32],
+    sink: &mut S,
+    steps: u32,
+    block: u128,
+    range: usize,
+    count: usize,
+) -> Result<u32, Stop> {
+    let place = sink.len();
+    if place >= MOST_WORDS {
+        return Err(Stop::TooMany);
+    }
+    put_list(starts, answers, range, count, sink)?;
+    Ok(PLACE + 2 * place as u32 + 1)
 }
 
 /// Puts the values of parts from one on, up to the first in which a range begins, which is returned, or the number of parts.

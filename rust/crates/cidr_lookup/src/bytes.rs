@@ -1,8 +1,8 @@
 //! Words and addresses as bytes, as files have them: of each number the lowest byte first.
 
 use crate::address::Address;
+use crate::halves::Halves;
 use crate::words::Words;
-use cidr_arrays::{Halves, Word};
 
 impl Words for &[[u8; 4]] {
     #[inline(always)]
@@ -18,7 +18,23 @@ impl Words for &[[u8; 4]] {
     }
 }
 
+/// The four bytes of a `u32`, the lowest first.
 impl Address for [u8; 4] {
+    #[inline(always)]
+    fn number(self) -> u128 {
+        u32::from_le_bytes(self).number()
+    }
+
+    #[inline(always)]
+    fn of(number: u128) -> [u8; 4] {
+        (number as u32).to_le_bytes()
+    }
+
+    #[inline(always)]
+    fn width() -> u32 {
+        u32::width()
+    }
+
     #[inline(always)]
     fn padded(self) -> u128 {
         u32::from_le_bytes(self).padded()
@@ -43,12 +59,34 @@ impl Address for [u8; 4] {
     fn digit(self, shift: u32) -> u32 {
         u32::from_le_bytes(self).digit(shift)
     }
+
+    #[inline(always)]
+    fn upper(self) -> u64 {
+        u32::from_le_bytes(self).upper()
+    }
 }
 
+/// The bytes of [`Halves`]: those of the higher half and those of the lower one, of each the lowest first.
 impl Address for [[u8; 8]; 2] {
     #[inline(always)]
+    fn number(self) -> u128 {
+        halves(self).number()
+    }
+
+    #[inline(always)]
+    fn of(number: u128) -> [[u8; 8]; 2] {
+        let halves = Halves::of(number);
+        [halves.high.to_le_bytes(), halves.low.to_le_bytes()]
+    }
+
+    #[inline(always)]
+    fn width() -> u32 {
+        Halves::width()
+    }
+
+    #[inline(always)]
     fn padded(self) -> u128 {
-        self.number()
+        halves(self).padded()
     }
 
     #[inline(always)]
@@ -63,14 +101,25 @@ impl Address for [[u8; 8]; 2] {
 
     #[inline(always)]
     fn block(self, shift: u32) -> usize {
-        match self.part(shift) {
-            Some(part) => part,
-            None => unreachable!(),
-        }
+        halves(self).block(shift)
     }
 
     #[inline(always)]
     fn digit(self, shift: u32) -> u32 {
-        ((self.number() >> shift) % 64) as u32
+        halves(self).digit(shift)
+    }
+
+    #[inline(always)]
+    fn upper(self) -> u64 {
+        halves(self).upper()
+    }
+}
+
+/// The number that the bytes are.
+#[inline(always)]
+fn halves(bytes: [[u8; 8]; 2]) -> Halves {
+    Halves {
+        high: u64::from_le_bytes(bytes[0]),
+        low: u64::from_le_bytes(bytes[1]),
     }
 }

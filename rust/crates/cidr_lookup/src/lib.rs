@@ -5,7 +5,6 @@
 //!
 //! ```
 //! # use cidr::Ipv4Cidr;
-//! # use cidr_arrays::Key;
 //! # use cidr_lookup::*;
 //! # use cidr_support::alloc::Global;
 //! # use cidr_table::LpmTable;
@@ -38,13 +37,20 @@
 #![no_std]
 #![forbid(unsafe_code)]
 #![allow(unused_imports, unused_variables, dead_code, unstable_name_collisions)]
+#![allow(clippy::style, clippy::complexity, clippy::perf)]
+#![allow(clippy::manual_unwrap_or_default, clippy::non_canonical_partial_ord_impl)]
 
 mod address;
 mod building;
 mod bytes;
 mod checking;
+mod halves;
+mod key;
 mod keyed;
+mod list;
 mod node;
+mod pass;
+mod ranges;
 mod ready;
 mod ready_set;
 mod search;
@@ -53,6 +59,8 @@ mod words;
 
 pub use address::Address;
 pub use checking::{Fault, check};
+pub use halves::Halves;
+pub use key::{Key, first_refused};
 pub use keyed::Keyed;
 pub use ready::ReadyTable;
 pub use ready_set::ReadySet;

@@ -1,10 +1,11 @@
 //! Tables of rows, made ready for look-ups.
 
 use cidr_support::vec::Vec;
+use crate::address::Address;
+use crate::key::Key;
 use crate::keyed::Keyed;
 use crate::search::find;
 use crate::table::{LookupTable, TableError, build};
-use cidr_arrays::{Key, Word};
 use cidr_table::{LpmTable, longest_match};
 use cidr_support::alloc::{AllocError, Global};
 
@@ -19,15 +20,14 @@ pub struct ReadyTable<C: Keyed, V> {
 }
 
 impl<C: Keyed, V> ReadyTable<C, V> {
-    /// The table, made ready: O(n) for n rows, some 100 ns a row of 900,000 of IPv4, and 1 to 2 µs of IPv6. While it runs
-    /// it allocates 24 bytes a row of IPv4, or 64 of IPv6, besides the look-up table.
+    /// The table, made ready: O(n) for n rows, some 100 ns a row. While it runs it allocates 24 bytes a row of IPv4, or 64 of
+    /// IPv6, besides the look-up table.
     ///
-    /// The error comes with the table as it was: more than 2,147,483,647 rows, or words of its look-up table, or that an
-    /// allocation failed. It is never `Refused`.
+    /// The error comes with the table as it was: more than 2,147,483,647 rows; or else more than 1,073,741,823 words of its
+    /// look-up table, or that an allocation failed. It is never `Refused`.
     ///
     /// ```
     /// # use cidr::Ipv4Cidr;
-    /// # use cidr_arrays::Key;
     /// # use cidr_lookup::*;
     /// # use cidr_support::alloc::Global;
     /// # use cidr_table::LpmTable;
@@ -38,6 +38,10 @@ impl<C: Keyed, V> ReadyTable<C, V> {
     /// assert_eq!(format!("{:?}", ready.lookup(&"10.1.2.3".parse()?)), "Some((10.1.0.0/16, 3))");
     /// # Ok::<(), Box<dyn std::error::Error>>(())
     /// ```
+    ///
+    /// # Errors
+    ///
+    /// `(LpmTable<C, V>, TableError)`, which tells what is wrong.
     #[inline]
     pub fn new(alloc: Global, table: LpmTable<C, V>) -> Result<Self, (LpmTable<C, V>, TableError)> {
         match words_of(alloc, rows_of(&table)) {
@@ -56,7 +60,6 @@ impl<C: Keyed, V> ReadyTable<C, V> {
     ///
     /// ```
     /// # use cidr::Ipv4Cidr;
-    /// # use cidr_arrays::Key;
     /// # use cidr_lookup::*;
     /// # use cidr_support::alloc::Global;
     /// # use cidr_table::LpmTable;
@@ -70,7 +73,7 @@ impl<C: Keyed, V> ReadyTable<C, V> {
     /// ```
     #[inline(always)]
     pub fn find(&self, asked: &C) -> Option<usize> {
-        let key = asked.key();
+        let key = Key::<C::Number>::of(asked);
         let first = self.words.first.as_slice();
         let words = self.words.words.as_slice();
         let place = find(&first, &words, self.words.steps, key.address)?;
@@ -95,7 +98,6 @@ impl<C: Keyed, V> ReadyTable<C, V> {
     ///
     /// ```
     /// # use cidr::Ipv4Cidr;
-    /// # use cidr_arrays::Key;
     /// # use cidr_lookup::*;
     /// # use cidr_support::alloc::Global;
     /// # use cidr_table::LpmTable;
@@ -116,7 +118,6 @@ impl<C: Keyed, V> ReadyTable<C, V> {
     ///
     /// ```
     /// # use cidr::Ipv4Cidr;
-    /// # use cidr_arrays::Key;
     /// # use cidr_lookup::*;
     /// # use cidr_support::alloc::Global;
     /// # use cidr_table::LpmTable;
@@ -138,7 +139,6 @@ impl<C: Keyed, V> ReadyTable<C, V> {
     ///
     /// ```
     /// # use cidr::Ipv4Cidr;
-    /// # use cidr_arrays::Key;
     /// # use cidr_lookup::*;
     /// # use cidr_support::alloc::Global;
     /// # use cidr_table::LpmTable;
@@ -159,7 +159,6 @@ impl<C: Keyed, V> ReadyTable<C, V> {
     ///
     /// ```
     /// # use cidr::Ipv4Cidr;
-    /// # use cidr_arrays::Key;
     /// # use cidr_lookup::*;
     /// # use cidr_support::alloc::Global;
     /// # use cidr_table::LpmTable;
@@ -203,8 +202,7 @@ fn keys_of_rows<C: Keyed, V>(
 ) -> Result<Vec<Key<C::Number>>, AllocError> {
     let mut keys = Vec::with_capacity(alloc, rows.len())?;
     for row in rows {
-        let key = row.0.key();
-        keys.push(key)?;
+        keys.push(Key::of(&row.0))?;
     }
     Ok(keys)
 }

@@ -20,12 +20,11 @@ impl<C: Keyed> ReadySet<C> {
     /// Networks in any order, made ready: they are copied and, where they don't ascend, sorted; then in the time and memory
     /// of [`ReadyTable::new`](crate::ReadyTable::new).
     ///
-    /// The error is that there are more than 2,147,483,647 networks; or else that many words of the look-up table, or that
-    /// an allocation failed. It is never `Refused`.
+    /// The error is that there are more than 2,147,483,647 networks; or else more than 1,073,741,823 words of the look-up
+    /// table, or that an allocation failed. It is never `Refused`.
     ///
     /// ```
     /// # use cidr::Ipv4Cidr;
-    /// # use cidr_arrays::Key;
     /// # use cidr_lookup::*;
     /// # use cidr_support::alloc::Global;
     /// # use cidr_table::LpmTable;
@@ -36,6 +35,10 @@ impl<C: Keyed> ReadySet<C> {
     /// assert!(!ready.contains(&"10.0.0.0/7".parse()?));
     /// # Ok::<(), Box<dyn std::error::Error>>(())
     /// ```
+    ///
+    /// # Errors
+    ///
+    /// `TableError`, which tells what is wrong.
     pub fn new(alloc: Global, networks: &[C]) -> Result<Self, TableError> {
         if networks.len() >= 1 << 31 {
             return Err(TableError::TooMany);
@@ -56,7 +59,6 @@ impl<C: Keyed> ReadySet<C> {
     ///
     /// ```
     /// # use cidr::Ipv4Cidr;
-    /// # use cidr_arrays::Key;
     /// # use cidr_lookup::*;
     /// # use cidr_support::alloc::Global;
     /// # use cidr_table::LpmTable;

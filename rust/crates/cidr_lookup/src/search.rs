@@ -1,9 +1,10 @@
 //! The longest match of an address.
 
 use crate::address::Address;
+use crate::list::MOST_CHANGES;
 use crate::words::Words;
 
-/// The least word that is the place of a node.
+/// The least entry that has a place.
 pub(crate) const PLACE: u32 = 1 << 31;
 
 /// How many steps an address of 128 bits may take.
@@ -19,7 +20,6 @@ const MOST_STEPS: u32 = 21;
 ///
 /// ```
 /// # use cidr::Ipv4Cidr;
-/// # use cidr_arrays::Key;
 /// # use cidr_lookup::*;
 /// # use cidr_support::alloc::Global;
 /// # use cidr_table::LpmTable;
@@ -74,7 +74,10 @@ fn value_of<A: Address, T: Words>(first: &T, words: &T, steps: u32, address: A) 
             return 0;
         }
         left -= 6;
-        let place = (entry - PLACE) as usize;
+        let place = ((entry - PLACE) / 2) as usize;
+        if entry % 2 == 1 {
+            return listed(words, place, address.upper());
+        }
         if place + 1 >= words.len() {
             return 0;
         }
@@ -87,4 +90,44 @@ fn value_of<A: Address, T: Words>(first: &T, words: &T, steps: u32, address: A) 
         entry = words.word(next);
     }
     entry
+}
+
+/// The value that the list at a place has for the numbers that begin so.
+#[inline(always)]
+fn listed<T: Words>(words: &T, place: usize, upper: u64) -> u32 {
+    if place >= words.len() {
+        return 0;
+    }
+    let count = words.word(place) as usize;
+    if count > MOST_CHANGES {
+        return 0;
+    }
+    let starts = place + 1;
+    let values = starts + 2 * count;
+    if values + count >= words.len() {
+        return 0;
+    }
+    words.word(values + upto(words, starts, count, upper))
+}
+
+/// How many of the changes of a list, which ascend, are at most a number.
+#[inline(always)]
+fn upto<T: Words>(words: &T, starts: usize, count: usize, number: u64) -> usize {
+    let mut found = 0;
+    let mut left = count;
+    while left > 0 {
+        let half = left - left / 2;
+        if change(words, starts, found + half - 1) <= number {
+            found += half;
+        }
+        left /= 2;
+    }
+    found
+}
+
+/// Where a change of a list is.
+#[inline(always)]
+fn change<T: Words>(words: &T, starts: usize, at: usize) -> u64 {
+    let low = starts + 2 * at;
+    u64::from(words.word(low + 1)) * (1 << 32) + u64::from(words.word(low))
 }

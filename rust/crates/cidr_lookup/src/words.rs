@@ -7,7 +7,6 @@ pub trait Words: Sized {
     ///
     /// ```
     /// # use cidr::Ipv4Cidr;
-    /// # use cidr_arrays::Key;
     /// # use cidr_lookup::*;
     /// # use cidr_support::alloc::Global;
     /// # use cidr_table::LpmTable;
@@ -21,7 +20,6 @@ pub trait Words: Sized {
     ///
     /// ```
     /// # use cidr::Ipv4Cidr;
-    /// # use cidr_arrays::Key;
     /// # use cidr_lookup::*;
     /// # use cidr_support::alloc::Global;
     /// # use cidr_table::LpmTable;
@@ -29,6 +27,10 @@ pub trait Words: Sized {
     /// assert_eq!(Words::word(&[5u32, 6].as_slice(), 1), 6);
     /// # Ok::<(), Box<dyn std::error::Error>>(())
     /// ```
+    ///
+    /// # Panics
+    ///
+    /// Where an index is not below the length.
     fn word(&self, at: usize) -> u32;
 }
 

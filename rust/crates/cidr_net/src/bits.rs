@@ -25,17 +25,6 @@ pub trait BitString: Sized {
     /// ```
     fn len(&self) -> usize;
 
-    /// The number that the first 64 bits are, the most significant first, where bits that are missing count as unset.
-    /// Of two values the one with the lower number comes first in the order of their bits.
-    ///
-    /// ```
-    /// # use cidr::{errors::*, more::{canon::*, *}, parsers::*, *};
-    /// # use std::net::*;
-    /// assert_eq!("192.168.0.0/16".parse::<Ipv4Cidr>()?.first_bits() >> 48, 49320);
-    /// # Ok::<(), Box<dyn std::error::Error>>(())
-    /// ```
-    fn first_bits(&self) -> u64;
-
     /// How many more bits can be appended, whichever they are: as many as the prefix length is below 32 or 128.
     ///
     /// ```
@@ -58,6 +47,10 @@ pub trait BitString: Sized {
     /// assert!(!network.get(2));
     /// # Ok::<(), Box<dyn std::error::Error>>(())
     /// ```
+    ///
+    /// # Panics
+    ///
+    /// Where the condition on the caller does not hold.
     fn get(&self, i: usize) -> bool;
 
     /// Sets bit `i` to `b`. The caller has to ensure that `i` is below the length.
@@ -72,6 +65,10 @@ pub trait BitString: Sized {
     /// assert_eq!(format!("{}", network), "224.168.0.0/16");
     /// # Ok::<(), Box<dyn std::error::Error>>(())
     /// ```
+    ///
+    /// # Panics
+    ///
+    /// Where the condition on the caller does not hold.
     fn set(&mut self, i: usize, b: bool);
 
     /// Inverts bit `i`. The caller has to ensure that `i` is below the length. What becomes of the others is as for
@@ -85,6 +82,10 @@ pub trait BitString: Sized {
     /// assert_eq!(format!("{}", network), "192.169.0.0/16");
     /// # Ok::<(), Box<dyn std::error::Error>>(())
     /// ```
+    ///
+    /// # Panics
+    ///
+    /// Where the condition on the caller does not hold.
     fn flip(&mut self, i: usize);
 
     /// Leaves the first `k` bits. A shorter string stays as it is.
@@ -113,6 +114,10 @@ pub trait BitString: Sized {
     /// assert_eq!(format!("{}", network), "10.128.0.0/9");
     /// # Ok::<(), Box<dyn std::error::Error>>(())
     /// ```
+    ///
+    /// # Panics
+    ///
+    /// Where the condition on the caller does not hold.
     fn append(&mut self, b: bool);
 
     /// The value of no bits: 0.0.0.0/0, ::/0 or `Any`.

@@ -45,7 +45,7 @@ impl<A: Address> InetIterator<A> {
         left.size_hint()
     }
 
-    /// How many are left, or `None` where that is 2^64 or more. It takes no step, unlike `Iterator::count`.
+    /// How many are left, or `None` where that is 2^64 or more. It takes no step. `count` panics there.
     ///
     /// ```
     /// # use cidr::{errors::*, more::{canon::*, *}, parsers::*, *};
@@ -232,7 +232,7 @@ pub struct InetAddressIterator<A: Address> {
 }
 
 impl<A: Address> InetAddressIterator<A> {
-    /// How many are left, or `None` where that is 2^64 or more. It takes no step, unlike `Iterator::count`.
+    /// How many are left, or `None` where that is 2^64 or more. It takes no step. `count` panics there.
     ///
     /// ```
     /// # use cidr::{errors::*, more::{canon::*, *}, parsers::*, *};

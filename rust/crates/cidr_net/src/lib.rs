@@ -233,6 +233,7 @@
 #![no_std]
 #![forbid(unsafe_code)]
 #![allow(unused_imports, unused_variables, dead_code, unused_parens, unstable_name_collisions)]
+#![allow(clippy::style, clippy::complexity, clippy::perf, clippy::incompatible_msrv, clippy::non_canonical_clone_impl)]
 
 mod addr;
 mod arithmetic;
@@ -272,11 +273,27 @@ pub use traits::{Address, Cidr, Inet, InetPair};
 /// What is here besides: compact and prefix bytes, strings of bits, and walks from both ends.
 pub mod more {
     pub use crate::bits::{BitString, NetworkBits};
+    pub use crate::cidr::network::Network;
+    pub use crate::inet::host::Host;
+    pub use crate::inet_pair::host_pair::HostPair;
     pub use crate::inet_iterator::driving::{End, drive};
     pub use crate::prefix_bytes::PrefixBytes;
+    pub use crate::traits::family_cidr::FamilyCidr;
     pub use crate::text::with_length::WithLength;
 
     pub mod canon {
         pub use crate::canon::{Canonical, agree};
     }
+}
+
+/// The names that the written crate `cidr` has at its head, for the crates that are written over it.
+#[doc(hidden)]
+pub mod names {
+    pub use crate::addr::error::AddrParseError;
+    pub use crate::addr::ip::IpAddr;
+    pub use crate::addr::v4::Ipv4Addr;
+    pub use crate::addr::v6::Ipv6Addr;
+    pub use crate::addr::AddressToText;
+    pub use crate::more::{canon, *};
+    pub use crate::{errors, parsers, *};
 }

@@ -45,6 +45,10 @@ pub trait PrefixBytes: Sized + NetworkBits {
     /// assert_eq!(format!("{:?}", Ipv6Cidr::from_prefix_bytes(&[128, 0])), "Err(prefix bytes end too early)");
     /// # Ok::<(), Box<dyn std::error::Error>>(())
     /// ```
+    ///
+    /// # Errors
+    ///
+    /// `PrefixBytesError`, whose variant is the first error in the order of the bytes.
     fn from_prefix_bytes(bytes: &[u8]) -> Result<(Self, usize), PrefixBytesError>;
 }
 

@@ -1,5 +1,5 @@
-//! What the crate's feature `serde` has: networks and hosts as strings in formats that people read, and as compact bytes in
-//! others: a newtype of a pair, the tag and the octets, which are none for `any`.
+//! What the feature `serde` has, as the crate `cidr` has it: networks and hosts as strings in formats that people read, and as
+//! compact bytes in others: a newtype of a pair, the tag and the octets, which are none for `any`.
 
 use crate::cidr::network::NetworkCalls as _;
 use crate::inet::host::HostCalls as _;

@@ -16,6 +16,33 @@ pub fn longest<C: NetworkBits + Copy, K: Keys<C>>(rows: &K, asked: &C) -> Option
     longest_key(rows, asked)
 }
 
+/// The indexes of all networks that the look-up key is in, ascending, and so the shortest network first: at the beginning of
+/// `out`, as many as it has room for; what is behind them there stays. Returns how many they are, at most one more than the
+/// look-up key has bits.
+pub fn covering<C: NetworkBits + Copy, K: Keys<C>>(rows: &K, asked: &C, out: &mut [usize]) -> usize {
+    let Some(place) = longest_key(rows, asked) else {
+        return 0;
+    };
+    let len = rows.key(place).len().min(asked.len());
+    if len == 0 {
+        return put(out, 0, place);
+    }
+    // The others are shorter.
+    let mut shorter = *asked;
+    shorter.clip(len - 1);
+    let count = covering(rows, &shorter, out);
+    put(out, count, place)
+}
+
+/// Writes an index at a place, if there is room for it, and returns the next place.
+#[inline]
+fn put(out: &mut [usize], place: usize, index: usize) -> usize {
+    if place < out.len() {
+        out[place] = index;
+    }
+    place + 1
+}
+
 /// Which networks are in the outer one, that may be one of them: those from the first index on and before the second.
 pub fn covered<C: NetworkBits + Copy, K: Keys<C>>(rows: &K, outer: &C) -> (usize, usize) {
     let from = lower_bound(rows, outer);
@@ -39,9 +66,40 @@ fn lower_bound<C: Ord + Copy, K: Keys<C>>(rows: &K, key: &C) -> usize {
 }
 
 /// Where a key stands among the first `end`, or the index before which it would.
+#[inline]
 fn place_of<C: Ord + Copy, K: Keys<C>>(rows: &K, key: &C, end: usize) -> Result<usize, usize> {
-    let mut low = 0;
-    let mut left = end;
+    place_between(rows, key, 0, end, end)
+}
+
+/// The same, sought from the end on: the nearer to it the key belongs, the fewer comparisons that takes.
+fn place_back<C: Ord + Copy, K: Keys<C>>(rows: &K, key: &C, end: usize) -> Result<usize, usize> {
+    // The key belongs before those from `upto` on.
+    let mut upto = end;
+    let mut step = 1;
+    while step <= upto {
+        let mid = upto - step;
+        let order = rows.key(mid).cmp(key);
+        if order.is_lt() {
+            return place_between(rows, key, mid + 1, step - 1, end);
+        }
+        if order.is_eq() {
+            return Ok(mid);
+        }
+        upto = mid;
+        step += step.min(mid);
+    }
+    place_between(rows, key, 0, upto, end)
+}
+
+/// Where a key stands among the first `end`, or the index before which it would, that is among the `left` ones from `low` on or
+/// behind these: those before are less, and those behind greater.
+fn place_between<C: Ord + Copy, K: Keys<C>>(
+    rows: &K,
+    key: &C,
+    mut low: usize,
+    mut left: usize,
+    end: usize,
+) -> Result<usize, usize> {
     let mut found = false;
     while left > 0 {
         let half = left / 2;
@@ -56,13 +114,23 @@ fn place_of<C: Ord + Copy, K: Keys<C>>(rows: &K, key: &C, end: usize) -> Result<
     if found { Ok(low) } else { Err(low) }
 }
 
+/// The place of a key among the first `end`, which are all, or else most likely end not far behind it.
+#[inline]
+fn seek<C: Ord + Copy, K: Keys<C>>(rows: &K, key: &C, end: usize) -> Result<usize, usize> {
+    if end == rows.len() {
+        place_of(rows, key, end)
+    } else {
+        place_back(rows, key, end)
+    }
+}
+
 /// The index of the longest key that begins the look-up key, or `None` where none does.
 fn longest_key<C: NetworkBits + Copy, K: Keys<C>>(rows: &K, asked: &C) -> Option<usize> {
     // The keys that the look-up key is in are among the first `end`, and `sought` is in them, too.
     let mut sought = *asked;
     let mut end = rows.len();
     while end > 0 {
-        match place_of(rows, &sought, end) {
+        match seek(rows, &sought, end) {
             Ok(place) => return Some(place),
             Err(0) => return None,
             Err(place) => {

@@ -76,6 +76,10 @@ fn is_permit(action: Action) -> bool {
 /// assert_eq!(format!("{:?}", permitted(Global, &rules)?.as_slice()), "[10.128.0.0/9]");
 /// # Ok::<(), Box<dyn std::error::Error>>(())
 /// ```
+///
+/// # Errors
+///
+/// `AllocError` where memory runs out.
 #[inline]
 pub fn permitted<C: NetworkBits + Copy>(
     alloc: Global,
@@ -159,6 +163,10 @@ fn permitted_by_few<C: NetworkBits + Copy>(
 /// assert_eq!(format!("{:?}", shadowed(Global, &rules)?), "[2]");
 /// # Ok::<(), Box<dyn std::error::Error>>(())
 /// ```
+///
+/// # Errors
+///
+/// `AllocError` where memory runs out.
 #[inline]
 pub fn shadowed<C: NetworkBits + Copy>(
     alloc: Global,
@@ -184,6 +192,10 @@ pub fn shadowed<C: NetworkBits + Copy>(
 /// assert_eq!(format!("{:?}", deciding(Global, &rules, &rules[1].network)?), "[0, 1]");
 /// # Ok::<(), Box<dyn std::error::Error>>(())
 /// ```
+///
+/// # Errors
+///
+/// `AllocError` where memory runs out.
 pub fn deciding<C: NetworkBits + Copy>(
     alloc: Global,
     rules: &[Rule<C>],
@@ -227,6 +239,10 @@ pub struct Shadow {
 /// assert_eq!(format!("{:?}", shadowed_by(Global, &rules)?), "[Shadow { rule: 2, by: [0] }]");
 /// # Ok::<(), Box<dyn std::error::Error>>(())
 /// ```
+///
+/// # Errors
+///
+/// `AllocError` where memory runs out.
 pub fn shadowed_by<C: NetworkBits + Copy>(
     alloc: Global,
     rules: &[Rule<C>],

@@ -22,6 +22,10 @@ pub struct Decisions<C: NetworkBits + Copy> {
 /// It sorts their networks once and goes through them: O(n log n) for n rules, and a step for each part. Of these there
 /// are at most n where no network is cut out of another, and else one more for each bit of each network. Beside them it
 /// takes room for n rows, and then for n marks.
+///
+/// # Errors
+///
+/// `AllocError` where memory runs out.
 #[inline]
 pub fn decide_all<C: NetworkBits + Copy>(
     alloc: Global,
@@ -115,6 +119,10 @@ fn unreached_in<C>(
 
 /// The indices of the rules that decide the addresses of a network, ascending, where the rows tell the rule of each
 /// address in the network of any rule.
+///
+/// # Errors
+///
+/// `AllocError` where memory runs out.
 pub fn deciding_in<C: NetworkBits + Copy>(
     alloc: Global,
     parts: &LpmTable<C, usize>,

@@ -25,6 +25,8 @@
 #![no_std]
 #![forbid(unsafe_code)]
 #![allow(unused_imports, unused_variables, dead_code, unstable_name_collisions)]
+#![allow(clippy::style, clippy::complexity, clippy::perf)]
+#![allow(clippy::manual_unwrap_or_default, clippy::non_canonical_partial_ord_impl)]
 
 pub mod alloc;
 mod checks;
@@ -49,4 +51,4 @@ pub use pools::PoolNetwork;
 pub use probe::{NetworkProbe, Networks, contains};
 pub use ranges::{AddressRange, Addressed, Ranges};
 pub use set::NetworkSet;
-pub use walk::{AddressSpace, SetAddresses};
+pub use walk::SetAddresses;

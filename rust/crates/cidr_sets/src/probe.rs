@@ -22,6 +22,10 @@ pub trait NetworkProbe<C: NetworkBits>: Sized + Probe<C> {
     /// }
     /// # Ok::<(), Box<dyn std::error::Error>>(())
     /// ```
+    ///
+    /// # Panics
+    ///
+    /// Where an index is not below the length.
     fn contains_at(&mut self, i: usize, network: &C) -> bool;
 }
 

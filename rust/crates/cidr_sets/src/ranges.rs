@@ -128,6 +128,10 @@ impl<C: Addressed + Copy> NetworkSet<C> {
     /// assert_eq!(format!("{:?}", set.as_slice()), "[10.0.0.1/32, 10.0.0.2/31, 10.0.0.4/31, 10.0.0.6/32]");
     /// # Ok::<(), Box<dyn std::error::Error>>(())
     /// ```
+    ///
+    /// # Errors
+    ///
+    /// `AllocError` where memory runs out.
     pub fn from_range(
         alloc: Global,
         first: C::Address,

@@ -56,6 +56,10 @@ impl<C: NetworkBits + Copy> NetworkSet<C> {
     /// assert_eq!(format!("{:?}", set.as_slice()), "[10.0.0.0/8]");
     /// # Ok::<(), Box<dyn std::error::Error>>(())
     /// ```
+    ///
+    /// # Errors
+    ///
+    /// `AllocError` where memory runs out.
     #[inline]
     pub fn from_networks(alloc: Global, networks: &[C]) -> Result<Self, AllocError> {
         let copies = Vec::from_slice(alloc, networks)?;

@@ -27,6 +27,10 @@ use cidr_table::{is_inside, least_cover_in_place};
 /// assert_eq!(format!("{:?}", &out[..2]), "[10.0.0.0/8, 192.0.2.0/24]");
 /// # Ok::<(), Box<dyn std::error::Error>>(())
 /// ```
+///
+/// # Panics
+///
+/// Unless `are_reduced(these) && are_reduced(those) && these.len() + those.len() <= out.len()`.
 #[inline]
 pub fn union<C: NetworkBits + Copy>(these: &[C], those: &[C], out: &mut [C]) -> usize {
     assert!(crate::checks::are_reduced(these) && crate::checks::are_reduced(those) && these.len() + those.len() <= out.len());
@@ -52,6 +56,10 @@ pub fn union<C: NetworkBits + Copy>(these: &[C], those: &[C], out: &mut [C]) -> 
 /// assert_eq!(format!("{:?}", &out[..1]), "[10.1.0.0/16]");
 /// # Ok::<(), Box<dyn std::error::Error>>(())
 /// ```
+///
+/// # Panics
+///
+/// Unless `are_reduced(these) && are_reduced(those) && these.len() + those.len() <= out.len() + 1`.
 pub fn intersection<C: NetworkBits + Copy>(these: &[C], those: &[C], out: &mut [C]) -> usize {
     assert!(crate::checks::are_reduced(these) && crate::checks::are_reduced(those) && these.len() + those.len() <= out.len() + 1);
     let mut left = these;
@@ -88,6 +96,10 @@ pub fn intersection<C: NetworkBits + Copy>(these: &[C], those: &[C], out: &mut [
 /// assert_eq!(format!("{:?}", slices::difference(set.as_slice(), part.as_slice(), &mut out[..1])), "None");
 /// # Ok::<(), Box<dyn std::error::Error>>(())
 /// ```
+///
+/// # Panics
+///
+/// Unless `are_reduced(these) && are_reduced(those)`.
 pub fn difference<C: NetworkBits + Copy>(these: &[C], those: &[C], out: &mut [C]) -> Option<usize> {
     assert!(crate::checks::are_reduced(these) && crate::checks::are_reduced(those));
     let mut todo = these;
@@ -119,6 +131,10 @@ pub fn difference<C: NetworkBits + Copy>(these: &[C], those: &[C], out: &mut [C]
 /// assert_eq!(format!("{:?}", out), "[10.0.0.0/10, 10.128.0.0/9]");
 /// # Ok::<(), Box<dyn std::error::Error>>(())
 /// ```
+///
+/// # Panics
+///
+/// Unless `are_reduced(networks)`.
 #[inline]
 pub fn complement_in<C: NetworkBits + Copy>(
     network: &C,

@@ -25,7 +25,7 @@ impl<const CAP: usize> ArrayString<CAP> {
         }
     }
 
-    /// Appends a string. Panics where there is no room.
+    /// Appends a string.
     ///
     /// ```
     /// # use cidr_support::arrayvec::*;
@@ -35,6 +35,10 @@ impl<const CAP: usize> ArrayString<CAP> {
     /// assert_eq!(text.as_str(), "192.0");
     /// assert!(std::panic::catch_unwind(move || text.push_str(".2.0")).is_err());
     /// ```
+    ///
+    /// # Panics
+    ///
+    /// Where there is no room.
     #[inline]
     pub fn push_str(&mut self, text: &str) {
         let end = self.len + text.len();
@@ -49,6 +53,10 @@ impl<const CAP: usize> ArrayString<CAP> {
     /// let mut text = ArrayString::<3>::new();
     /// assert!(text.try_push_str("192").is_ok() && text.try_push_str(".").is_err());
     /// ```
+    ///
+    /// # Errors
+    ///
+    /// `CapacityError` where there is no room, and then nothing changes.
     #[inline]
     pub fn try_push_str(&mut self, text: &str) -> Result<(), CapacityError> {
         if text.len() > CAP - self.len {
@@ -65,12 +73,16 @@ impl<const CAP: usize> ArrayString<CAP> {
     /// let mut text = ArrayString::<1>::new();
     /// assert!(text.try_push('a').is_ok() && text.try_push('b').is_err());
     /// ```
+    ///
+    /// # Errors
+    ///
+    /// `CapacityError` where there is no room, and then nothing changes.
     #[inline]
     pub fn try_push(&mut self, c: char) -> Result<(), CapacityError> {
         self.try_push_str(c.encode_utf8(&mut [0; 4]))
     }
 
-    /// Appends a character. Panics where there is no room.
+    /// Appends a character.
     ///
     /// ```
     /// # use cidr_support::arrayvec::*;
@@ -79,12 +91,16 @@ impl<const CAP: usize> ArrayString<CAP> {
     /// text.push('²');
     /// assert_eq!(text.as_str(), "/²");
     /// ```
+    ///
+    /// # Panics
+    ///
+    /// Where there is no room.
     #[inline]
     pub fn push(&mut self, c: char) {
         self.push_str(c.encode_utf8(&mut [0; 4]));
     }
 
-    /// Leaves the first `len` bytes. A shorter string stays as it is. Panics within a character.
+    /// Leaves the first `len` bytes. A shorter string stays as it is.
     ///
     /// ```
     /// # use cidr_support::arrayvec::*;
@@ -96,6 +112,10 @@ impl<const CAP: usize> ArrayString<CAP> {
     /// text.push('²');
     /// assert!(std::panic::catch_unwind(move || text.truncate(3)).is_err());
     /// ```
+    ///
+    /// # Panics
+    ///
+    /// Where `len` is within a character.
     #[inline]
     pub fn truncate(&mut self, len: usize) {
         if len < self.len {
@@ -142,6 +162,12 @@ impl<const CAP: usize> Deref for ArrayString<CAP> {
 /// other.truncate(2);
 /// assert!(text == other);
 /// ```
+impl<const CAP: usize> Default for ArrayString<CAP> {
+    fn default() -> Self {
+        ArrayString::new()
+    }
+}
+
 impl<const CAP: usize> PartialEq for ArrayString<CAP> {
     fn eq(&self, other: &Self) -> bool {
         self.as_str() == other.as_str()
@@ -189,8 +215,14 @@ impl<T: Copy + Default, const CAP: usize> ArrayVec<T, CAP> {
     }
 }
 
+impl<T: Copy + Default, const CAP: usize> Default for ArrayVec<T, CAP> {
+    fn default() -> Self {
+        ArrayVec::new()
+    }
+}
+
 impl<T, const CAP: usize> ArrayVec<T, CAP> {
-    /// Appends an item. Panics where there is no room.
+    /// Appends an item.
     ///
     /// ```
     /// # use cidr_support::arrayvec::*;
@@ -200,6 +232,10 @@ impl<T, const CAP: usize> ArrayVec<T, CAP> {
     /// assert_eq!(list.as_slice(), [8, 10]);
     /// assert!(std::panic::catch_unwind(move || list.push(0)).is_err());
     /// ```
+    ///
+    /// # Panics
+    ///
+    /// Where there is no room.
     #[inline]
     pub fn push(&mut self, item: T) {
         self.items[self.len] = item;
@@ -214,6 +250,10 @@ impl<T, const CAP: usize> ArrayVec<T, CAP> {
     /// assert!(list.try_extend_from_slice(&[8, 9]).is_ok() && list.try_extend_from_slice(&[1, 2]).is_err());
     /// assert_eq!(list.as_slice(), [8, 9]);
     /// ```
+    ///
+    /// # Errors
+    ///
+    /// `CapacityError` where there is no room, and then nothing changes.
     #[inline]
     pub fn try_extend_from_slice(&mut self, items: &[T]) -> Result<(), CapacityError>
     where

@@ -30,6 +30,10 @@ impl String {
     /// assert_eq!(String::from_str(Global, "::1")?.as_str(), "::1");
     /// # Ok::<(), AllocError>(())
     /// ```
+    ///
+    /// # Errors
+    ///
+    /// `AllocError` where memory runs out.
     pub fn from_str(alloc: Global, text: &str) -> Result<String, AllocError> {
         let mut copy = String::new(alloc);
         copy.push_str(text)?;
@@ -45,6 +49,10 @@ impl String {
     /// assert!(String::from_utf8(Vec::from_array(Global, [255])?).is_err());
     /// # Ok::<(), AllocError>(())
     /// ```
+    ///
+    /// # Errors
+    ///
+    /// `string::FromUtf8Error`, which tells what is wrong.
     pub fn from_utf8(bytes: Vec<u8>) -> Result<String, string::FromUtf8Error> {
         string::String::from_utf8(bytes.into()).map(String)
     }
@@ -58,6 +66,10 @@ impl String {
     /// assert_eq!(text.as_str(), "192.0");
     /// # Ok::<(), AllocError>(())
     /// ```
+    ///
+    /// # Errors
+    ///
+    /// `AllocError` where memory runs out.
     pub fn push_str(&mut self, text: &str) -> Result<(), AllocError> {
         self.0.try_reserve(text.len()).map_err(|_| AllocError)?;
         self.0.push_str(text);
@@ -74,6 +86,10 @@ impl String {
     /// assert_eq!(format!("{text:>3}"), " /8");
     /// # Ok::<(), AllocError>(())
     /// ```
+    ///
+    /// # Errors
+    ///
+    /// `AllocError` where memory runs out.
     pub fn push(&mut self, c: char) -> Result<(), AllocError> {
         self.push_str(c.encode_utf8(&mut [0; 4]))
     }
@@ -87,6 +103,10 @@ impl String {
     /// assert_eq!(text.as_str(), "::/8");
     /// # Ok::<(), AllocError>(())
     /// ```
+    ///
+    /// # Errors
+    ///
+    /// `AllocError` where memory runs out.
     pub fn write_fmt(&mut self, args: fmt::Arguments<'_>) -> Result<(), AllocError> {
         fmt::write(self, args).map_err(|_| AllocError)
     }

@@ -32,6 +32,10 @@ impl<T> Vec<T> {
     /// assert!(Vec::<u8>::with_capacity(Global, usize::MAX).is_err());
     /// # Ok::<(), AllocError>(())
     /// ```
+    ///
+    /// # Errors
+    ///
+    /// `AllocError` where memory runs out.
     pub fn with_capacity(alloc: Global, capacity: usize) -> Result<Vec<T>, AllocError> {
         let mut list = Vec::new(alloc);
         list.0.try_reserve_exact(capacity).map_err(|_| AllocError)?;
@@ -45,6 +49,10 @@ impl<T> Vec<T> {
     /// assert_eq!(Vec::from_slice(Global, &[3, 1, 2])?.as_slice(), [3, 1, 2]);
     /// # Ok::<(), AllocError>(())
     /// ```
+    ///
+    /// # Errors
+    ///
+    /// `AllocError` where memory runs out.
     pub fn from_slice(alloc: Global, items: &[T]) -> Result<Vec<T>, AllocError>
     where
         T: Copy,
@@ -61,6 +69,10 @@ impl<T> Vec<T> {
     /// assert_eq!(Vec::from_array(Global, [3, 1, 2])?.as_slice(), [3, 1, 2]);
     /// # Ok::<(), AllocError>(())
     /// ```
+    ///
+    /// # Errors
+    ///
+    /// `AllocError` where memory runs out.
     pub fn from_array<const N: usize>(alloc: Global, items: [T; N]) -> Result<Vec<T>, AllocError> {
         let mut list = Vec::with_capacity(alloc, N)?;
         list.0.extend(items);
@@ -74,6 +86,10 @@ impl<T> Vec<T> {
     /// assert_eq!(Vec::from_elem(Global, 7, 3)?.as_slice(), [7, 7, 7]);
     /// # Ok::<(), AllocError>(())
     /// ```
+    ///
+    /// # Errors
+    ///
+    /// `AllocError` where memory runs out.
     pub fn from_elem(alloc: Global, item: T, len: usize) -> Result<Vec<T>, AllocError>
     where
         T: Clone,
@@ -115,6 +131,10 @@ impl<T> Vec<T> {
     /// assert!(list.capacity() >= 8 && list.reserve(usize::MAX).is_err());
     /// # Ok::<(), AllocError>(())
     /// ```
+    ///
+    /// # Errors
+    ///
+    /// `AllocError` where memory runs out.
     pub fn reserve(&mut self, additional: usize) -> Result<(), AllocError> {
         self.0.try_reserve(additional).map_err(|_| AllocError)
     }
@@ -128,6 +148,10 @@ impl<T> Vec<T> {
     /// assert_eq!(list.as_slice(), [3, 1, 2, 0]);
     /// # Ok::<(), AllocError>(())
     /// ```
+    ///
+    /// # Errors
+    ///
+    /// `AllocFailed`, which holds the item, where memory runs out.
     #[inline]
     pub fn push(&mut self, item: T) -> Result<(), AllocFailed<T>> {
         if self.0.len() == self.0.capacity() && self.0.try_reserve(1).is_err() {
@@ -161,6 +185,10 @@ impl<T> Vec<T> {
     /// assert_eq!(list.as_slice(), [3, 1, 2, 5, 4]);
     /// # Ok::<(), AllocError>(())
     /// ```
+    ///
+    /// # Errors
+    ///
+    /// `AllocError` where memory runs out.
     pub fn extend_from_slice(&mut self, items: &[T]) -> Result<(), AllocError>
     where
         T: Copy,
@@ -179,6 +207,14 @@ impl<T> Vec<T> {
     /// assert_eq!(list.as_slice(), [3, 9, 1, 2]);
     /// # Ok::<(), AllocError>(())
     /// ```
+    ///
+    /// # Errors
+    ///
+    /// `AllocFailed`, which holds the item, where memory runs out.
+    ///
+    /// # Panics
+    ///
+    /// Where `index` is above the length.
     pub fn insert(&mut self, index: usize, item: T) -> Result<(), AllocFailed<T>> {
         if self.0.len() == self.0.capacity() && self.0.try_reserve(1).is_err() {
             return Err(AllocFailed { value: item });
@@ -196,6 +232,10 @@ impl<T> Vec<T> {
     /// assert_eq!(list.as_slice(), [3, 2, 4]);
     /// # Ok::<(), AllocError>(())
     /// ```
+    ///
+    /// # Panics
+    ///
+    /// Where `index` is not below the length.
     pub fn remove(&mut self, index: usize) -> T {
         self.0.remove(index)
     }
@@ -222,6 +262,10 @@ impl<T> Vec<T> {
     /// assert_eq!(list.try_clone()?, list);
     /// # Ok::<(), AllocError>(())
     /// ```
+    ///
+    /// # Errors
+    ///
+    /// `AllocError` where memory runs out.
     pub fn try_clone(&self) -> Result<Vec<T>, AllocError>
     where
         T: Clone,
@@ -240,6 +284,10 @@ impl<T> Vec<T> {
     /// assert_eq!(list.as_slice(), [3, 1, 9]);
     /// # Ok::<(), AllocError>(())
     /// ```
+    ///
+    /// # Errors
+    ///
+    /// `AllocError` where memory runs out.
     pub fn resize(&mut self, len: usize, item: T) -> Result<(), AllocError>
     where
         T: Clone,
@@ -292,6 +340,10 @@ impl<T> Vec<T> {
     /// assert!(long.is_sorted());
     /// # Ok::<(), AllocError>(())
     /// ```
+    ///
+    /// # Errors
+    ///
+    /// `AllocError` where memory runs out.
     pub fn sort_by_key<K: Ord>(&mut self, key: impl FnMut(&T) -> K) -> Result<(), AllocError> {
         drop(black_box(Vec::<T>::with_capacity(Global, self.0.len())?));
         self.0.sort_by_key(key);
@@ -484,6 +536,10 @@ pub trait CollectIn: Iterator + Sized {
     /// assert_eq!(list?.as_slice(), [3, 1]);
     /// # Ok::<(), AllocError>(())
     /// ```
+    ///
+    /// # Errors
+    ///
+    /// `AllocError` where memory runs out.
     fn collect_in(self, alloc: Global) -> Result<Vec<Self::Item>, AllocError> {
         let mut list = Vec::with_capacity(alloc, self.size_hint().0)?;
         for item in self {

@@ -64,11 +64,10 @@
 //! # Ok::<(), Box<dyn std::error::Error>>(())
 //! ```
 //!
-//! `insert` and `set` of a new key without room, `with_capacity`, `reserve`, `lookups`, `into_lookups`, `clone`, `load`
-//! and, of rows that don't ascend, `from_rows` allocate, and no other call does. Where an allocation fails, `insert`
-//! returns the key and the value as its error and leaves the rows as they were, `load` returns `NoMemory`, and
-//! `from_rows` does without. `insert` and `remove` move the rows behind the key, O(n); `from_rows` and `load` sort many
-//! rows once.
+//! `insert` and `set` of a new key without room, `with_capacity`, `reserve`, `clone`, `load` and, of rows that don't
+//! ascend, `from_rows` allocate, and no other call does. Where an allocation fails, `insert` returns the key and the
+//! value as its error and leaves the rows as they were, `load` returns `NoMemory`, and `from_rows` does without.
+//! `insert` and `remove` move the rows behind the key, O(n); `from_rows` and `load` sort many rows once.
 //!
 //! `load` takes prefix bytes, one network after the other, and keeps the index of each as its value. `inside` has the
 //! rows whose key is in a network, and `least_cover` the shortest list of networks with the addresses of all keys:
@@ -122,10 +121,8 @@
 //! ```
 //!
 //! `lookup` returns the row of the longest key that begins the bits of an address or a network, and `matches` all rows
-//! whose key does, the shortest key first. Who looks up many addresses in rows that stay as they are makes them ready
-//! once by `lookups`, whose result borrows the table: a look-up then takes one search, and from the key that it finds
-//! goes along links, each to the longest key that begins the last one. `into_lookups` takes the table itself, for a
-//! struct that holds the result, which gives the table back where rows are to change.
+//! whose key does, the shortest key first. Who looks up many addresses in rows that stay as they are makes a table of
+//! one family ready once, by the `ReadyTable` of `cidr_lookup`.
 //!
 //! `get_mut`, `lookup_mut` and `value_mut` return a reference to a value, for writing in its row, and `for_each_mut`
 //! calls a closure with each: no key changes, and nothing is allocated.
@@ -150,6 +147,8 @@
 #![no_std]
 #![forbid(unsafe_code)]
 #![allow(unused_imports, unused_variables, dead_code, unstable_name_collisions)]
+#![allow(clippy::style, clippy::complexity, clippy::perf)]
+#![allow(clippy::manual_unwrap_or_default, clippy::non_canonical_partial_ord_impl)]
 
 pub mod alloc;
 
@@ -170,5 +169,4 @@ pub use table::LpmTable;
 pub use table::cover::least_cover_in_place;
 pub use table::iterators::{IntoIter, Keys, Values};
 pub use table::load::LoadError;
-pub use table::lookups::{Lookups, ReadyTable};
 pub use table::matches::Matches;

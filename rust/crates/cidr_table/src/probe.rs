@@ -35,5 +35,9 @@ pub trait Probe<C: Ord>: Sized {
     /// }
     /// # Ok::<(), Box<dyn std::error::Error>>(())
     /// ```
+    ///
+    /// # Panics
+    ///
+    /// Where an index is not below the length.
     fn compare(&mut self, i: usize, key: &C) -> Ordering;
 }

@@ -5,6 +5,10 @@ use crate::probe::Probe;
 use cidr::{BitString, NetworkBits};
 
 /// Where the key stands among the first `end` keys, or the index before which it would.
+///
+/// # Errors
+///
+/// `usize`, which tells what is wrong.
 pub fn search<C: Ord, P: Probe<C>>(rows: &mut P, key: &C, end: usize) -> Result<usize, usize> {
     // Whatever a comparison returns, `half` indices are left, so that the compiler can do without a branch on it.
     let mut low = 0;
@@ -24,6 +28,10 @@ pub fn search<C: Ord, P: Probe<C>>(rows: &mut P, key: &C, end: usize) -> Result<
 }
 
 /// What `search` returns, where the keys before index `start` are known to come before the key.
+///
+/// # Errors
+///
+/// `usize`, which tells what is wrong.
 pub fn search_between<C: Ord, P: Probe<C>>(
     rows: &mut P,
     key: &C,
@@ -47,6 +55,10 @@ pub fn search_between<C: Ord, P: Probe<C>>(
 
 /// The same as `search`, for a key that likely stands near the end: first it goes back from there, `step` keys and then
 /// each time twice as far, but at most `tries` times.
+///
+/// # Errors
+///
+/// `usize`, which tells what is wrong.
 pub fn search_back<C: Ord, P: Probe<C>>(
     rows: &mut P,
     key: &C,
@@ -75,6 +87,10 @@ pub fn search_back<C: Ord, P: Probe<C>>(
 
 /// How many of the look-up key's first `most` bits the key at an index begins with: `Ok` where it has no others, and
 /// else `Err` of at least as many, where the key comes before all longer beginnings.
+///
+/// # Errors
+///
+/// `usize`, which tells what is wrong.
 pub fn shared_len<C: NetworkBits + Copy, P: Probe<C>>(
     rows: &mut P,
     place: usize,

@@ -12,11 +12,10 @@ mod clones;
 pub mod cover;
 mod debug;
 mod from_rows;
-mod hints;
 pub mod iterators;
 mod lends;
 pub mod load;
-pub mod lookups;
+mod lookups;
 mod map_calls;
 pub mod matches;
 
@@ -57,6 +56,10 @@ impl<C: NetworkBits + Copy, V> LpmTable<C, V> {
     /// assert_eq!(routes.capacity(), 3);
     /// # Ok::<(), Box<dyn std::error::Error>>(())
     /// ```
+    ///
+    /// # Errors
+    ///
+    /// `AllocError` where memory runs out.
     #[inline]
     pub fn with_capacity(alloc: Global, capacity: usize) -> Result<Self, AllocError> {
         let rows = Vec::with_capacity(alloc, capacity)?;
@@ -91,6 +94,10 @@ impl<C: NetworkBits + Copy, V> LpmTable<C, V> {
     /// assert!(routes.capacity() > 3);
     /// # Ok::<(), Box<dyn std::error::Error>>(())
     /// ```
+    ///
+    /// # Errors
+    ///
+    /// `AllocError` where memory runs out.
     #[inline]
     pub fn reserve(&mut self, additional: usize) -> Result<(), AllocError> {
         self.rows.reserve(additional)
@@ -149,6 +156,10 @@ impl<C: NetworkBits + Copy, V> LpmTable<C, V> {
     /// assert_eq!(format!("{:?}", routes.insert("10.0.0.0/8".parse()?, 2)), "Ok(Some(1))");
     /// # Ok::<(), Box<dyn std::error::Error>>(())
     /// ```
+    ///
+    /// # Errors
+    ///
+    /// The key and the value, where memory runs out; the table stays as it was.
     pub fn insert(&mut self, key: C, value: V) -> Result<Option<V>, (C, V)> {
         match self.find(&key) {
             Ok(place) => {

@@ -13,3 +13,4 @@ pub mod rows;
 pub mod several;
 pub mod stored;
 pub mod table;
+pub mod tables;

@@ -43,7 +43,7 @@ use cidr_lists::formats::Style;
 use cidr_lists::sets::{Form, Sets};
 
 /// The version, and below it the logic in which it is proved, as `rt version` names it.
-pub const VERSION: &str = cidr_system::version!("netset 0.1.0\nlogic dac8208d650f15bf\n");
+pub const VERSION: &str = cidr_system::version!("netset 0.4.0\nlogic dac8208d650f15bf\n");
 
 /// Writes what an operation has made: the networks, their ranges, or how many addresses they have.
 #[inline]

@@ -5,8 +5,8 @@ use crate::line_error::{LineError, Outcome};
 use crate::sets::lists::set;
 use crate::tokens::Tokens;
 use cidr::errors::NetworkParseError;
-use cidr::AddrParseError;
-use cidr_sets::{AddressSpace, Addressed, NetworkSet};
+use cidr::{AddrParseError, FamilyCidr};
+use cidr_sets::{Addressed, NetworkSet};
 use cidr_table::alloc::Global;
 use std::fmt::Debug;
 use std::str::FromStr;
@@ -33,7 +33,7 @@ where
 /// The operations on the addresses of a set by their index.
 pub fn indexes<C>(name: &str, tokens: &mut Tokens<'_>, answer: &mut Answer) -> Outcome
 where
-    C: AddressSpace + Copy + FromStr<Err = NetworkParseError>,
+    C: FamilyCidr + FromStr<Err = NetworkParseError>,
     C::Address: Debug + FromStr<Err = AddrParseError>,
 {
     let set = set::<C>(tokens)?;

@@ -10,7 +10,7 @@ use Rattle.cidr_c.proofs.counting.address_at.Goals as goal
 
 pub returns-in-Ok : goal.returns-in-Ok
 returns-in-Ok g c =
-    let family = g.C.AddressSpace.family in
+    let family = g.C.FamilyCidr.FAMILY in
     let ns = bits_in c.args.networks.now in
     let told = c.in-Ok.ensures in
     let out = c.put_found_address.new.out in
@@ -24,7 +24,7 @@ returns-in-Ok g c =
 
 pub returns-in-Err : goal.returns-in-Err
 returns-in-Err g c =
-    let family = g.C.AddressSpace.family in
+    let family = g.C.FamilyCidr.FAMILY in
     let ns = bits_in c.args.networks.now in
     let i = c.args.high * 2 ^ 64 + c.args.low in
     refused_in_memory (AreNetworkValues c.args.networks.now) (IsAtIndexIn family ns i None) IsAddressValue address_in

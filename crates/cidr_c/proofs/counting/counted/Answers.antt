@@ -10,7 +10,7 @@ use Rattle.cidr_c.proofs.counting.counted.Goals as goal
 
 pub returns-in-Ok : goal.returns-in-Ok
 returns-in-Ok g c =
-    let family = g.C.AddressSpace.family in
+    let family = g.C.FamilyCidr.FAMILY in
     let ns = bits_in c.args.networks.now in
     let own = map g.C.BitString.bits c.in-Ok.set in
     let told = c.in-Ok.ensures in
@@ -23,7 +23,7 @@ returns-in-Ok g c =
 
 pub returns-in-Err : goal.returns-in-Err
 returns-in-Err g c =
-    let family = g.C.AddressSpace.family in
+    let family = g.C.FamilyCidr.FAMILY in
     let ns = bits_in c.args.networks.now in
     refused_in_memory (AreNetworkValues c.args.networks.now) (HaveCountIn family ns (2 ^ 128)) IsAnyValue ipv6_number (HaveCountIn family ns) c.args.count.now
     c.in-Err.code c.in-Err.ensures

@@ -7,4 +7,4 @@ use Rattle.cidr_c.proofs.counting.family_set.Given as goal
 abbrev pub invariant-loop-value : goal.invariant-loop-value
 invariant-loop-value g l =
     AreNetworkValues (take l.value-index l.values)
-    × IsTaken g.C.AddressSpace.family (bits_in (take l.value-index l.values)) (map g.C.BitString.bits l.networks.items)
+    × IsTaken g.C.FamilyCidr.FAMILY (bits_in (take l.value-index l.values)) (map g.C.BitString.bits l.networks.items)

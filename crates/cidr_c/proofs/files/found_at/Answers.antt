@@ -2,30 +2,29 @@ use Rattle.std.proofs.Common.{◌≡◌, sym, subst, arith, inl, inr, ◌-◌, l
 use Rattle.std.proofs.lemmas.Bool.{cases_lt}
 use Rattle.cidr.specs.model.Bits.{bits}
 use Rattle.cidr_table.specs.model.Prefixes.{IsLongestMatch}
-use Rattle.cidr_arrays.specs.Arrays.{prefix_bits}
-use Rattle.cidr_arrays.proofs.Longest.{row_of_none, row_of_some}
+use Rattle.cidr_lookup.specs.Keys.{prefix_bits}
 use Rattle.cidr_files.specs.Tables.{stored_networks}
 use Rattle.cidr_c.specs.model.Files.{IsFoundInParts, parts_at}
 use Rattle.cidr_c.specs.declared.files.CFound.{CFound}
-use Rattle.cidr_c.proofs.Founds.{nothing_there, row_there}
+use Rattle.cidr_c.proofs.Founds.{nothing_there, row_of_none, row_of_some, row_there}
 use Rattle.cidr_c.proofs.files.found_at.Goals as goal
 
 pub returns-then-table-eq0 : goal.returns-then-table-eq0
 returns-then-table-eq0 g c = λ size.
-    let w = g.W.Word.width in
+    let w = g.W.Address.width in
     let networks = stored_networks g.W.Family.numbers (parts_at size c.args.table.now c.args.bytes.now) in
-    nothing_there w g.W.Address.padding g.W.Family.numbers size c.args.table.now c.args.bytes.now (g.W.Word.value c.args.address) c.nothing.result c.nothing.ensures
-    (λ inside good. subst (λ r. IsLongestMatch (prefix_bits w) (bits w (g.W.Word.value c.args.address)) networks r)
+    nothing_there w g.W.Address.padding g.W.Family.numbers size c.args.table.now c.args.bytes.now (g.W.Address.value c.args.address) c.nothing.result c.nothing.ensures
+    (λ inside good. subst (λ r. IsLongestMatch (prefix_bits w) (bits w (g.W.Address.value c.args.address)) networks r)
     (sym (row_of_none c.end_at-end.result (omega (arith, c.end_at-end.ensures.within)))) (c.end_at-end.ensures.longest size inside good))
 
 pub returns : goal.returns
 returns g c = λ size.
-    let w = g.W.Word.width in
+    let w = g.W.Address.width in
     let padding = g.W.Address.padding in
     let numbers = g.W.Family.numbers in
     let table = c.args.table.now in
     let bytes = c.args.bytes.now in
-    let address = g.W.Word.value c.args.address in
+    let address = g.W.Address.value c.args.address in
     let end = c.end_at-end.result in
     let networks = stored_networks numbers (parts_at size table bytes) in
     let place = c.place_at.result in

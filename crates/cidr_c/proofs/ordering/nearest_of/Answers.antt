@@ -4,7 +4,7 @@ use Rattle.cidr_c.proofs.ordering.nearest_of.Goals as goal
 
 pub returns-in-Some : goal.returns-in-Some
 returns-in-Some c =
-    nearest_row c.args.ready.now c.args.network.now c.in-Some.parent c.index_of.result c.in-Some.ensures c.index_of.ensures
+    nearest_row c.args.table.now.rows c.args.network.now c.in-Some.parent c.index_of.result c.in-Some.ensures c.index_of.ensures
 
 pub returns-in-None : goal.returns-in-None
-returns-in-None c = none_nearest c.args.ready.now c.args.network.now _ c.in-None.ensures refl
+returns-in-None c = none_nearest c.args.table.now.rows c.args.network.now _ c.in-None.ensures refl

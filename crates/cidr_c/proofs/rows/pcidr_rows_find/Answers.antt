@@ -12,10 +12,8 @@ returns-in-Ok c =
     let within = c.in-Ok.ensures.within in
     record {
       taken = λ _. (told.0, omega (arith, within, size));
-      here = λ _ s. (
-        omega (arith, within, size),
-        found_here networks c.in-Some.asked (network_in c.args.asked.now) c.in-Ok.place told.1 (c.in-Ok.ensures.place s),
-      );
+      within = λ _. omega (arith, within, size);
+      here = λ _ s. found_here networks c.in-Some.asked (network_in c.args.asked.now) c.in-Ok.place told.1 (c.in-Ok.ensures.place s);
       none = λ e. absurd (omega (arith, e));
       refused = λ e. absurd (omega (arith, e));
       codes = inl refl;

@@ -1,8 +1,8 @@
 use Rattle.std.proofs.Common.{◌≡◌, refl, sym, ◌∙◌, ap, subst, arith, inl, List, ℕ, ◌-◌, Some, drop, get_or, length, map, take}
 use Rattle.std.proofs.lemmas.List.{take_rest}
 use Rattle.std.specs.Int.{from_le_bytes, w32}
-use Rattle.cidr_arrays.specs.Arrays.{IsFirstRefused, key_networks}
-use Rattle.cidr_arrays.proofs.Numbers.{length_networks}
+use Rattle.cidr_lookup.specs.Keys.{IsFirstRefused, key_networks}
+use Rattle.cidr_lookup.proofs.Numbers.{length_networks}
 use Rattle.cidr_files.specs.Layout.{wide_word}
 use Rattle.cidr_lookup.specs.Tables.{ipv4_steps, ipv6_steps}
 use Rattle.cidr_c.specs.model.Tables.{ipv4_pair, ipv6_pair}

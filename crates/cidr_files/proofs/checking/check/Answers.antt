@@ -1,8 +1,8 @@
 use Rattle.std.proofs.Common.{◌≡◌, refl, ◌∙◌, ap, subst, arith, List, ℕ, length, map}
 use Rattle.std.specs.Int.{from_le_bytes, w32}
 use Rattle.std.specs.List.{zip}
-use Rattle.cidr_arrays.specs.Arrays.{key_networks}
-use Rattle.cidr_arrays.proofs.Numbers.{length_networks}
+use Rattle.cidr_lookup.specs.Keys.{key_networks}
+use Rattle.cidr_lookup.proofs.Numbers.{length_networks}
 use Rattle.cidr_lookup.specs.Faults.{IsFault}
 use Rattle.cidr_lookup.specs.Tables.{IsLookupTable}
 use Rattle.cidr_files.specs.FaultLaws.{wrong_words}
@@ -13,9 +13,9 @@ use Rattle.cidr_files.proofs.checking.check.Goals as goal
 
 pub returns-in-Err-clause-refused : goal.returns-in-Err-clause-refused
 returns-in-Err-clause-refused g c =
-    let w = g.W.Word.width in
+    let w = g.W.Address.width in
     let padding = g.W.Address.padding in
-    let value = g.W.Word.value in
+    let value = g.W.Address.value in
     let p = c.args.part.now in
     let keys = c.in-Ok.ensures ∙ ap (λ (xs : List ℕ). zip xs p.lengths.now) c.addresses-addresses.ensures in
     let first : map (from_le_bytes w32) c.as_chunks.result.0.now ≡ words p.first.now = ap (map (from_le_bytes w32)) c.as_chunks.ensures.front in
@@ -27,9 +27,9 @@ returns-in-Err-clause-refused g c =
 
 pub returns-clause-table : goal.returns-clause-table
 returns-clause-table g c =
-    let w = g.W.Word.width in
+    let w = g.W.Address.width in
     let padding = g.W.Address.padding in
-    let value = g.W.Word.value in
+    let value = g.W.Address.value in
     let p = c.args.part.now in
     let networks = stored_networks g.W.Family.numbers (parts_in p) in
     let keys : key_networks value c.in-Ok.keys.items ≡ networks =

@@ -11,7 +11,7 @@ use Rattle.cidr_files.proofs.looking.row_of.Goals as goal
 
 pub returns-then-row-min-clause-longest : goal.returns-then-row-min-clause-longest
 returns-then-row-min-clause-longest g c = λ good.
-    let w = g.W.Word.width in
+    let w = g.W.Address.width in
     let padding = g.W.Address.padding in
     let p = c.args.part.now in
     let networks = stored_networks g.W.Family.numbers (parts_in p) in
@@ -25,7 +25,7 @@ returns-then-row-min-clause-longest g c = λ good.
       slice_get_within networks c.in_ok-row.row m.key m.here,
       length-zip (g.W.Family.numbers p.addresses.now) p.lengths.now,
       ap length c.addresses-addresses.ensures,
-      length-map c.addresses-addresses.result.now g.W.Word.value,
+      length-map c.addresses-addresses.result.now g.W.Address.value,
       c.min.ensures,
       c.if-row-min.true,
     ))
@@ -37,7 +37,7 @@ returns-clause-within g c =
       arith,
       length-zip (g.W.Family.numbers p.addresses.now) p.lengths.now,
       ap length c.addresses-addresses.ensures,
-      length-map c.addresses-addresses.result.now g.W.Word.value,
+      length-map c.addresses-addresses.result.now g.W.Address.value,
       c.min.ensures,
       c.if-row-min.false,
     )

@@ -1,4 +1,4 @@
-use Rattle.std.proofs.Common.{◌≡◌, refl, sym, ◌∙◌, ap, ℕ, Bool, true, false, not, arith}
+use Rattle.std.proofs.Common.{◌≡◌, refl, sym, ◌∙◌, ap, Bool, true, false, not, arith}
 use Rattle.std.proofs.lemmas.Bool.{true≢false}
 use Rattle.cidr.specs.either.IpHost.{host_parts}
 use Rattle.cidr_lists.proofs.MaskedTexts.{not_cleared}

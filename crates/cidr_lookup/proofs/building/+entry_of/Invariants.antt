@@ -1,5 +1,5 @@
 use Rattle.std.proofs.Common.{◌≡◌, ◌+◌, ◌-◌, ◌*◌, ◌^◌, ◌<◌, ◌≤◌, get_or, length, map}
-use Rattle.cidr_arrays.specs.Arrays.{key_networks}
+use Rattle.cidr_lookup.specs.Keys.{key_networks}
 use Rattle.cidr_lookup.specs.Nodes.{AreEntries, IsEntry}
 use Rattle.cidr_lookup.specs.Tables.{IsAnswer}
 use Rattle.cidr_lookup.proofs.building.+entry_of.Given as goal
@@ -13,8 +13,8 @@ invariant-loop-part g l = record {
   parts : l.part ≤ 64;
   long : length l.entries ≡ 64;
   near : l.near < length l.starts;
-  upto : get_or (map g.A.Word.value l.starts) l.near 0 * 2 ^ g.A.Address.padding ≤ (l.block * 64 + l.part) * 2 ^ (6 * (l.steps - 1));
-  entries : AreEntries (IsEntry (IsAnswer g.A.Word.width g.A.Address.padding (key_networks g.A.Word.value l.keys)) (l.steps - 1)) (l.block * 64) l.part (g.S.Sink.put l.fn.sink) l.entries (g.S.Sink.put l.sink);
+  upto : get_or (map g.A.Address.value l.starts) l.near 0 * 2 ^ g.A.Address.padding ≤ (l.block * 64 + l.part) * 2 ^ (6 * (l.steps - 1));
+  entries : AreEntries (IsEntry (IsAnswer g.A.Address.width g.A.Address.padding (key_networks g.A.Address.value l.keys)) (l.steps - 1)) (l.block * 64) l.part (g.S.Sink.put l.fn.sink) l.entries (g.S.Sink.put l.sink);
 }
 
 abbrev pub decreases-loop-part : goal.decreases-loop-part

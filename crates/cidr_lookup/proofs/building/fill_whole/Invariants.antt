@@ -1,5 +1,5 @@
 use Rattle.std.proofs.Common.{◌≡◌, ℕ, ◌+◌, ◌-◌, ◌*◌, ◌^◌, ◌<◌, ◌≤◌, get_or, length, map}
-use Rattle.cidr_arrays.specs.Arrays.{key_networks}
+use Rattle.cidr_lookup.specs.Keys.{key_networks}
 use Rattle.cidr_lookup.specs.Nodes.{AllHave}
 use Rattle.cidr_lookup.specs.Tables.{IsAnswer}
 use Rattle.cidr_lookup.proofs.building.fill_whole.Given as goal
@@ -9,9 +9,9 @@ invariant-loop-part g l = record {
   from : l.from ≤ l.part;
   parts : l.part ≤ 64;
   near : l.range < length l.starts;
-  upto : get_or (map g.A.Word.value l.starts) l.range 0 * 2 ^ g.A.Address.padding ≤ (l.first + l.part) * 2 ^ (6 * l.steps);
+  upto : get_or (map g.A.Address.value l.starts) l.range 0 * 2 ^ g.A.Address.padding ≤ (l.first + l.part) * 2 ^ (6 * l.steps);
   others : (i : ℕ) → i < l.from → get_or l.entries i 0 ≡ get_or l.fn.entries i 0;
-  values : (i : ℕ) → l.from ≤ i → i < l.part → AllHave (IsAnswer g.A.Word.width g.A.Address.padding (key_networks g.A.Word.value l.keys)) l.steps (l.first + i) (get_or l.entries i 0);
+  values : (i : ℕ) → l.from ≤ i → i < l.part → AllHave (IsAnswer g.A.Address.width g.A.Address.padding (key_networks g.A.Address.value l.keys)) l.steps (l.first + i) (get_or l.entries i 0);
 }
 
 abbrev pub decreases-loop-part : goal.decreases-loop-part

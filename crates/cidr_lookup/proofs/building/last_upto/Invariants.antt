@@ -4,7 +4,7 @@ use Rattle.cidr_lookup.proofs.building.last_upto.Given as goal
 abbrev pub invariant-loop-range : goal.invariant-loop-range
 invariant-loop-range g l = record {
   within : l.range < length l.starts;
-  upto : get_or (map g.A.Word.value l.starts) l.range 0 * 2 ^ g.A.Address.padding ≤ l.number;
+  upto : get_or (map g.A.Address.value l.starts) l.range 0 * 2 ^ g.A.Address.padding ≤ l.number;
 }
 
 abbrev pub decreases-loop-range : goal.decreases-loop-range

@@ -1,23 +1,23 @@
 use Rattle.std.proofs.Common.{◌≡◌, refl, ℕ, sym, ap, subst, ◌∙◌, arith, ◌+◌, ◌-◌, ◌*◌, ◌%◌, ◌^◌, List, [], ◌∷◌, length, length-append, get_or, map}
 use Rattle.std.proofs.lemmas.List.{get_or_append_left, get_or_push, length-map}
-use Rattle.cidr_arrays.specs.Arrays.{key_networks}
+use Rattle.cidr_lookup.specs.Keys.{key_networks}
 use Rattle.cidr_lookup.specs.Nodes.{AreEntries, IsEntry}
 use Rattle.cidr_lookup.specs.Putting.{StopsBefore}
 use Rattle.cidr_lookup.specs.Tables.{IsAnswer}
 use Rattle.cidr_lookup.proofs.Blocks.{all_blocks, block_fits, one_count}
 use Rattle.cidr_lookup.proofs.Entries.{no_entries, one_more, stops_at_entry, stops_in_block}
-use Rattle.cidr_lookup.proofs.Ranges.{one_answer}
+use Rattle.cidr_lookup.proofs.BlockAnswers.{one_answer}
 use Rattle.cidr_lookup.proofs.building.put_table.Goals as goal
 
 pub loop-block-init : goal.loop-block-init
 loop-block-init g c =
-    let starts = map g.A.Word.value c.args.starts.now in
-    let IsOne = IsEntry (IsAnswer g.A.Word.width g.A.Address.padding (key_networks g.A.Word.value c.args.keys.now)) c.args.steps in
+    let starts = map g.A.Address.value c.args.starts.now in
+    let IsOne = IsEntry (IsAnswer g.A.Address.width g.A.Address.padding (key_networks g.A.Address.value c.args.keys.now)) c.args.steps in
     let zero : get_or starts 0 0 * 2 ^ g.A.Address.padding ≡ 0 = ap (λ s. s * 2 ^ g.A.Address.padding) c.requires.ranges.ordered.first ∙ omega arith in
     record {
       kept_first = refl;
       kept_words = refl;
-      near = omega (arith, c.requires.ranges.ordered.some, length-map c.args.starts.now g.A.Word.value);
+      near = omega (arith, c.requires.ranges.ordered.some, length-map c.args.starts.now g.A.Address.value);
       upto = omega (arith, zero);
       long = ap length c.requires.first;
       entries = subst (λ x. AreEntries IsOne 0 0 [] (g.F.Sink.put c.args.first.now) x) (sym c.requires.words) (no_entries IsOne 0 [] (g.F.Sink.put c.args.first.now));
@@ -30,7 +30,7 @@ loop-block-preserved g c =
     let entry = c.in-Ok.entry in
     let put = c.in-Ok-push.ensures.put in
     let block = c.loop-block.block in
-    let IsOne = IsEntry (IsAnswer g.A.Word.width g.A.Address.padding (key_networks g.A.Word.value c.args.keys.now)) c.args.steps in
+    let IsOne = IsEntry (IsAnswer g.A.Address.width g.A.Address.padding (key_networks g.A.Address.value c.args.keys.now)) c.args.steps in
     let zero : c.from.result ≡ 0 + block = omega (arith, c.from.ensures) in
     record {
       kept_first = c.push.ensures.kept ∙ h.kept_first;
@@ -46,7 +46,7 @@ loop-block-preserved g c =
 
 pub entry_of-requires-clause-block : goal.entry_of-requires-clause-block
 entry_of-requires-clause-block g c =
-    let size = g.A.Word.width + g.A.Address.padding in
+    let size = g.A.Address.width + g.A.Address.padding in
     let all = all_blocks c.args.steps size c.padded_width.result c.padded_width.ensures.value c.requires.some c.requires.few in
     block_fits c.args.steps size (1 * 2 ^ (c.padded_width.result - 6 * c.args.steps) % 2 ^ 64) c.from.result all (omega (arith, c.from.ensures, c.loop-block-test.true))
 
@@ -58,7 +58,7 @@ entry_of-requires-clause-wide g c = omega (arith, c.padded_width.ensures.value, 
 
 pub returns-clause-table : goal.returns-clause-table
 returns-clause-table g c =
-    let size = g.A.Word.width + g.A.Address.padding in
+    let size = g.A.Address.width + g.A.Address.padding in
     let h = c.loop-block.invariant in
     let all = all_blocks c.args.steps size c.padded_width.result c.padded_width.ensures.value c.requires.some c.requires.few in
     let whole : length (g.F.Sink.put c.loop-block.first) ≡ 1 * 2 ^ (c.padded_width.result - 6 * c.args.steps) % 2 ^ 64 = omega (arith, h.long, c.loop-block.auto.block-end, c.loop-block-test.false) in
@@ -67,16 +67,16 @@ returns-clause-table g c =
       some = c.requires.some;
       few = c.requires.few;
       size = ap (λ n. n * 2 ^ (6 * c.args.steps)) whole ∙ all;
-      entries = subst (λ n. AreEntries (IsEntry (IsAnswer g.A.Word.width g.A.Address.padding (key_networks g.A.Word.value c.args.keys.now)) c.args.steps) 0 n [] (g.F.Sink.put c.loop-block.first)
+      entries = subst (λ n. AreEntries (IsEntry (IsAnswer g.A.Address.width g.A.Address.padding (key_networks g.A.Address.value c.args.keys.now)) c.args.steps) 0 n [] (g.F.Sink.put c.loop-block.first)
           (g.S.Sink.put c.loop-block.words)) (sym h.long) h.entries;
     }
 
 pub returns-in-Err-clause-stopped : goal.returns-in-Err-clause-stopped
 returns-in-Err-clause-stopped g c = λ all_first all_words table.
-    let w = g.A.Word.width in
+    let w = g.A.Address.width in
     let padding = g.A.Address.padding in
     let steps = c.args.steps in
-    let networks = key_networks g.A.Word.value c.args.keys.now in
+    let networks = key_networks g.A.Address.value c.args.keys.now in
     let count = one_count steps (2 ^ (w + padding)) (length all_first) (1 * 2 ^ (c.padded_width.result - 6 * steps) % 2 ^ 64) table.size
     (all_blocks steps (w + padding) c.padded_width.result c.padded_width.ensures.value c.requires.some c.requires.few) in
     let block : c.from.result ≡ 0 + c.loop-block.block = omega (arith, c.from.ensures) in
@@ -88,10 +88,10 @@ returns-in-Err-clause-stopped g c = λ all_first all_words table.
 
 pub returns-in-Err-push-clause-stopped : goal.returns-in-Err-push-clause-stopped
 returns-in-Err-push-clause-stopped g c = λ all_first all_words table.
-    let w = g.A.Word.width in
+    let w = g.A.Address.width in
     let padding = g.A.Address.padding in
     let steps = c.args.steps in
-    let networks = key_networks g.A.Word.value c.args.keys.now in
+    let networks = key_networks g.A.Address.value c.args.keys.now in
     let count = one_count steps (2 ^ (w + padding)) (length all_first) (1 * 2 ^ (c.padded_width.result - 6 * steps) % 2 ^ 64) table.size
     (all_blocks steps (w + padding) c.padded_width.result c.padded_width.ensures.value c.requires.some c.requires.few) in
     let block : c.from.result ≡ 0 + c.loop-block.block = omega (arith, c.from.ensures) in

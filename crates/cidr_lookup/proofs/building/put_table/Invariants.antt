@@ -1,5 +1,5 @@
 use Rattle.std.proofs.Common.{◌≡◌, ◌*◌, ◌^◌, ◌<◌, ◌≤◌, [], get_or, length, map}
-use Rattle.cidr_arrays.specs.Arrays.{key_networks}
+use Rattle.cidr_lookup.specs.Keys.{key_networks}
 use Rattle.cidr_lookup.specs.Nodes.{AreEntries, IsEntry}
 use Rattle.cidr_lookup.specs.Tables.{IsAnswer}
 use Rattle.cidr_lookup.proofs.building.put_table.Given as goal
@@ -9,7 +9,7 @@ invariant-loop-block g l = record {
   kept_first : g.F.Sink.given l.first ≡ g.F.Sink.given l.fn.first;
   kept_words : g.S.Sink.given l.words ≡ g.S.Sink.given l.fn.words;
   near : l.near < length l.starts;
-  upto : get_or (map g.A.Word.value l.starts) l.near 0 * 2 ^ g.A.Address.padding ≤ l.block * 2 ^ (6 * l.steps);
+  upto : get_or (map g.A.Address.value l.starts) l.near 0 * 2 ^ g.A.Address.padding ≤ l.block * 2 ^ (6 * l.steps);
   long : length (g.F.Sink.put l.first) ≡ l.block;
-  entries : AreEntries (IsEntry (IsAnswer g.A.Word.width g.A.Address.padding (key_networks g.A.Word.value l.keys)) l.steps) 0 l.block [] (g.F.Sink.put l.first) (g.S.Sink.put l.words);
+  entries : AreEntries (IsEntry (IsAnswer g.A.Address.width g.A.Address.padding (key_networks g.A.Address.value l.keys)) l.steps) 0 l.block [] (g.F.Sink.put l.first) (g.S.Sink.put l.words);
 }

@@ -1,5 +1,5 @@
 use Rattle.std.proofs.Common.{◌≢◌, refl, sym, ap, subst, ◌∙◌, arith, Some, length, slice_get, take, take_all}
-use Rattle.cidr_arrays.specs.Arrays.{key_networks}
+use Rattle.cidr_lookup.specs.Keys.{key_networks}
 use Rattle.cidr_lookup.specs.Faults.{IsFirstOther}
 use Rattle.cidr_lookup.specs.Putting.{IsStopped, StopsBefore}
 use Rattle.cidr_lookup.specs.Tables.{IsLookupTable}
@@ -14,7 +14,7 @@ returns-then-entries-len-clause-refused g c = (
       let first = g.T.Words.words c.args.first.now in
       let words = g.T.Words.words c.args.words.now in
       let place = c.put_table.new.first.place in
-      let both = one_table g.A.Word.width g.A.Address.padding c.args.steps (key_networks g.A.Word.value c.args.keys.now) all_first all_words _ _ table c.in-Ok-put_table.ensures.table in
+      let both = one_table g.A.Address.width g.A.Address.padding c.args.steps (key_networks g.A.Address.value c.args.keys.now) all_first all_words _ _ table c.in-Ok-put_table.ensures.table in
       longer first all_first place (omega (arith, c.if-entries-len.true, c.len-in-Ok-put_table.ensures)) (both.0 ∙ ap (take place) c.put_table.ensures.kept_first),
 )
 
@@ -25,15 +25,15 @@ returns-then-nodes-len-clause-refused g c = (
   λ all_first all_words table.
       let words = g.T.Words.words c.args.words.now in
       let place = c.put_table.new.words.place in
-      let both = one_table g.A.Word.width g.A.Address.padding c.args.steps (key_networks g.A.Word.value c.args.keys.now) all_first all_words _ _ table c.in-Ok-put_table.ensures.table in
+      let both = one_table g.A.Address.width g.A.Address.padding c.args.steps (key_networks g.A.Address.value c.args.keys.now) all_first all_words _ _ table c.in-Ok-put_table.ensures.table in
       longer words all_words place (omega (arith, c.if-nodes-len.true, c.len-in-Ok-put_table-2.ensures)) (both.1 ∙ ap (take place) c.put_table.ensures.kept_words),
 )
 
 pub returns-in-Ok-put_table-clause-table : goal.returns-in-Ok-put_table-clause-table
 returns-in-Ok-put_table-clause-table g c =
-    let w = g.A.Word.width in
+    let w = g.A.Address.width in
     let padding = g.A.Address.padding in
-    let networks = key_networks g.A.Word.value c.args.keys.now in
+    let networks = key_networks g.A.Address.value c.args.keys.now in
     let first = g.T.Words.words c.args.first.now in
     let words = g.T.Words.words c.args.words.now in
     let firsts = ap (take c.put_table.new.first.place) c.put_table.ensures.kept_first ∙ take_all c.put_table.new.first.place first (omega (arith, c.if-entries-len.false, c.len-in-Ok-put_table.ensures)) in

@@ -7,9 +7,9 @@ abbrev pub invariant-loop-entry : goal.invariant-loop-entry
 invariant-loop-entry g l = record {
   fits : l.left ≤ 6 * l.steps;
   leads : (networks : List (ℕ × ℕ))
-      → IsLookupTable g.A.Word.width g.A.Address.padding l.steps networks (g.T.Words.words l.first) (g.T.Words.words l.words)
-      → (left : ℕ) × (l.left ≡ 6 * left) × Leads (IsAnswer g.A.Word.width g.A.Address.padding networks) (g.T.Words.words l.words) left
-      (g.A.Word.value l.address * 2 ^ g.A.Address.padding / 2 ^ (6 * left)) l.entry;
+      → IsLookupTable g.A.Address.width g.A.Address.padding l.steps networks (g.T.Words.words l.first) (g.T.Words.words l.words)
+      → (left : ℕ) × (l.left ≡ 6 * left) × Leads (IsAnswer g.A.Address.width g.A.Address.padding networks) (g.T.Words.words l.words) left
+      (g.A.Address.value l.address * 2 ^ g.A.Address.padding / 2 ^ (6 * left)) l.entry;
 }
 
 abbrev pub decreases-loop-entry : goal.decreases-loop-entry

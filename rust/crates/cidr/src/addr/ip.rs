@@ -79,6 +79,10 @@ impl IpAddr {
     /// assert_eq!(format!("{}", text), "2001:db8::1");
     /// # Ok::<(), Box<dyn std::error::Error>>(())
     /// ```
+    ///
+    /// # Errors
+    ///
+    /// `fmt::Error` where there is no room for the whole string, and then nothing is appended.
     #[inline]
     pub fn write_to<const CAP: usize>(&self, text: &mut ArrayString<CAP>) -> fmt::Result {
         match self {

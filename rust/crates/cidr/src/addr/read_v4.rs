@@ -20,6 +20,7 @@ fn digit_count(second: u8, third: u8) -> usize {
 
 /// The octet of the first one, two or three digits. All three numbers are computed and then one is chosen, so that no
 /// branch hangs on how many digits there are, which can't be foreseen.
+#[inline]
 fn octet_of(first: u8, second: u8, third: u8, count: usize) -> Option<u8> {
     let one = u32::from(first);
     let two = one * 10 + u32::from(second);
@@ -39,6 +40,7 @@ fn octet_of(first: u8, second: u8, third: u8, count: usize) -> Option<u8> {
 }
 
 /// The octet at the front, of as many digits as can be one, and what follows it.
+#[inline]
 fn take_octet(text: &[u8]) -> Option<(u8, &[u8])> {
     let first = decimal_value(text[0]);
     let second = decimal_value(text[1]);
@@ -71,6 +73,7 @@ fn take_octet_and_dot(text: &[u8]) -> Option<(u8, &[u8])> {
 }
 
 /// The octet that is the whole string.
+#[inline]
 fn read_octet(text: &[u8]) -> Option<u8> {
     let count = text.len();
     if count == 0 || count > 3 {

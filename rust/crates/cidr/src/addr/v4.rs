@@ -115,6 +115,10 @@ impl Ipv4Addr {
     /// assert_eq!(format!("{}", text), "192.0.2.1");
     /// # Ok::<(), Box<dyn std::error::Error>>(())
     /// ```
+    ///
+    /// # Errors
+    ///
+    /// `fmt::Error` where there is no room for the whole string, and then nothing is appended.
     #[inline]
     pub fn write_to<const CAP: usize>(&self, text: &mut ArrayString<CAP>) -> fmt::Result {
         if CAP - text.len() < 15 {

@@ -47,6 +47,10 @@ impl IpCidr {
     /// assert_eq!(format!("{:?}", IpCidr::new("192.0.2.48".parse()?, 27)), "Err(host part of address was not zero)");
     /// # Ok::<(), Box<dyn std::error::Error>>(())
     /// ```
+    ///
+    /// # Errors
+    ///
+    /// `NetworkParseError`, whose variant is the first of the errors in the order that the crate's page has.
     #[inline]
     pub fn new(addr: IpAddr, len: u8) -> Result<IpCidr, NetworkParseError> {
         match addr {
@@ -300,6 +304,10 @@ impl IpCidr {
     /// assert_eq!(format!("{}", text), "192.0.2.1");
     /// # Ok::<(), Box<dyn std::error::Error>>(())
     /// ```
+    ///
+    /// # Errors
+    ///
+    /// `fmt::Error` where there is no room for the whole string, and then nothing is appended.
     #[inline]
     pub fn write_to<const CAP: usize>(&self, text: &mut ArrayString<CAP>) -> fmt::Result {
         append(text, self.to_text().as_str())

@@ -44,9 +44,27 @@ pub struct Network<A: AddressBits> {
 }
 
 /// An IPv4 network, as 192.0.2.48/28: the prefix length is at most 32.
+///
+/// Its calls stand on the page of [`Network`](crate::Network), of which it is a type.
+///
+/// ```
+/// # use cidr::{canon::*, errors::*, parsers::*, *};
+/// let network: Ipv4Cidr = "192.0.2.48/28".parse()?;
+/// assert_eq!(format!("{}", network.last_address()), "192.0.2.63");
+/// # Ok::<(), Box<dyn std::error::Error>>(())
+/// ```
 pub type Ipv4Cidr = Network<Ipv4Addr>;
 
 /// An IPv6 network, as 2001:db8::/32: the prefix length is at most 128.
+///
+/// Its calls stand on the page of [`Network`](crate::Network), of which it is a type.
+///
+/// ```
+/// # use cidr::{canon::*, errors::*, parsers::*, *};
+/// let network: Ipv6Cidr = "2001:db8::/126".parse()?;
+/// assert_eq!(format!("{}", network.last_address()), "2001:db8::3");
+/// # Ok::<(), Box<dyn std::error::Error>>(())
+/// ```
 pub type Ipv6Cidr = Network<Ipv6Addr>;
 
 impl<A: AddressBits> Clone for Network<A> {
@@ -70,6 +88,10 @@ impl<A: AddressBits> Network<A> {
     /// assert_eq!(format!("{:?}", Ipv4Cidr::new(Ipv4Addr::new(192, 0, 2, 48), 27)), "Err(host part of address was not zero)");
     /// # Ok::<(), Box<dyn std::error::Error>>(())
     /// ```
+    ///
+    /// # Errors
+    ///
+    /// `NetworkParseError`, whose variant is the first of the errors in the order that the crate's page has.
     pub fn new(addr: A, len: u8) -> Result<Network<A>, NetworkParseError> {
         if len > A::FAMILY.len() {
             let too_long = NetworkLengthTooLongError::new(len as usize, A::FAMILY);
@@ -317,6 +339,10 @@ impl<A: AddressText> Network<A> {
     /// assert_eq!(format!("{}", text), "192.0.2.48/28");
     /// # Ok::<(), Box<dyn std::error::Error>>(())
     /// ```
+    ///
+    /// # Errors
+    ///
+    /// `fmt::Error` where there is no room for the whole string, and then nothing is appended.
     #[inline]
     pub fn write_to<const CAP: usize>(&self, text: &mut ArrayString<CAP>) -> fmt::Result {
         append(text, self.to_text().as_str())

@@ -34,6 +34,10 @@ impl<A: AddressOctets> Network<A> {
     /// assert_eq!(format!("{:?}", Ipv4Cidr::from_compact(&[24, 192, 0])), "Err(compact bytes end too early)");
     /// # Ok::<(), Box<dyn std::error::Error>>(())
     /// ```
+    ///
+    /// # Errors
+    ///
+    /// `CompactError`, whose variant is the first error in the order of the bytes.
     #[inline]
     pub fn from_compact(bytes: &[u8]) -> Result<(Network<A>, usize), CompactError> {
         match A::take_compact(bytes) {
@@ -72,6 +76,10 @@ impl<A: AddressOctets> Host<A> {
     /// assert_eq!(format!("{:?}", Ipv4Inet::from_compact(&[33, 10, 4, 3, 2])), "Err(invalid tag)");
     /// # Ok::<(), Box<dyn std::error::Error>>(())
     /// ```
+    ///
+    /// # Errors
+    ///
+    /// `CompactError`, whose variant is the first error in the order of the bytes.
     #[inline]
     pub fn from_compact(bytes: &[u8]) -> Result<(Host<A>, usize), CompactError> {
         match A::take_compact(bytes) {

@@ -45,6 +45,10 @@ impl IpInet {
     /// assert!(IpInet::new("192.0.2.50".parse()?, 33).is_err());
     /// # Ok::<(), Box<dyn std::error::Error>>(())
     /// ```
+    ///
+    /// # Errors
+    ///
+    /// `NetworkLengthTooLongError` for a prefix length above the width, 32 or 128.
     #[inline]
     pub fn new(addr: IpAddr, len: u8) -> Result<IpInet, NetworkLengthTooLongError> {
         match addr {
@@ -405,6 +409,10 @@ impl IpInet {
     /// assert_eq!(format!("{}", text), "10.4.3.2/8");
     /// # Ok::<(), Box<dyn std::error::Error>>(())
     /// ```
+    ///
+    /// # Errors
+    ///
+    /// `fmt::Error` where there is no room for the whole string, and then nothing is appended.
     #[inline]
     pub fn write_to<const CAP: usize>(&self, text: &mut ArrayString<CAP>) -> fmt::Result {
         append(text, self.to_text().as_str())
@@ -506,6 +514,10 @@ impl fmt::Display for WithLength<IpInet> {
 
 /// The host `step` addresses further in the network, as `overflowing_add` returns it. The caller has to ensure that the
 /// step does not wrap; `overflowing_add` and `next` tell whether it does.
+///
+/// # Panics
+///
+/// Where the condition on the caller does not hold.
 impl Add<u128> for IpInet {
     type Output = IpInet;
 
@@ -520,6 +532,10 @@ impl Add<u128> for IpInet {
 
 /// The host `step` addresses back in the network, as `overflowing_sub` returns it. The caller has to ensure that the
 /// step does not wrap; `overflowing_sub` and `previous` tell whether it does.
+///
+/// # Panics
+///
+/// Where the condition on the caller does not hold.
 impl Sub<u128> for IpInet {
     type Output = IpInet;
 

@@ -39,9 +39,29 @@ pub struct Host<A: AddressBits> {
 }
 
 /// An IPv4 host, as 192.0.2.50/28: the prefix length is at most 32.
+///
+/// Its calls stand on the page of [`Host`](crate::Host), of which it is a type.
+///
+/// ```
+/// # use cidr::{canon::*, errors::*, parsers::*, *};
+/// let host = Ipv4Inet::new(Ipv4Addr::new(192, 0, 2, 50), 28)?;
+/// assert_eq!(format!("{}", host.address()), "192.0.2.50");
+/// assert_eq!(format!("{}", host.network()), "192.0.2.48/28");
+/// # Ok::<(), Box<dyn std::error::Error>>(())
+/// ```
 pub type Ipv4Inet = Host<Ipv4Addr>;
 
 /// An IPv6 host, as 2001:db8::5/32: the prefix length is at most 128.
+///
+/// Its calls stand on the page of [`Host`](crate::Host), of which it is a type.
+///
+/// ```
+/// # use cidr::{canon::*, errors::*, parsers::*, *};
+/// let host = Ipv6Inet::new("2001:db8::5".parse()?, 32)?;
+/// assert_eq!(format!("{}", host.address()), "2001:db8::5");
+/// assert_eq!(format!("{}", host.network()), "2001:db8::/32");
+/// # Ok::<(), Box<dyn std::error::Error>>(())
+/// ```
 pub type Ipv6Inet = Host<Ipv6Addr>;
 
 impl<A: AddressBits> Clone for Host<A> {
@@ -64,6 +84,10 @@ impl<A: AddressBits> Host<A> {
     /// assert!(Ipv6Inet::new(Ipv6Addr::from_bits(1), 129).is_err());
     /// # Ok::<(), Box<dyn std::error::Error>>(())
     /// ```
+    ///
+    /// # Errors
+    ///
+    /// `NetworkLengthTooLongError` for a prefix length above the width, 32 or 128.
     #[inline]
     pub fn new(addr: A, len: u8) -> Result<Host<A>, NetworkLengthTooLongError> {
         if len > A::FAMILY.len() {
@@ -380,6 +404,10 @@ impl<A: AddressText> Host<A> {
     /// assert_eq!(format!("{}", text), "10.4.3.2/8");
     /// # Ok::<(), Box<dyn std::error::Error>>(())
     /// ```
+    ///
+    /// # Errors
+    ///
+    /// `fmt::Error` where there is no room for the whole string, and then nothing is appended.
     #[inline]
     pub fn write_to<const CAP: usize>(&self, text: &mut ArrayString<CAP>) -> fmt::Result {
         append(text, self.to_text().as_str())
@@ -477,6 +505,10 @@ impl<A: AddressText> fmt::Debug for Host<A> {
 
 /// The host `step` addresses further in the network, as `overflowing_add` returns it. The caller has to ensure that the
 /// step does not wrap; `overflowing_add` and `next` tell whether it does.
+///
+/// # Panics
+///
+/// Unless `!self.overflowing_add(step).1`.
 impl<A: AddressBits> Add<u128> for Host<A> {
     type Output = Host<A>;
 
@@ -489,6 +521,10 @@ impl<A: AddressBits> Add<u128> for Host<A> {
 
 /// The host `step` addresses back in the network, as `overflowing_sub` returns it. The caller has to ensure that the
 /// step does not wrap; `overflowing_sub` and `previous` tell whether it does.
+///
+/// # Panics
+///
+/// Unless `!self.overflowing_sub(step).1`.
 impl<A: AddressBits> Sub<u128> for Host<A> {
     type Output = Host<A>;
 

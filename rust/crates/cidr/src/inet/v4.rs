@@ -35,6 +35,10 @@ impl Ipv4Inet {
 
 /// The host `step` addresses further in the network, as `overflowing_add_u32` returns it. The caller has to ensure that
 /// the step does not wrap; `overflowing_add_u32` and `next` tell whether it does.
+///
+/// # Panics
+///
+/// Unless `!self.overflowing_add_u32(step).1`.
 impl Add<u32> for Ipv4Inet {
     type Output = Ipv4Inet;
 
@@ -47,6 +51,10 @@ impl Add<u32> for Ipv4Inet {
 
 /// The host `step` addresses back in the network, as `overflowing_sub_u32` returns it. The caller has to ensure that the
 /// step does not wrap; `overflowing_sub_u32` and `previous` tell whether it does.
+///
+/// # Panics
+///
+/// Unless `!self.overflowing_sub_u32(step).1`.
 impl Sub<u32> for Ipv4Inet {
     type Output = Ipv4Inet;
 

@@ -35,9 +35,27 @@ pub struct HostPair<A: AddressBits> {
 }
 
 /// Two IPv4 addresses of one network, as (192.0.2.49/28, 192.0.2.51/28).
+///
+/// Its calls stand on the page of [`HostPair`](crate::HostPair), of which it is a type.
+///
+/// ```
+/// # use cidr::{canon::*, errors::*, parsers::*, *};
+/// let pair = Ipv4InetPair::new_from_addresses(Ipv4Addr::new(192, 0, 2, 49), Ipv4Addr::new(192, 0, 2, 51), 28)?;
+/// assert_eq!(format!("{:?}", pair.iter().last()), "Some(192.0.2.51/28)");
+/// # Ok::<(), Box<dyn std::error::Error>>(())
+/// ```
 pub type Ipv4InetPair = HostPair<Ipv4Addr>;
 
 /// Two IPv6 addresses of one network, as (2001:db8::1/32, 2001:db8::5/32).
+///
+/// Its calls stand on the page of [`HostPair`](crate::HostPair), of which it is a type.
+///
+/// ```
+/// # use cidr::{canon::*, errors::*, parsers::*, *};
+/// let pair = Ipv6InetPair::new_from_addresses("2001:db8::1".parse()?, "2001:db8::5".parse()?, 32)?;
+/// assert_eq!(format!("{:?}", pair.iter().last()), "Some(2001:db8::5/32)");
+/// # Ok::<(), Box<dyn std::error::Error>>(())
+/// ```
 pub type Ipv6InetPair = HostPair<Ipv6Addr>;
 
 impl<A: AddressBits> Clone for HostPair<A> {
@@ -59,6 +77,10 @@ impl<A: AddressBits> HostPair<A> {
     /// assert_eq!(format!("{}", Ipv4InetPair::new(first, second)?), "(10.0.0.1/8, 10.0.0.3/8)");
     /// # Ok::<(), Box<dyn std::error::Error>>(())
     /// ```
+    ///
+    /// # Errors
+    ///
+    /// `InetTupleError`, whose variant says whether the prefix length is above the width or the networks differ.
     #[inline]
     pub fn new(first: Host<A>, second: Host<A>) -> Result<HostPair<A>, InetTupleError> {
         if first.network_length() != second.network_length() {
@@ -79,6 +101,10 @@ impl<A: AddressBits> HostPair<A> {
     /// assert_eq!(format!("{:?}", Ipv4InetPair::new_from_addresses(first, last, 25)), "Err(addresses not in shared network)");
     /// # Ok::<(), Box<dyn std::error::Error>>(())
     /// ```
+    ///
+    /// # Errors
+    ///
+    /// `InetTupleError`, whose variant says whether the prefix length is above the width or the networks differ.
     #[inline]
     pub fn new_from_addresses(first: A, second: A, len: u8) -> Result<HostPair<A>, InetTupleError> {
         if len > A::FAMILY.len() {

@@ -19,6 +19,10 @@ use crate::traits::{Address, Inet};
 /// assert_eq!(format!("{}", host), "127.0.0.1/8");
 /// # Ok::<(), Box<dyn std::error::Error>>(())
 /// ```
+///
+/// # Errors
+///
+/// `NetworkParseError`, whose variant is the first of the errors in the order that the crate's page has.
 #[inline]
 pub fn parse_inet_full<I, AP, HP>(
     s: &str,
@@ -50,6 +54,10 @@ where
 /// assert_eq!(format!("{}", host), "127.0.0.1/8");
 /// # Ok::<(), Box<dyn std::error::Error>>(())
 /// ```
+///
+/// # Errors
+///
+/// `NetworkParseError`, whose variant is the first of the errors in the order that the crate's page has.
 #[inline]
 pub fn parse_inet<I, AP>(s: &str, address_parser: AP) -> Result<I, NetworkParseError>
 where

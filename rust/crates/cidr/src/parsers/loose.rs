@@ -70,6 +70,10 @@ pub fn inet_addr(s: &str) -> Option<Ipv4Addr> {
 /// assert_eq!(format!("{:?}", parse_loose_ipv4("256.1")), "Err(invalid IPv4 address syntax)");
 /// # Ok::<(), Box<dyn std::error::Error>>(())
 /// ```
+///
+/// # Errors
+///
+/// `AddrParseError` for a string that is no address.
 #[inline]
 pub fn parse_loose_ipv4(s: &str) -> Result<Ipv4Addr, AddrParseError> {
     match s.parse::<Ipv4Addr>() {
@@ -89,6 +93,10 @@ pub fn parse_loose_ipv4(s: &str) -> Result<Ipv4Addr, AddrParseError> {
 /// assert_eq!(format!("{}", parse_loose_ip("::1")?), "::1");
 /// # Ok::<(), Box<dyn std::error::Error>>(())
 /// ```
+///
+/// # Errors
+///
+/// `AddrParseError` for a string that is no address.
 #[inline]
 pub fn parse_loose_ip(s: &str) -> Result<IpAddr, AddrParseError> {
     match s.parse::<IpAddr>() {

@@ -19,6 +19,10 @@ use crate::traits::{Address, Cidr};
 /// assert_eq!(format!("{}", network), "10.7.0.0/16");
 /// # Ok::<(), Box<dyn std::error::Error>>(())
 /// ```
+///
+/// # Errors
+///
+/// `NetworkParseError`, whose variant is the first of the errors in the order that the crate's page has.
 #[inline]
 pub fn parse_cidr_full<C, AP, HP>(
     s: &str,
@@ -50,6 +54,10 @@ where
 /// assert_eq!(format!("{}", network), "10.0.0.0/8");
 /// # Ok::<(), Box<dyn std::error::Error>>(())
 /// ```
+///
+/// # Errors
+///
+/// `NetworkParseError`, whose variant is the first of the errors in the order that the crate's page has.
 #[inline]
 pub fn parse_cidr<C, AP>(s: &str, address_parser: AP) -> Result<C, NetworkParseError>
 where

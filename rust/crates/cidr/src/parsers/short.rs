@@ -44,6 +44,10 @@ fn read_short(text: &[u8]) -> Option<Ipv4Cidr> {
 /// assert_eq!(format!("{}", parse_short_ipv4_address_as_cidr("192.0.2.1")?), "192.0.2.1");
 /// # Ok::<(), Box<dyn std::error::Error>>(())
 /// ```
+///
+/// # Errors
+///
+/// `NetworkParseError`, whose variant is the first of the errors in the order that the crate's page has.
 #[inline]
 pub fn parse_short_ipv4_address_as_cidr(s: &str) -> Result<Ipv4Cidr, NetworkParseError> {
     match read_short(s.as_bytes()) {
@@ -63,6 +67,10 @@ pub fn parse_short_ipv4_address_as_cidr(s: &str) -> Result<Ipv4Cidr, NetworkPars
 /// assert_eq!(format!("{}", parse_short_ip_address_as_cidr("::1")?), "::1");
 /// # Ok::<(), Box<dyn std::error::Error>>(())
 /// ```
+///
+/// # Errors
+///
+/// `NetworkParseError`, whose variant is the first of the errors in the order that the crate's page has.
 #[inline]
 pub fn parse_short_ip_address_as_cidr(s: &str) -> Result<IpCidr, NetworkParseError> {
     match s.parse::<IpAddr>() {
@@ -83,6 +91,10 @@ pub fn parse_short_ip_address_as_cidr(s: &str) -> Result<IpCidr, NetworkParseErr
 /// assert_eq!(format!("{}", parse_short_ipv4_cidr("10.7")?), "10.7.0.0/16");
 /// # Ok::<(), Box<dyn std::error::Error>>(())
 /// ```
+///
+/// # Errors
+///
+/// `NetworkParseError`, whose variant is the first of the errors in the order that the crate's page has.
 #[inline]
 pub fn parse_short_ipv4_cidr(s: &str) -> Result<Ipv4Cidr, NetworkParseError> {
     parse_cidr_full(s, Ipv4Addr::from_str, parse_short_ipv4_address_as_cidr)
@@ -95,6 +107,10 @@ pub fn parse_short_ipv4_cidr(s: &str) -> Result<Ipv4Cidr, NetworkParseError> {
 /// assert_eq!(format!("{}", parse_short_ip_cidr("10.7")?), "10.7.0.0/16");
 /// # Ok::<(), Box<dyn std::error::Error>>(())
 /// ```
+///
+/// # Errors
+///
+/// `NetworkParseError`, whose variant is the first of the errors in the order that the crate's page has.
 #[inline]
 pub fn parse_short_ip_cidr(s: &str) -> Result<IpCidr, NetworkParseError> {
     parse_cidr_full(s, IpAddr::from_str, parse_short_ip_address_as_cidr)
@@ -108,6 +124,10 @@ pub fn parse_short_ip_cidr(s: &str) -> Result<IpCidr, NetworkParseError> {
 /// assert_eq!(format!("{}", parse_short_any_ip_cidr("10.7")?), "10.7.0.0/16");
 /// # Ok::<(), Box<dyn std::error::Error>>(())
 /// ```
+///
+/// # Errors
+///
+/// `NetworkParseError`, whose variant is the first of the errors in the order that the crate's page has.
 #[inline]
 pub fn parse_short_any_ip_cidr(s: &str) -> Result<AnyIpCidr, NetworkParseError> {
     parse_any_cidr_full(s, IpAddr::from_str, parse_short_ip_address_as_cidr)

@@ -33,6 +33,7 @@ fn take_digit(text: &[u8]) -> Option<(u8, &[u8])> {
 }
 
 /// The octet at the front, in decimal without leading zeros and with a dot behind it, and what follows the dot.
+#[inline]
 fn take_octet(text: &[u8]) -> Option<(u8, &[u8])> {
     let (first, rest) = take_digit(text)?;
     if let Some(rest) = take_dot(rest) {

@@ -17,11 +17,6 @@ impl<A: SingleBits> BitString for Host<A> {
     }
 
     #[inline]
-    fn first_bits(&self) -> u64 {
-        self.network().first_bits()
-    }
-
-    #[inline]
     fn room(&self) -> usize {
         // the call tells the proof how many bits the address has
         self.address().has_width();

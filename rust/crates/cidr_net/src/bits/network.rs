@@ -26,11 +26,6 @@ impl<A: SingleBits> BitString for Network<A> {
     }
 
     #[inline]
-    fn first_bits(&self) -> u64 {
-        self.first_address().first_64()
-    }
-
-    #[inline]
     fn room(&self) -> usize {
         usize::from(A::FAMILY.len() - self.network_length())
     }

@@ -52,6 +52,10 @@ impl AnyIpCidr {
     /// assert_eq!(format!("{}", AnyIpCidr::new("10.0.0.0".parse()?, 8)?), "10.0.0.0/8");
     /// # Ok::<(), Box<dyn std::error::Error>>(())
     /// ```
+    ///
+    /// # Errors
+    ///
+    /// `NetworkParseError`, whose variant is the first of the errors in the order that the crate's page has.
     #[inline]
     pub const fn new(addr: IpAddr, len: u8) -> Result<AnyIpCidr, NetworkParseError> {
         match IpCidr::new(addr, len) {
@@ -326,6 +330,10 @@ impl AnyIpCidr {
     /// assert_eq!(format!("{}", text), "any");
     /// # Ok::<(), Box<dyn std::error::Error>>(())
     /// ```
+    ///
+    /// # Errors
+    ///
+    /// `fmt::Error` where there is no room for the whole string, and then nothing is appended.
     #[inline]
     pub fn write_to<const CAP: usize>(&self, text: &mut ArrayString<CAP>) -> fmt::Result {
         append(text, self.to_text().as_str())

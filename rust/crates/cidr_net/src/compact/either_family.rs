@@ -43,6 +43,10 @@ impl IpCidr {
     /// assert_eq!(format!("{:?}", IpCidr::from_compact(&[8, 10, 0, 0, 1])), "Err(host part of address was not zero)");
     /// # Ok::<(), Box<dyn std::error::Error>>(())
     /// ```
+    ///
+    /// # Errors
+    ///
+    /// `CompactError`, whose variant is the first error in the order of the bytes.
     pub fn from_compact(bytes: &[u8]) -> Result<(IpCidr, usize), CompactError> {
         let (value, used) = match AnyIpCidr::from_compact(bytes) {
             Ok(read) => read,
@@ -87,6 +91,10 @@ impl IpInet {
     /// assert_eq!(format!("{:?}", IpInet::from_compact(&[255])), "Err(invalid value: `any`)");
     /// # Ok::<(), Box<dyn std::error::Error>>(())
     /// ```
+    ///
+    /// # Errors
+    ///
+    /// `CompactError`, whose variant is the first error in the order of the bytes.
     pub fn from_compact(bytes: &[u8]) -> Result<(IpInet, usize), CompactError> {
         let front = match read_front(bytes) {
             Ok(front) => front,
@@ -138,6 +146,10 @@ impl AnyIpCidr {
     /// assert_eq!(format!("{:?}", AnyIpCidr::from_compact(&[])), "Err(compact bytes end too early)");
     /// # Ok::<(), Box<dyn std::error::Error>>(())
     /// ```
+    ///
+    /// # Errors
+    ///
+    /// `CompactError`, whose variant is the first error in the order of the bytes.
     pub fn from_compact(bytes: &[u8]) -> Result<(AnyIpCidr, usize), CompactError> {
         let front = match read_front(bytes) {
             Ok(front) => front,

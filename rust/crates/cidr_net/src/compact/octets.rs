@@ -17,6 +17,10 @@ pub trait AddressOctets: Sized + AddressBits {
     fn compact(self, len: u8) -> ArrayVec<u8, 17>;
 
     /// The address and the prefix length that compact bytes begin with, if they are of this family.
+    ///
+    /// # Errors
+    ///
+    /// `CompactError`, whose variant is the first error in the order of the bytes.
     fn take_compact(bytes: &[u8]) -> Result<(Self, u8), CompactError>;
 }
 

@@ -28,6 +28,10 @@ pub enum End {
 /// assert_eq!(format!("{:?}", answers), "[Some(192.0.2.49), Some(192.0.2.48), None]");
 /// # Ok::<(), Box<dyn std::error::Error>>(())
 /// ```
+///
+/// # Panics
+///
+/// Unless `answers.len() == ends.len()`.
 #[inline]
 pub fn drive<A: Address>(iter: &mut InetAddressIterator<A>, ends: &[End], answers: &mut [Option<A>])
 where

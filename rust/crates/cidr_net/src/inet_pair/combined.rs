@@ -43,6 +43,10 @@ impl IpInetPair {
     /// assert_eq!(format!("{}", IpInetPair::new(first, second)?), "(10.0.0.1/8, 10.0.0.3/8)");
     /// # Ok::<(), Box<dyn std::error::Error>>(())
     /// ```
+    ///
+    /// # Errors
+    ///
+    /// `InetTupleError`, whose variant says whether the prefix length is above the width or the networks differ.
     pub const fn new(first: IpInet, second: IpInet) -> Result<IpInetPair, InetTupleError> {
         match (&first, &second) {
             (IpInet::V4(first), IpInet::V4(second)) => {
@@ -74,6 +78,10 @@ impl IpInetPair {
     /// assert_eq!(format!("{:?}", IpInetPair::new_from_addresses(first, second, 0)), "Err(addresses not in shared network)");
     /// # Ok::<(), Box<dyn std::error::Error>>(())
     /// ```
+    ///
+    /// # Errors
+    ///
+    /// `InetTupleError`, whose variant says whether the prefix length is above the width or the networks differ.
     pub const fn new_from_addresses(
         first: IpAddr,
         second: IpAddr,

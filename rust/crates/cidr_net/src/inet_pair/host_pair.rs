@@ -39,9 +39,29 @@ pub struct HostPair<A: AddressBits> {
 }
 
 /// Two IPv4 addresses of one network, as (192.0.2.49/28, 192.0.2.51/28).
+///
+/// Its calls stand on the page of [`HostPair`](crate::more::HostPair), of which it is a type.
+///
+/// ```
+/// # use cidr::{errors::*, more::{canon::*, *}, parsers::*, *};
+/// # use std::net::*;
+/// let pair = Ipv4InetPair::new_from_addresses(Ipv4Addr::new(192, 0, 2, 49), Ipv4Addr::new(192, 0, 2, 51), 28)?;
+/// assert_eq!(format!("{:?}", pair.iter().last()), "Some(192.0.2.51/28)");
+/// # Ok::<(), Box<dyn std::error::Error>>(())
+/// ```
 pub type Ipv4InetPair = HostPair<Ipv4Addr>;
 
 /// Two IPv6 addresses of one network, as (2001:db8::1/32, 2001:db8::5/32).
+///
+/// Its calls stand on the page of [`HostPair`](crate::more::HostPair), of which it is a type.
+///
+/// ```
+/// # use cidr::{errors::*, more::{canon::*, *}, parsers::*, *};
+/// # use std::net::*;
+/// let pair = Ipv6InetPair::new_from_addresses("2001:db8::1".parse()?, "2001:db8::5".parse()?, 32)?;
+/// assert_eq!(format!("{:?}", pair.iter().last()), "Some(2001:db8::5/32)");
+/// # Ok::<(), Box<dyn std::error::Error>>(())
+/// ```
 pub type Ipv6InetPair = HostPair<Ipv6Addr>;
 
 impl<A: AddressBits> Clone for HostPair<A> {
@@ -64,6 +84,10 @@ impl HostPair<Ipv4Addr> {
     /// assert_eq!(format!("{}", Ipv4InetPair::new(first, second)?), "(10.0.0.1/8, 10.0.0.3/8)");
     /// # Ok::<(), Box<dyn std::error::Error>>(())
     /// ```
+    ///
+    /// # Errors
+    ///
+    /// `InetTupleError`, whose variant says whether the prefix length is above the width or the networks differ.
     #[inline]
     pub const fn new(first: Host<Ipv4Addr>, second: Host<Ipv4Addr>) -> Result<HostPair<Ipv4Addr>, InetTupleError> {
         if first.network_length() != second.network_length() {
@@ -85,6 +109,10 @@ impl HostPair<Ipv4Addr> {
     /// assert_eq!(format!("{:?}", Ipv4InetPair::new_from_addresses(first, last, 25)), "Err(addresses not in shared network)");
     /// # Ok::<(), Box<dyn std::error::Error>>(())
     /// ```
+    ///
+    /// # Errors
+    ///
+    /// `InetTupleError`, whose variant says whether the prefix length is above the width or the networks differ.
     #[inline]
     pub const fn new_from_addresses(first: Ipv4Addr, second: Ipv4Addr, len: u8) -> Result<HostPair<Ipv4Addr>, InetTupleError> {
         if len > Family::Ipv4.len() {
@@ -214,6 +242,10 @@ impl HostPair<Ipv6Addr> {
     /// assert_eq!(format!("{}", Ipv4InetPair::new(first, second)?), "(10.0.0.1/8, 10.0.0.3/8)");
     /// # Ok::<(), Box<dyn std::error::Error>>(())
     /// ```
+    ///
+    /// # Errors
+    ///
+    /// `InetTupleError`, whose variant says whether the prefix length is above the width or the networks differ.
     #[inline]
     pub const fn new(first: Host<Ipv6Addr>, second: Host<Ipv6Addr>) -> Result<HostPair<Ipv6Addr>, InetTupleError> {
         if first.network_length() != second.network_length() {
@@ -235,6 +267,10 @@ impl HostPair<Ipv6Addr> {
     /// assert_eq!(format!("{:?}", Ipv4InetPair::new_from_addresses(first, last, 25)), "Err(addresses not in shared network)");
     /// # Ok::<(), Box<dyn std::error::Error>>(())
     /// ```
+    ///
+    /// # Errors
+    ///
+    /// `InetTupleError`, whose variant says whether the prefix length is above the width or the networks differ.
     #[inline]
     pub const fn new_from_addresses(first: Ipv6Addr, second: Ipv6Addr, len: u8) -> Result<HostPair<Ipv6Addr>, InetTupleError> {
         if len > Family::Ipv6.len() {

@@ -63,6 +63,10 @@ pub trait AddressBits: Sized + Copy + Ord + Hash {
 /// The strings of such an address.
 pub trait AddressText: Sized + AddressBits + Debug {
     /// The address that a string is parsed as.
+    ///
+    /// # Errors
+    ///
+    /// `AddrParseError` for a string that is no address.
     fn read(text: &str) -> Result<Self, AddrParseError>;
 
     /// Appends the printed string.

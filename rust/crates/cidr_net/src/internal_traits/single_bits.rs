@@ -19,9 +19,6 @@ pub trait SingleBits: Sized + AddressBits {
     /// The address with bit `i` inverted.
     fn with_flipped_bit(self, i: u8) -> Self;
 
-    /// The number that the first 64 bits are; bits that are missing count as unset.
-    fn first_64(self) -> u64;
-
     /// How many bits both begin with.
     fn shared_len(self, other: Self) -> u8;
 }
@@ -40,11 +37,6 @@ impl SingleBits for Ipv4Addr {
     #[inline]
     fn with_flipped_bit(self, i: u8) -> Ipv4Addr {
         Ipv4Addr::from_bits(with_flipped_bit(self.to_bits(), i))
-    }
-
-    #[inline]
-    fn first_64(self) -> u64 {
-        u64::from(self.to_bits()) << 32
     }
 
     #[inline]
@@ -67,11 +59,6 @@ impl SingleBits for Ipv6Addr {
     #[inline]
     fn with_flipped_bit(self, i: u8) -> Ipv6Addr {
         Ipv6Addr::from_halves(self.halves().with_flipped_bit(i))
-    }
-
-    #[inline]
-    fn first_64(self) -> u64 {
-        self.halves().upper()
     }
 
     #[inline]

@@ -22,6 +22,10 @@ use core::str::FromStr;
 /// assert_eq!(format!("{}", network), "10.7.0.0/16");
 /// # Ok::<(), Box<dyn std::error::Error>>(())
 /// ```
+///
+/// # Errors
+///
+/// `NetworkParseError`, whose variant is the first of the errors in the order that the crate's page has.
 #[inline]
 pub fn parse_any_cidr_full<AP, HP>(
     s: &str,
@@ -49,6 +53,10 @@ where
 /// assert_eq!(format!("{}", parse_any_cidr("::1", IpAddr::from_str)?), "::1");
 /// # Ok::<(), Box<dyn std::error::Error>>(())
 /// ```
+///
+/// # Errors
+///
+/// `NetworkParseError`, whose variant is the first of the errors in the order that the crate's page has.
 #[inline]
 pub fn parse_any_cidr<AP>(s: &str, address_parser: AP) -> Result<AnyIpCidr, NetworkParseError>
 where
@@ -72,6 +80,10 @@ where
 /// assert_eq!(format!("{}", network), "10.0.0.0/8");
 /// # Ok::<(), Box<dyn std::error::Error>>(())
 /// ```
+///
+/// # Errors
+///
+/// `NetworkParseError`, whose variant is the first of the errors in the order that the crate's page has.
 #[inline]
 pub fn parse_any_cidr_full_ignore_hostbits<AP, HP>(
     s: &str,
@@ -99,6 +111,10 @@ where
 /// assert_eq!(format!("{}", network), "127.0.0.0/8");
 /// # Ok::<(), Box<dyn std::error::Error>>(())
 /// ```
+///
+/// # Errors
+///
+/// `NetworkParseError`, whose variant is the first of the errors in the order that the crate's page has.
 #[inline]
 pub fn parse_any_cidr_ignore_hostbits<AP>(
     s: &str,

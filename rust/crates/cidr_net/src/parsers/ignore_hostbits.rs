@@ -21,6 +21,10 @@ use crate::traits::{Address, Cidr, Inet};
 /// assert_eq!(format!("{}", network), "10.0.0.0/8");
 /// # Ok::<(), Box<dyn std::error::Error>>(())
 /// ```
+///
+/// # Errors
+///
+/// `NetworkParseError`, whose variant is the first of the errors in the order that the crate's page has.
 #[inline]
 pub fn parse_cidr_full_ignore_hostbits<C, AP, HP>(
     s: &str,
@@ -51,6 +55,10 @@ where
 /// assert_eq!(format!("{}", network), "10.0.0.0/8");
 /// # Ok::<(), Box<dyn std::error::Error>>(())
 /// ```
+///
+/// # Errors
+///
+/// `NetworkParseError`, whose variant is the first of the errors in the order that the crate's page has.
 #[inline]
 pub fn parse_cidr_ignore_hostbits<C, AP>(
     s: &str,

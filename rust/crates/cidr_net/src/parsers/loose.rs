@@ -75,6 +75,10 @@ pub fn inet_addr(s: &str) -> Option<Ipv4Addr> {
 /// assert_eq!(format!("{:?}", parse_loose_ipv4("256.1")), "Err(AddrParseError(Ipv4))");
 /// # Ok::<(), Box<dyn std::error::Error>>(())
 /// ```
+///
+/// # Errors
+///
+/// `AddrParseError` for a string that is no address.
 #[inline]
 pub fn parse_loose_ipv4(s: &str) -> Result<Ipv4Addr, AddrParseError> {
     match crate::addr::v4::read_v4(s) {
@@ -95,6 +99,10 @@ pub fn parse_loose_ipv4(s: &str) -> Result<Ipv4Addr, AddrParseError> {
 /// assert_eq!(format!("{}", parse_loose_ip("::1")?), "::1");
 /// # Ok::<(), Box<dyn std::error::Error>>(())
 /// ```
+///
+/// # Errors
+///
+/// `AddrParseError` for a string that is no address.
 #[inline]
 pub fn parse_loose_ip(s: &str) -> Result<IpAddr, AddrParseError> {
     match crate::addr::ip::read_ip(s) {

@@ -48,6 +48,10 @@ fn read_short(text: &[u8]) -> Option<Ipv4Cidr> {
 /// assert_eq!(format!("{}", parse_short_ipv4_address_as_cidr("192.0.2.1")?), "192.0.2.1");
 /// # Ok::<(), Box<dyn std::error::Error>>(())
 /// ```
+///
+/// # Errors
+///
+/// `NetworkParseError`, whose variant is the first of the errors in the order that the crate's page has.
 #[inline]
 pub fn parse_short_ipv4_address_as_cidr(s: &str) -> Result<Ipv4Cidr, NetworkParseError> {
     match read_short(s.as_bytes()) {
@@ -68,6 +72,10 @@ pub fn parse_short_ipv4_address_as_cidr(s: &str) -> Result<Ipv4Cidr, NetworkPars
 /// assert_eq!(format!("{}", parse_short_ip_address_as_cidr("::1")?), "::1");
 /// # Ok::<(), Box<dyn std::error::Error>>(())
 /// ```
+///
+/// # Errors
+///
+/// `NetworkParseError`, whose variant is the first of the errors in the order that the crate's page has.
 #[inline]
 pub fn parse_short_ip_address_as_cidr(s: &str) -> Result<IpCidr, NetworkParseError> {
     match crate::addr::ip::read_ip(s) {
@@ -89,6 +97,10 @@ pub fn parse_short_ip_address_as_cidr(s: &str) -> Result<IpCidr, NetworkParseErr
 /// assert_eq!(format!("{}", parse_short_ipv4_cidr("10.7")?), "10.7.0.0/16");
 /// # Ok::<(), Box<dyn std::error::Error>>(())
 /// ```
+///
+/// # Errors
+///
+/// `NetworkParseError`, whose variant is the first of the errors in the order that the crate's page has.
 #[inline]
 pub fn parse_short_ipv4_cidr(s: &str) -> Result<Ipv4Cidr, NetworkParseError> {
     parse_cidr_full(s, crate::addr::v4::read_v4, parse_short_ipv4_address_as_cidr)
@@ -102,6 +114,10 @@ pub fn parse_short_ipv4_cidr(s: &str) -> Result<Ipv4Cidr, NetworkParseError> {
 /// assert_eq!(format!("{}", parse_short_ip_cidr("10.7")?), "10.7.0.0/16");
 /// # Ok::<(), Box<dyn std::error::Error>>(())
 /// ```
+///
+/// # Errors
+///
+/// `NetworkParseError`, whose variant is the first of the errors in the order that the crate's page has.
 #[inline]
 pub fn parse_short_ip_cidr(s: &str) -> Result<IpCidr, NetworkParseError> {
     parse_cidr_full(s, crate::addr::ip::read_ip, parse_short_ip_address_as_cidr)
@@ -116,6 +132,10 @@ pub fn parse_short_ip_cidr(s: &str) -> Result<IpCidr, NetworkParseError> {
 /// assert_eq!(format!("{}", parse_short_any_ip_cidr("10.7")?), "10.7.0.0/16");
 /// # Ok::<(), Box<dyn std::error::Error>>(())
 /// ```
+///
+/// # Errors
+///
+/// `NetworkParseError`, whose variant is the first of the errors in the order that the crate's page has.
 #[inline]
 pub fn parse_short_any_ip_cidr(s: &str) -> Result<AnyIpCidr, NetworkParseError> {
     parse_any_cidr_full(s, crate::addr::ip::read_ip, parse_short_ip_address_as_cidr)

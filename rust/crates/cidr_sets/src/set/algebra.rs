@@ -26,6 +26,10 @@ impl<C: NetworkBits + Copy> NetworkSet<C> {
     /// assert_eq!(format!("{:?}", half.union(&other)?.as_slice()), "[10.128.0.0/9, 192.0.2.0/24]");
     /// # Ok::<(), Box<dyn std::error::Error>>(())
     /// ```
+    ///
+    /// # Errors
+    ///
+    /// `AllocError` where memory runs out.
     #[inline]
     pub fn union(&self, other: &NetworkSet<C>) -> Result<NetworkSet<C>, AllocError> {
         let (these, those) = (self.as_slice(), other.as_slice());
@@ -48,6 +52,10 @@ impl<C: NetworkBits + Copy> NetworkSet<C> {
     /// assert_eq!(format!("{:?}", set.intersection(&half)?.as_slice()), "[10.128.0.0/9]");
     /// # Ok::<(), Box<dyn std::error::Error>>(())
     /// ```
+    ///
+    /// # Errors
+    ///
+    /// `AllocError` where memory runs out.
     #[inline]
     pub fn intersection(&self, other: &NetworkSet<C>) -> Result<NetworkSet<C>, AllocError> {
         let (these, those) = (self.as_slice(), other.as_slice());
@@ -71,6 +79,10 @@ impl<C: NetworkBits + Copy> NetworkSet<C> {
     /// assert_eq!(format!("{:?}", set.difference(&half)?.as_slice()), "[10.0.0.0/9]");
     /// # Ok::<(), Box<dyn std::error::Error>>(())
     /// ```
+    ///
+    /// # Errors
+    ///
+    /// `AllocError` where memory runs out.
     #[inline]
     pub fn difference(&self, other: &NetworkSet<C>) -> Result<NetworkSet<C>, AllocError> {
         let mut rest = Vec::new(self.networks.allocator().clone());
@@ -141,6 +153,10 @@ impl<C: NetworkBits + Copy> NetworkSet<C> {
     /// assert_eq!(format!("{:?}", set.symmetric_difference(&half)?.as_slice()), "[10.0.0.0/9]");
     /// # Ok::<(), Box<dyn std::error::Error>>(())
     /// ```
+    ///
+    /// # Errors
+    ///
+    /// `AllocError` where memory runs out.
     #[inline]
     pub fn symmetric_difference(&self, other: &NetworkSet<C>) -> Result<NetworkSet<C>, AllocError> {
         let these = self.difference(other)?;
@@ -162,6 +178,10 @@ impl<C: NetworkBits + Copy> NetworkSet<C> {
     /// assert_eq!(format!("{:?}", half.complement_in(&"10.0.0.0/8".parse()?)?.as_slice()), "[10.0.0.0/9]");
     /// # Ok::<(), Box<dyn std::error::Error>>(())
     /// ```
+    ///
+    /// # Errors
+    ///
+    /// `AllocError` where memory runs out.
     #[inline]
     pub fn complement_in(&self, network: &C) -> Result<NetworkSet<C>, AllocError> {
         known(network);

@@ -1,9 +1,10 @@
 //! How many addresses a set has, and which has which index.
 
 use crate::set::NetworkSet;
-use crate::walk::{AddressSpace, SetAddresses};
+use crate::walk::SetAddresses;
+use cidr::FamilyCidr;
 
-impl<C: AddressSpace + Copy> NetworkSet<C> {
+impl<C: FamilyCidr> NetworkSet<C> {
     /// How many addresses the set has, or `None` for all of IPv6, whose 2^128 are more than a `u128` has room for.
     ///
     /// It looks at each network of the set once: O(n).

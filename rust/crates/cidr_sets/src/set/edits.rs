@@ -27,6 +27,10 @@ impl<C: NetworkBits + Copy> NetworkSet<C> {
     /// assert_eq!(format!("{:?}", pool.as_slice()), "[10.0.0.0/8]");
     /// # Ok::<(), Box<dyn std::error::Error>>(())
     /// ```
+    ///
+    /// # Errors
+    ///
+    /// `AllocError` where memory runs out.
     #[inline]
     pub fn insert(&mut self, network: C) -> Result<(), AllocError> {
         known(&network);
@@ -53,6 +57,10 @@ impl<C: NetworkBits + Copy> NetworkSet<C> {
     /// assert_eq!(format!("{:?}", pool.as_slice()), "[10.0.0.0/10, 10.128.0.0/9]");
     /// # Ok::<(), Box<dyn std::error::Error>>(())
     /// ```
+    ///
+    /// # Errors
+    ///
+    /// `AllocError` where memory runs out.
     #[inline]
     pub fn remove(&mut self, network: &C) -> Result<(), AllocError> {
         known(network);

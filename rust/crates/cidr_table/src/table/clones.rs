@@ -16,6 +16,10 @@ impl<C: NetworkBits + Copy, V: Clone> LpmTable<C, V> {
     /// assert_eq!(format!("{:?}", routes.try_clone()?.get(&"10.0.0.0/8".parse()?)), "Some(1)");
     /// # Ok::<(), Box<dyn std::error::Error>>(())
     /// ```
+    ///
+    /// # Errors
+    ///
+    /// `AllocError` where memory runs out.
     #[inline]
     pub fn try_clone(&self) -> Result<LpmTable<C, V>, AllocError> {
         let rows = clone_rows(self.rows.allocator().clone(), self.ascending())?;

@@ -29,6 +29,10 @@ impl<C: NetworkBits + Copy, V> LpmTable<C, V> {
     /// assert_eq!(format!("{:?}", networks.first()), "Some(10.0.0.0/8)");
     /// # Ok::<(), Box<dyn std::error::Error>>(())
     /// ```
+    ///
+    /// # Panics
+    ///
+    /// Unless `self.len() <= out.len()`.
     #[inline]
     pub fn least_cover(&self, out: &mut [C]) -> usize {
         assert!(self.len() <= out.len());
@@ -51,6 +55,10 @@ impl<C: NetworkBits + Copy, V> LpmTable<C, V> {
 /// assert_eq!(format!("{:?}", networks.first()), "Some(10.0.0.0/8)");
 /// # Ok::<(), Box<dyn std::error::Error>>(())
 /// ```
+///
+/// # Panics
+///
+/// Unless `networks.windows(2).all(|pair| pair[0] < pair[1])`.
 pub fn least_cover_in_place<C: NetworkBits + Copy>(networks: &mut [C]) -> usize {
     assert!(networks.windows(2).all(|pair| pair[0] < pair[1]));
     let mut n = 0;

@@ -48,6 +48,10 @@ impl<C: PrefixBytes + Copy> LpmTable<C, usize> {
     /// assert!(loaded.is_err());
     /// # Ok::<(), Box<dyn std::error::Error>>(())
     /// ```
+    ///
+    /// # Errors
+    ///
+    /// `LoadError`, which tells what is wrong.
     #[inline]
     pub fn load(alloc: Global, bytes: &[u8]) -> Result<Self, LoadError> {
         let rows = read_rows(alloc, bytes)?;

@@ -68,6 +68,10 @@ impl<C: NetworkBits + Copy, V> LpmTable<C, V> {
     /// assert_eq!(format!("{:?}", routes.set("10.1.0.0/16".parse()?, 4)?), "Some(3)");
     /// # Ok::<(), Box<dyn std::error::Error>>(())
     /// ```
+    ///
+    /// # Errors
+    ///
+    /// `AllocError` where memory runs out.
     #[inline]
     pub fn set(&mut self, key: C, value: V) -> Result<Option<V>, AllocError> {
         match self.insert(key, value) {

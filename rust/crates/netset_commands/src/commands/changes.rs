@@ -4,23 +4,23 @@ use crate::errors::CommandError;
 use crate::input::files::Sources;
 use crate::input::several::read_both;
 use crate::output::answers::{Verdict, by_output};
-use cidr::Family;
+use cidr::{Family, FamilyCidr};
 use cidr_io::block::Block;
 use cidr_io::memory::Memory;
 use cidr_io::sink::{OutputFailed, Sink};
 use cidr_io::writing::flush;
 use cidr_lists::changes::{ChangeLayout, Changes, Sign, change_layout, sign_text};
-use cidr_lists::formats::{LineFormat, Written};
+use cidr_lists::formats::{LineFormat, written};
 use cidr_lists::sets::{Sets, Step};
 
 /// Appends a network with its sign to a block, as a line.
-fn push_change<C: Written, S: Sink>(
+fn push_change<C: FamilyCidr, S: Sink>(
     block: &mut Block,
     out: &mut S,
     layout: ChangeLayout<'static>,
     change: (Sign, C),
 ) -> Result<(), OutputFailed> {
-    let text = change.1.written(layout.notation);
+    let text = written(&change.1, layout.notation);
     block.push_line(
         out,
         &[
@@ -36,7 +36,7 @@ fn push_change<C: Written, S: Sink>(
 
 /// Writes the networks of two lists in blocks, each with its sign, one a line.
 #[inline]
-fn write_changes<C: Written, S: Sink>(
+fn write_changes<C: FamilyCidr, S: Sink>(
     out: &mut S,
     layout: ChangeLayout<'static>,
     added: &[C],

@@ -5,9 +5,8 @@ use crate::errors::CommandError;
 use crate::input::files::Sources;
 use crate::input::operands::read_operand;
 use crate::output::answers::{Verdict, by_output};
-use crate::output::families::OneFamily;
 use crate::output::report::write_line;
-use cidr::{IpAddr, IpCidr};
+use cidr::{FamilyCidr, IpAddr, IpCidr};
 use cidr_ext::CidrReverseName;
 use cidr_io::block::Block;
 use cidr_io::decimal::decimal_text;
@@ -58,14 +57,14 @@ fn push_told<S: Sink>(
 
 /// Writes what is told of networks in blocks.
 #[inline]
-fn write_each<C: OneFamily, S: Sink>(
+fn write_each<C: FamilyCidr, S: Sink>(
     out: &mut S,
     what: Description,
     networks: &[C],
 ) -> Result<(), OutputFailed> {
     let mut block = Block::new();
     for network in networks {
-        push_told(&mut block, out, what, &network.to_network())?;
+        push_told(&mut block, out, what, &network.to_ip())?;
     }
     block.write(out)
 }

@@ -6,9 +6,8 @@ use crate::errors::{ArgumentError, CommandError};
 use crate::input::files::Sources;
 use crate::input::operands::read_pool;
 use crate::output::answers::{Verdict, by_output};
-use crate::output::families::OneFamily;
 use crate::output::walks::{push_last, push_next};
-use cidr::{Family, IpCidr, Ipv4Cidr, Ipv6Cidr};
+use cidr::{Family, FamilyCidr, IpCidr, Ipv4Cidr, Ipv6Cidr};
 use cidr_ext::{CidrExt, Subnets};
 use cidr_io::block::Block;
 use cidr_io::memory::Memory;
@@ -110,7 +109,7 @@ fn push_subnets<S: Sink>(
 }
 
 /// The same of those inside each of some networks.
-fn push_inside<C: OneFamily, S: Sink>(
+fn push_inside<C: FamilyCidr, S: Sink>(
     block: &mut Block,
     out: &mut S,
     layout: Layout<'_>,
@@ -121,7 +120,7 @@ fn push_inside<C: OneFamily, S: Sink>(
     let mut left = most;
     let mut last = None;
     for network in networks {
-        let (more, one) = push_subnets(block, out, layout, &network.to_network(), len, left, last)?;
+        let (more, one) = push_subnets(block, out, layout, &network.to_ip(), len, left, last)?;
         left = more;
         last = one;
     }
@@ -131,7 +130,7 @@ fn push_inside<C: OneFamily, S: Sink>(
 /// Appends the networks of a prefix length inside each of some networks to a block as a layout has them, up to a number;
 /// tells how many more may be written.
 #[inline]
-fn push_layout<C: OneFamily, S: Sink>(
+fn push_layout<C: FamilyCidr, S: Sink>(
     block: &mut Block,
     out: &mut S,
     layout: Layout<'_>,

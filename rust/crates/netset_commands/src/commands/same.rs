@@ -5,10 +5,10 @@ use crate::errors::CommandError;
 use crate::input::files::Sources;
 use crate::input::numbers::Numbers;
 use crate::input::table::read_table;
+use crate::input::tables::Table;
 use crate::output::answers::{Verdict, by_output};
-use crate::output::families::OneFamily;
 use cidr_support::arrayvec::ArrayString;
-use cidr::{Ipv4Cidr, Ipv6Cidr};
+use cidr::{FamilyCidr, Ipv4Cidr, Ipv6Cidr};
 use cidr_forwarding::{Answers, differences};
 use cidr_io::block::Block;
 use cidr_io::memory::Memory;
@@ -16,9 +16,7 @@ use cidr_io::sink::{OutputFailed, Sink};
 use cidr_io::writing::flush;
 use cidr_lists::changes::{Sign, sign_text};
 use cidr_lists::forms::RowForm;
-use cidr_lists::printing::Printed;
 use cidr_lists::rows::Span;
-use cidr_lists::table::Table;
 use cidr_table::LpmTable;
 use cidr_support::alloc::{AllocError, Global};
 
@@ -29,17 +27,9 @@ struct Differing<'a> {
     v6: Vec<(Ipv6Cidr, Answers<usize>)>,
 }
 
-/// No network is longer than an address of its family, which a proof gets from the calls.
-#[inline]
-fn know_all<C: OneFamily, V>(rows: &[(C, V)]) {
-    for row in rows {
-        row.0.to_network().network_length();
-    }
-}
-
 /// The networks of one family for which two tables have different numbers.
 #[inline]
-fn listed<C: OneFamily>(
+fn listed<C: FamilyCidr>(
     alloc: Global,
     numbers: &Numbers<'_>,
     old: &LpmTable<C, Span>,
@@ -47,34 +37,19 @@ fn listed<C: OneFamily>(
     new: &LpmTable<C, Span>,
     new_values: &[u8],
 ) -> Result<Vec<(C, Answers<usize>)>, AllocError> {
-    know_all(old.iter().as_slice());
-    know_all(new.iter().as_slice());
     let before = numbers.table(alloc, old, old_values)?;
     let after = numbers.table(alloc, new, new_values)?;
     differences(alloc, &before, &after)
 }
 
 /// The networks of each family for which two tables have different values.
+#[inline]
 fn compare<'a>(alloc: Global, old: &'a Table, new: &'a Table) -> Result<Differing<'a>, AllocError> {
     let numbers = Numbers::of_tables(alloc, old, new)?;
     let old_values = old.values.as_slice();
     let new_values = new.values.as_slice();
-    let v4 = listed(
-        alloc,
-        &numbers,
-        old.v4.table(),
-        old_values,
-        new.v4.table(),
-        new_values,
-    )?;
-    let v6 = listed(
-        alloc,
-        &numbers,
-        old.v6.table(),
-        old_values,
-        new.v6.table(),
-        new_values,
-    )?;
+    let v4 = listed(alloc, &numbers, &old.v4, old_values, &new.v4, new_values)?;
+    let v6 = listed(alloc, &numbers, &old.v6, old_values, &new.v6, new_values)?;
     Ok(Differing { numbers, v4, v6 })
 }
 
@@ -117,20 +92,20 @@ fn push_number<S: Sink>(
 
 /// Appends the lines of the values that two tables have for a network.
 #[inline]
-fn push_row<C: Printed, S: Sink>(
+fn push_row<C: FamilyCidr, S: Sink>(
     block: &mut Block,
     out: &mut S,
     numbers: &Numbers<'_>,
     row: (C, Answers<usize>),
 ) -> Result<(), OutputFailed> {
-    let text = row.0.printed();
+    let text = row.0.to_text();
     push_number(block, out, numbers, Sign::Minus, text, row.1.0)?;
     push_number(block, out, numbers, Sign::Plus, text, row.1.1)
 }
 
 /// Writes the lines of networks of one family in blocks.
 #[inline]
-fn write_rows<C: Printed, S: Sink>(
+fn write_rows<C: FamilyCidr, S: Sink>(
     out: &mut S,
     numbers: &Numbers<'_>,
     rows: &[(C, Answers<usize>)],

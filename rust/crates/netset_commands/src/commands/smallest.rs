@@ -5,59 +5,18 @@ use crate::errors::{CommandError, FileError};
 use crate::input::files::Sources;
 use crate::input::numbers::Numbers;
 use crate::input::table::read_table;
+use crate::input::tables::Table;
 use crate::output::answers::{Verdict, by_output};
 use cidr_support::arrayvec::ArrayString;
-use cidr::{Ipv4Cidr, Ipv6Cidr, NetworkBits};
+use cidr::{FamilyCidr, Ipv4Cidr, Ipv6Cidr, NetworkBits};
 use cidr_forwarding::SmallestTable;
 use cidr_io::block::Block;
 use cidr_io::memory::Memory;
 use cidr_io::sink::{OutputFailed, Sink};
 use cidr_lists::forms::RowForm;
 use cidr_lists::rows::{Span, value_of};
-use cidr_lists::table::Table;
 use cidr_table::LpmTable;
 use cidr_support::alloc::{AllocError, Global};
-
-/// A network of one family.
-trait OfWidth: Sized + NetworkBits + Copy {
-    /// Tells a proof that it has no more.
-    fn know_width(&self);
-
-    /// The string with the prefix length also where that is full, so that a row is not taken for one of a range.
-    fn text_with_length(&self) -> ArrayString<43>;
-}
-
-impl OfWidth for Ipv4Cidr {
-    #[inline]
-    fn know_width(&self) {
-        let _len = self.network_length();
-    }
-
-    #[inline]
-    fn text_with_length(&self) -> ArrayString<43> {
-        self.with_length().to_text()
-    }
-}
-
-impl OfWidth for Ipv6Cidr {
-    #[inline]
-    fn know_width(&self) {
-        let _len = self.network_length();
-    }
-
-    #[inline]
-    fn text_with_length(&self) -> ArrayString<43> {
-        self.with_length().to_text()
-    }
-}
-
-/// Tells a proof that the networks of rows have no more bits than addresses.
-#[inline]
-fn know_widths<C: OfWidth, V>(rows: &[(C, V)]) {
-    for row in rows {
-        row.0.know_width();
-    }
-}
 
 /// The rows of a table.
 #[inline]
@@ -80,11 +39,10 @@ fn no_holes<C: Copy>(
 
 /// The fewest rows that forward as a table does, without holes.
 #[inline]
-fn plain_rows<C: OfWidth>(
+fn plain_rows<C: FamilyCidr>(
     alloc: Global,
     table: &LpmTable<C, usize>,
 ) -> Result<Vec<(C, Option<usize>)>, AllocError> {
-    know_widths(rows_of(table));
     let smallest = table.smallest(alloc)?;
     let made = no_holes(alloc, rows_of(&smallest))?;
     Ok(made)
@@ -92,11 +50,10 @@ fn plain_rows<C: OfWidth>(
 
 /// The same with holes.
 #[inline]
-fn holed_rows<C: OfWidth>(
+fn holed_rows<C: FamilyCidr>(
     alloc: Global,
     table: &LpmTable<C, usize>,
 ) -> Result<Vec<(C, Option<usize>)>, AllocError> {
-    know_widths(rows_of(table));
     let smallest = table.smallest_with_holes(alloc)?;
     let mut made = Vec::new(alloc);
     made.extend_from_slice(rows_of(&smallest))?;
@@ -105,7 +62,7 @@ fn holed_rows<C: OfWidth>(
 
 /// One or the other.
 #[inline]
-fn fewest_rows<C: OfWidth>(
+fn fewest_rows<C: FamilyCidr>(
     alloc: Global,
     table: &LpmTable<C, usize>,
     holes: bool,
@@ -129,9 +86,9 @@ struct Fewest<'a> {
 fn fewest_of<'a>(alloc: Global, table: &'a Table, holes: bool) -> Result<Fewest<'a>, AllocError> {
     let numbers = Numbers::of_table(alloc, table)?;
     let all = table.values.as_slice();
-    let ipv4 = numbers.table(alloc, table.v4.table(), all)?;
+    let ipv4 = numbers.table(alloc, &table.v4, all)?;
     let v4 = fewest_rows(alloc, &ipv4, holes)?;
-    let ipv6 = numbers.table(alloc, table.v6.table(), all)?;
+    let ipv6 = numbers.table(alloc, &table.v6, all)?;
     let v6 = fewest_rows(alloc, &ipv6, holes)?;
     Ok(Fewest { numbers, v4, v6 })
 }
@@ -161,7 +118,7 @@ fn push_row<S: Sink>(
 }
 
 /// Appends the lines of the rows of one family to a block.
-fn push_rows<C: OfWidth, S: Sink>(
+fn push_rows<C: FamilyCidr, S: Sink>(
     block: &mut Block,
     out: &mut S,
     numbers: &Numbers<'_>,
@@ -171,7 +128,7 @@ fn push_rows<C: OfWidth, S: Sink>(
         push_row(
             block,
             out,
-            row.0.text_with_length(),
+            row.0.to_text_with_length(),
             told_value(numbers, row.1),
         )?;
     }
@@ -215,10 +172,10 @@ fn has_value<C>(rows: &[(C, Span)], all: &[u8], value: &[u8]) -> bool {
 #[inline]
 fn has_hole(table: &Table) -> bool {
     let all = table.values.as_slice();
-    if has_value(rows_of(table.v4.table()), all, b"-") {
+    if has_value(rows_of(&table.v4), all, b"-") {
         return true;
     }
-    has_value(rows_of(table.v6.table()), all, b"-")
+    has_value(rows_of(&table.v6), all, b"-")
 }
 
 /// Whether there may be holes, and the table has that value.

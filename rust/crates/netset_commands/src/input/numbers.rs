@@ -2,9 +2,9 @@
 //! numbers: equal bytes have the same number here, and others another one.
 
 use cidr_support::vec::Vec;
-use cidr::NetworkBits;
+use crate::input::tables::Table;
+use cidr::FamilyCidr;
 use cidr_lists::rows::{Span, value_of};
-use cidr_lists::table::Table;
 use cidr_table::LpmTable;
 use cidr_support::alloc::{AllocError, Global};
 
@@ -36,8 +36,8 @@ fn push_values<'a, C>(
 #[inline]
 fn push_table<'a>(values: &mut Vec<&'a [u8]>, table: &'a Table) -> Result<(), AllocError> {
     let all = table.values.as_slice();
-    push_values(values, table.v4.table().iter().as_slice(), all)?;
-    push_values(values, table.v6.table().iter().as_slice(), all)
+    push_values(values, table.v4.iter().as_slice(), all)?;
+    push_values(values, table.v6.iter().as_slice(), all)
 }
 
 impl<'a> Numbers<'a> {
@@ -88,8 +88,7 @@ impl<'a> Numbers<'a> {
     }
 
     /// The table of the same networks, each with the number of its value, which stands among the bytes of all.
-    #[inline]
-    pub fn table<C: NetworkBits + Copy>(
+    pub fn table<C: FamilyCidr>(
         &self,
         alloc: Global,
         table: &LpmTable<C, Span>,
@@ -97,6 +96,8 @@ impl<'a> Numbers<'a> {
     ) -> Result<LpmTable<C, usize>, AllocError> {
         let mut rows = Vec::with_capacity(alloc, table.len())?;
         for row in table.iter().as_slice() {
+            // the call tells the proof that the prefix length fits
+            row.0.network_length();
             let number = self.number(value_of(all, row.1));
             rows.push((row.0, number))?;
         }

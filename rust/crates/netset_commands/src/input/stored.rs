@@ -3,8 +3,7 @@
 use cidr_support::vec::Vec;
 use crate::errors::{CommandError, FileError};
 use crate::input::table::{Answer, LookUps, Networks, push_match, push_none};
-use cidr::{BitString, IpAddr, Ipv4Addr, Ipv4Cidr, Ipv6Addr, Ipv6Cidr};
-use cidr_arrays::Word;
+use cidr::{BitString, FamilyCidr, IpAddr, Ipv4Cidr, Ipv6Cidr};
 use cidr_files::{Family, Fault, Ipv4Bytes, Ipv6Bytes, Part, Table, TableFault, checked, lookup};
 use cidr_io::block::Block;
 use cidr_io::memory::Memory;
@@ -13,8 +12,9 @@ use cidr_lists::errors::LineError;
 use cidr_lists::formats::LineFormat;
 use cidr_lists::forms::check_value;
 use cidr_lists::lists::Lists;
+use cidr_lists::printing::block_text;
 use cidr_lists::sets::Sets;
-use cidr_lookup::TableError;
+use cidr_lookup::{Address, TableError};
 use cidr_support::alloc::{AllocError, Global};
 
 /// The tables of a file of look-ups, which were checked.
@@ -75,6 +75,20 @@ impl<'a> Stored<'a> {
         push_networks::<Ipv6Bytes, Ipv6Cidr>(&self.tables.ipv6, &mut lists.v6)?;
         Ok(Sets::of_lists(lists))
     }
+
+    /// The length of the longest network that an address is in, and its value.
+    fn row_of(&self, address: &IpAddr) -> Option<(u8, &'a [u8])> {
+        match address {
+            IpAddr::V4(address) => {
+                let bytes = Ipv4Bytes::of(u128::from(address.to_bits()));
+                found_in(&self.tables.ipv4, bytes)
+            }
+            IpAddr::V6(address) => {
+                let bytes = Ipv6Bytes::of(address.to_bits());
+                found_in(&self.tables.ipv6, bytes)
+            }
+        }
+    }
 }
 
 /// The value of a row; no bytes where the offsets are wrong.
@@ -106,13 +120,13 @@ fn check_part<W: Family>(format: LineFormat, part: &Part<'_>) -> Result<(), (u64
 
 /// Adds the networks of the rows of a table to others of their family.
 #[inline]
-fn push_networks<W: Family, C: OfFile<W>>(
+fn push_networks<W: Family, C: FamilyCidr>(
     part: &Part<'_>,
     networks: &mut Vec<C>,
 ) -> Result<(), AllocError> {
     let addresses = W::addresses(part.addresses);
     for row in 0..addresses.len().min(part.lengths.len()) {
-        let mut network = C::host(addresses[row]);
+        let mut network = C::new_host(C::from_number(addresses[row].number()));
         network.clip(usize::from(part.lengths[row]));
         networks.push(network)?;
     }
@@ -163,33 +177,11 @@ fn file_error_of(fault: &Fault) -> Option<FileError> {
     }
 }
 
-/// Networks of a family, of whose addresses a file has the bytes.
-trait OfFile<W: Family>: Sized + BitString + Copy {
-    /// The network of one address.
-    fn host(address: W) -> Self;
-}
-
-impl OfFile<Ipv4Bytes> for Ipv4Cidr {
-    #[inline]
-    fn host(address: Ipv4Bytes) -> Ipv4Cidr {
-        Ipv4Cidr::new_host(Ipv4Addr::from_bits(address.number() as u32))
-    }
-}
-
-impl OfFile<Ipv6Bytes> for Ipv6Cidr {
-    #[inline]
-    fn host(address: Ipv6Bytes) -> Ipv6Cidr {
-        Ipv6Cidr::new_host(Ipv6Addr::from_bits(address.number()))
-    }
-}
-
-/// The longest network of a table that an address is in, and its value.
+/// The length of the longest network of a table that an address is in, and its value.
 #[inline]
-fn found_in<'a, W: Family, C: OfFile<W>>(part: &Part<'a>, address: W) -> Option<(C, &'a [u8])> {
+fn found_in<'a, W: Family>(part: &Part<'a>, address: W) -> Option<(u8, &'a [u8])> {
     let (row, value) = lookup(part, address)?;
-    let mut network = C::host(address);
-    network.clip(usize::from(part.lengths[row]));
-    Some((network, value))
+    Some((part.lengths[row], value))
 }
 
 impl LookUps for Stored<'_> {
@@ -198,6 +190,7 @@ impl LookUps for Stored<'_> {
         None
     }
 
+    #[inline]
     fn push<S: Sink>(
         &self,
         address: &IpAddr,
@@ -206,42 +199,16 @@ impl LookUps for Stored<'_> {
         out: &mut S,
     ) -> Result<bool, OutputFailed> {
         let text = address.to_text();
-        match address {
-            IpAddr::V4(address) => {
-                let bytes = Ipv4Bytes::of(u128::from(address.to_bits()));
-                match found_in::<Ipv4Bytes, Ipv4Cidr>(&self.tables.ipv4, bytes) {
-                    Some(found) => push_match(block, out, text, found.0.to_text(), found.1),
-                    None => push_none(block, out, text),
-                }
-            }
-            IpAddr::V6(address) => {
-                let bytes = Ipv6Bytes::of(address.to_bits());
-                match found_in::<Ipv6Bytes, Ipv6Cidr>(&self.tables.ipv6, bytes) {
-                    Some(found) => push_match(block, out, text, found.0.to_text(), found.1),
-                    None => push_none(block, out, text),
-                }
-            }
+        match self.row_of(address) {
+            Some((len, value)) => push_match(block, out, text, block_text(address, len), value),
+            None => push_none(block, out, text),
         }
     }
 }
 
 impl Networks for Stored<'_> {
+    #[inline]
     fn row(&self, address: &IpAddr) -> Option<(u8, &[u8])> {
-        match address {
-            IpAddr::V4(address) => {
-                let bytes = Ipv4Bytes::of(u128::from(address.to_bits()));
-                match found_in::<Ipv4Bytes, Ipv4Cidr>(&self.tables.ipv4, bytes) {
-                    Some(found) => Some((found.0.len() as u8, found.1)),
-                    None => None,
-                }
-            }
-            IpAddr::V6(address) => {
-                let bytes = Ipv6Bytes::of(address.to_bits());
-                match found_in::<Ipv6Bytes, Ipv6Cidr>(&self.tables.ipv6, bytes) {
-                    Some(found) => Some((found.0.len() as u8, found.1)),
-                    None => None,
-                }
-            }
-        }
+        self.row_of(address)
     }
 }

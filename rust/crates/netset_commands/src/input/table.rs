@@ -5,6 +5,7 @@ use crate::input::begun::{Given, begin_file, read_whole};
 use crate::input::files::Sources;
 use crate::input::keeping::Said;
 use crate::input::rows::read_rows;
+use crate::input::tables::{SearchedTable, Table};
 use cidr_support::arrayvec::ArrayString;
 use cidr::{BitString, Family, IpAddr, Ipv4Cidr, Ipv6Cidr};
 use cidr_io::block::Block;
@@ -15,7 +16,6 @@ use cidr_lists::formats::LineFormat;
 use cidr_lists::forms::{RowColumns, RowForm, RowLayout};
 use cidr_lists::printing::block_text;
 use cidr_lists::rows::{Rows, Span, value_of};
-use cidr_lists::table::Table;
 
 /// The longest network of a table that an address is in, by its length, and where its value stands.
 #[derive(Clone, Copy)]
@@ -57,7 +57,7 @@ fn answer_of<C: BitString>(found: Option<&(C, Span)>) -> Option<Answer> {
     })
 }
 
-impl LookUps for Table {
+impl LookUps for SearchedTable {
     #[inline]
     fn find(&self, address: &IpAddr) -> Option<Answer> {
         match address {
@@ -89,7 +89,7 @@ impl LookUps for Table {
     }
 }
 
-impl Networks for Table {
+impl Networks for SearchedTable {
     #[inline]
     fn row(&self, address: &IpAddr) -> Option<(u8, &[u8])> {
         match self.find(address) {
@@ -254,10 +254,10 @@ pub fn give_table<'a, M: Memory, F: Sources>(
     sources: &F,
     form: RowForm,
     file: &'a str,
-) -> Result<Given<Table>, CommandError<'a>> {
+) -> Result<Given<SearchedTable>, CommandError<'a>> {
     match give_rows(memory, sources, form, file)? {
         Given::Lines(rows) => {
-            let table = Table::of_rows(memory.alloc(), rows);
+            let table = SearchedTable::of_rows(memory.alloc(), rows);
             let table = memory.watch(table)?;
             Ok(Given::Lines(table))
         }
@@ -291,7 +291,5 @@ pub fn read_table<'a, M: Memory, F: Sources>(
     file: &'a str,
 ) -> Result<Table, CommandError<'a>> {
     let rows = rows_of(memory, sources, form, file)?;
-    let table = Table::of_rows(memory.alloc(), rows);
-    let table = memory.watch(table)?;
-    Ok(table)
+    Ok(Table::of_rows(rows))
 }

@@ -1,10 +1,10 @@
 //! Writing networks, one a line, in blocks.
 
+use cidr::FamilyCidr;
 use cidr_io::block::Block;
 use cidr_io::lines::LineReader;
 use cidr_io::sink::{OutputFailed, Sink};
 use cidr_io::source::Source;
-use cidr_lists::printing::Printed;
 
 /// Writes the lines of a block before more is read, so that they don't wait for it.
 #[inline]
@@ -21,10 +21,13 @@ pub fn catch_up<R: Source, S: Sink>(
 
 /// Writes networks in blocks, one a line.
 #[inline]
-pub fn write_networks<C: Printed, S: Sink>(out: &mut S, networks: &[C]) -> Result<(), OutputFailed> {
+pub fn write_networks<C: FamilyCidr, S: Sink>(
+    out: &mut S,
+    networks: &[C],
+) -> Result<(), OutputFailed> {
     let mut block = Block::new();
     for network in networks {
-        let text = network.printed();
+        let text = network.to_text();
         block.push_line(out, &[text.as_str().as_bytes(), b"\n"])?;
     }
     block.write(out)

@@ -1,23 +1,23 @@
 //! Writing sets as ranges of addresses.
 
+use cidr::FamilyCidr;
 use cidr_io::block::Block;
 use cidr_io::sink::{OutputFailed, Sink};
 use cidr_io::writing::flush;
-use cidr_lists::printing::PrintedAddress;
 use cidr_lists::sets::Sets;
-use cidr_sets::{AddressRange, Ranges};
+use cidr_sets::{AddressRange, Addressed, Ranges};
 
 /// Appends a range to a block, as a line.
-fn push_range<C: PrintedAddress, S: Sink>(
+fn push_range<C: FamilyCidr, S: Sink>(
     block: &mut Block,
     out: &mut S,
     range: AddressRange<C::Address>,
 ) -> Result<(), OutputFailed> {
-    let first = C::shown(&range.first);
-    if C::are_same(&range.first, &range.last) {
+    let first = C::address_text(&range.first);
+    if C::to_number(range.first) == C::to_number(range.last) {
         return block.push_line(out, &[first.as_str().as_bytes(), b"\n"]);
     }
-    let last = C::shown(&range.last);
+    let last = C::address_text(&range.last);
     block.push_line(
         out,
         &[
@@ -31,7 +31,7 @@ fn push_range<C: PrintedAddress, S: Sink>(
 
 /// Writes ranges in blocks, one a line.
 #[inline]
-fn write_each<C: PrintedAddress, S: Sink>(
+fn write_each<C: FamilyCidr + Addressed<Address = <C as FamilyCidr>::Address>, S: Sink>(
     out: &mut S,
     mut ranges: Ranges<'_, C>,
 ) -> Result<(), OutputFailed> {

@@ -112,7 +112,7 @@ fn file_message(error: FileError) -> &'static str {
         FileError::Hole => ": a value is -, which with --holes stands for none\n",
         FileError::Unlike => ": no lines, and no file of look-ups\n",
         FileError::Old => {
-            ": a file of look-ups of version 1, which an older netset made: compile the table anew\n"
+            ": a file of look-ups of an older version, which an older netset made: compile the table anew\n"
         }
         FileError::Version => ": a file of look-ups of another version\n",
         FileError::Short => ": a file of look-ups that is cut short\n",

@@ -6,7 +6,7 @@ use Rattle.cidr_lookup.proofs.ready.ReadyTable.new.Goals as goal
 pub invariant_of-result : goal.invariant_of-result
 invariant_of-result g c =
     subst (λ (xs : List (g.row.C.Denot × g.row.V.Denot)).
-    IsLookupTable g.C.Number.Word.width g.C.Number.Address.padding c.in-Ok.words.steps (numbered_rows g.C.BitString.bits g.C.Number.Word.width xs)
+    IsLookupTable g.C.Number.Address.width g.C.Number.Address.padding c.in-Ok.words.steps (numbered_rows g.C.BitString.bits g.C.Number.Address.width xs)
     c.in-Ok.words.first.items c.in-Ok.words.words.items) c.rows_of.ensures.rows c.in-Ok.ensures.table
 
 pub returns-in-Err-clause-refused : goal.returns-in-Err-clause-refused

@@ -5,4 +5,4 @@ use Rattle.cidr_sets.proofs.set.NetworkSet.address_count.Given as goal
 
 -- the networks so far have as many addresses
 abbrev pub invariant-loop-network : goal.invariant-loop-network
-invariant-loop-network g l = IsPassed (width_of g.C.AddressSpace.family) (map g.C.BitString.bits l.network-items) l.network-index l.count
+invariant-loop-network g l = IsPassed (width_of g.C.FamilyCidr.FAMILY) (map g.C.BitString.bits l.network-items) l.network-index l.count

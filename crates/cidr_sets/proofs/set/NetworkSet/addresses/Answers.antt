@@ -8,7 +8,7 @@ use Rattle.cidr_sets.proofs.set.NetworkSet.addresses.Goals as goal
 
 pub returns : goal.returns
 returns g c =
-    let w = width_of g.C.AddressSpace.family in
+    let w = width_of g.C.FamilyCidr.FAMILY in
     let f = g.C.BitString.bits in
     let ps = map f c.args.self.now in
     let same = c.as_slice.ensures.networks in

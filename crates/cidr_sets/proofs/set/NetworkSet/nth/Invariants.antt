@@ -6,4 +6,4 @@ use Rattle.cidr_sets.proofs.set.NetworkSet.nth.Given as goal
 -- the networks so far have as many addresses as there are no more left of the index
 abbrev pub invariant-loop-network : goal.invariant-loop-network
 invariant-loop-network g l =
-    (l.left ≤ l.index) × IsPassed (width_of g.C.AddressSpace.family) (map g.C.BitString.bits l.network-items) l.network-index (l.index - l.left)
+    (l.left ≤ l.index) × IsPassed (width_of g.C.FamilyCidr.FAMILY) (map g.C.BitString.bits l.network-items) l.network-index (l.index - l.left)

@@ -8,9 +8,9 @@ use Rattle.cidr_sets.proofs.walk.SetAddressesIterator.next.Goals.{in-Some, in-No
 use Rattle.cidr_sets.proofs.walk.SetAddressesIterator.next.Goals.{then-first-last, else-first-last}
 
 -- the network at the front end is opened
-opened : (g : given.Over) (c : goal.After-self-1 g) → IsOpenedFront (width_of g.C.AddressSpace.family) g.C.BitString.bits c.args.self.now c.match-self.first c.match-self.self-inside.networks.now c.match-self.self-inside.back
+opened : (g : given.Over) (c : goal.After-self-1 g) → IsOpenedFront (width_of g.C.FamilyCidr.FAMILY) g.C.BitString.bits c.args.self.now c.match-self.first c.match-self.self-inside.networks.now c.match-self.self-inside.back
 opened g c =
-    let w = width_of g.C.AddressSpace.family in
+    let w = width_of g.C.FamilyCidr.FAMILY in
     let f = g.C.BitString.bits in
     let s = c.self.inside in
     elim c.match-self.branch [
@@ -24,7 +24,7 @@ opened g c =
 
 pub from_number-requires : goal.from_number-requires
 from_number-requires g c =
-    let o : IsOpenedFront (width_of g.C.AddressSpace.family) g.C.BitString.bits c.args.self.now c.match-self.first c.match-self.self-inside.networks.now c.match-self.self-inside.back = opened g c in
+    let o : IsOpenedFront (width_of g.C.FamilyCidr.FAMILY) g.C.BitString.bits c.args.self.now c.match-self.first c.match-self.self-inside.networks.now c.match-self.self-inside.back = opened g c in
     omega (arith, o.are.0, o.are.1)
 
 -- whether it has more addresses
@@ -32,9 +32,9 @@ ways : (g : given.Over) (c : goal.After-from_number g) → ((c.match-self.first.
     ⊎ ((c.match-self.first.1 ≤ c.match-self.first.0) × (c.if-first-last.self ≡ None))
 ways g c = elim c.if-first-last.branch [ then-first-last v ↦ inl (v.if-first-last.true, v.self-is) | else-first-last v ↦ inr (v.if-first-last.false, v.self-is) ]
 
-opened_2 : (g : given.Over) (c : goal.After-from_number g) → IsOpenedFront (width_of g.C.AddressSpace.family) g.C.BitString.bits c.args.self.now c.match-self.first c.match-self.self-inside.networks.now c.match-self.self-inside.back
+opened_2 : (g : given.Over) (c : goal.After-from_number g) → IsOpenedFront (width_of g.C.FamilyCidr.FAMILY) g.C.BitString.bits c.args.self.now c.match-self.first c.match-self.self-inside.networks.now c.match-self.self-inside.back
 opened_2 g c =
-    let w = width_of g.C.AddressSpace.family in
+    let w = width_of g.C.FamilyCidr.FAMILY in
     let f = g.C.BitString.bits in
     let s = c.self.inside in
     elim c.match-self.branch [
@@ -48,22 +48,22 @@ opened_2 g c =
 
 pub invariant_of-self-2 : goal.invariant_of-self-2
 invariant_of-self-2 g c =
-    let w = width_of g.C.AddressSpace.family in
+    let w = width_of g.C.FamilyCidr.FAMILY in
     let s = c.match-self.self-inside in
     let o = opened_2 g c in
-    let e = ends_front w c.args.self.now c.match-self.first.0 c.match-self.first.1 (map g.C.BitString.bits s.networks.now) c.if-first-last.self (g.C.AddressSpace.address_bits c.from_number.result) o.are (ways g c) in
+    let e = ends_front w c.args.self.now c.match-self.first.0 c.match-self.first.1 (map g.C.BitString.bits s.networks.now) c.if-first-last.self (g.C.Address.PrivUnspecAddress.bits c.from_number.result) o.are (ways g c) in
     (e, o.other)
 
 pub returns-clause-steps : goal.returns-clause-steps
 returns-clause-steps g c =
-    let w = width_of g.C.AddressSpace.family in
+    let w = width_of g.C.FamilyCidr.FAMILY in
     let f = g.C.BitString.bits in
     let s = c.match-self.self-inside in
     let o = opened_2 g c in
-    stepped_front w c.args.self.now c.match-self.first.0 c.match-self.first.1 (map f s.networks.now) c.if-first-last.self (g.C.AddressSpace.address_bits c.from_number.result) o.are s.back o.whole c.from_number.ensures (ways g c)
+    stepped_front w c.args.self.now c.match-self.first.0 c.match-self.first.1 (map f s.networks.now) c.if-first-last.self (g.C.Address.PrivUnspecAddress.bits c.from_number.result) o.are s.back o.whole c.from_number.ensures (ways g c)
 
 pub returns-clause-goes : goal.returns-clause-goes
 returns-clause-goes g c =
     let s = c.match-self.self-inside in
-    progress_front g.C.AddressSpace.address_bits (λ s. tt) c.args.self.now
-    (left_of (width_of g.C.AddressSpace.family) c.if-first-last.self (map g.C.BitString.bits s.networks.now) s.back) c.from_number.result (returns-clause-steps g c)
+    progress_front g.C.Address.PrivUnspecAddress.bits (λ s. tt) c.args.self.now
+    (left_of (width_of g.C.FamilyCidr.FAMILY) c.if-first-last.self (map g.C.BitString.bits s.networks.now) s.back) c.from_number.result (returns-clause-steps g c)

@@ -2,7 +2,7 @@ use Rattle.std.proofs.Common.{◌≡◌, ◌-◌, sym, ◌∙◌, ap, arith, len
 use Rattle.std.proofs.lemmas.Bool.{true≢false}
 use Rattle.std.specs.Map.{keys_of}
 use Rattle.cidr_table.proofs.Insides.{key_at}
-use Rattle.cidr_table.proofs.Links.{reached_shorter, longest_row, no_row}
+use Rattle.cidr_table.proofs.Reached.{reached_shorter, longest_row, no_row}
 use Rattle.cidr_table.proofs.table.lookups.longest.Goals as goal
 
 pub offset_bounds-rows-end : goal.offset_bounds-rows-end

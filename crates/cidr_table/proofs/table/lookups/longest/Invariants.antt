@@ -1,6 +1,6 @@
 use Rattle.std.proofs.Common.{length}
 use Rattle.std.specs.Map.{keys_of}
-use Rattle.cidr_table.specs.internal.Above.{IsReached}
+use Rattle.cidr_table.specs.internal.Reached.{IsReached}
 use Rattle.cidr_table.proofs.table.lookups.longest.Given as goal
 
 abbrev pub invariant-loop-end : goal.invariant-loop-end

@@ -1,7 +1,7 @@
 use Rattle.std.proofs.Common.{◌≡◌, arith, length}
 use Rattle.std.proofs.lemmas.List.{length-map}
 use Rattle.std.specs.Map.{keys_of}
-use Rattle.cidr_table.proofs.Links.{reached_at, reached_gap}
+use Rattle.cidr_table.proofs.Reached.{reached_at, reached_gap}
 use Rattle.cidr_table.proofs.table.lookups.upto_back.Goals as goal
 
 pub returns-in-Ok-clause-reached : goal.returns-in-Ok-clause-reached

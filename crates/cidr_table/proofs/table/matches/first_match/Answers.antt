@@ -5,7 +5,7 @@ use Rattle.std.specs.List.Sorted.{IsStrictlySortedBy}
 use Rattle.std.specs.Map.{keys_of}
 use Rattle.cidr_table.specs.internal.Places.{matching}
 use Rattle.cidr_table.proofs.Insides.{sorted_drop}
-use Rattle.cidr_table.proofs.Links.{is_above}
+use Rattle.cidr_table.proofs.Reached.{is_above}
 use Rattle.cidr_table.proofs.Matching.{matching_first, matching_other, sorted_behind, none_from, passed_over}
 use Rattle.cidr_table.proofs.table.matches.first_match.Goals as goal
 

@@ -1,6 +1,6 @@
 use Rattle.std.proofs.Common.{inl, inr, refl, sym}
 use Rattle.std.proofs.lemmas.Result.{err_from_is_err_and}
-use Rattle.cidr_lists.specs.Tables.{kept}
+use Rattle.netset_commands.specs.Rows.{kept}
 use Rattle.netset_commands.specs.Causes.{FileFails}
 use Rattle.netset_commands.proofs.Causes.{same_cause, uncompiled}
 use Rattle.netset_commands.proofs.commands.compile.compile.Goals as goal

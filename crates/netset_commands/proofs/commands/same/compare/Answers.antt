@@ -1,17 +1,14 @@
-use Rattle.std.proofs.Common.{lit≤}
 use Rattle.cidr.specs.declared.family.Family.TheVariants.{Ipv4, Ipv6}
-use Rattle.cidr_lists.specs.Tables.{kept}
+use Rattle.netset_commands.specs.Rows.{kept}
 use Rattle.netset_commands.proofs.Compared.{family_differences}
 use Rattle.netset_commands.proofs.commands.same.compare.Goals as goal
 
 pub returns : goal.returns
 returns c Ipv4 =
     let made = c.in_ok-numbers.ensures in
-    let of = rw (c.table.ensures, c.table-2.ensures, c.as_slice-old_values.ensures.value, c.as_slice-new_values.ensures.value) at c.in_ok-v4.ensures in
-    family_differences c.in_ok-numbers.numbers made.ascending (kept c.args.old.now Ipv4) (kept c.args.new.now Ipv4) c.in_ok-v4.v4.items (made.values Ipv4) (made.others Ipv4)
-    of.2 32 (lit≤ tt) of.0 of.1
+    family_differences c.in_ok-numbers.numbers made.ascending (kept c.args.old.now Ipv4) (kept c.args.new.now Ipv4) c.in_ok-v4.v4.items (made.values Ipv4) (made.others Ipv4) 32
+    (rw (c.as_slice-old_values.ensures.value, c.as_slice-new_values.ensures.value) at c.in_ok-v4.ensures)
 returns c Ipv6 =
     let made = c.in_ok-numbers.ensures in
-    let of = rw (c.table-3.ensures, c.table-4.ensures, c.as_slice-old_values.ensures.value, c.as_slice-new_values.ensures.value) at c.in_ok-v6.ensures in
-    family_differences c.in_ok-numbers.numbers made.ascending (kept c.args.old.now Ipv6) (kept c.args.new.now Ipv6) c.in_ok-v6.v6.items (made.values Ipv6) (made.others Ipv6)
-    of.2 128 (lit≤ tt) of.0 of.1
+    family_differences c.in_ok-numbers.numbers made.ascending (kept c.args.old.now Ipv6) (kept c.args.new.now Ipv6) c.in_ok-v6.v6.items (made.values Ipv6) (made.others Ipv6) 128
+    (rw (c.as_slice-old_values.ensures.value, c.as_slice-new_values.ensures.value) at c.in_ok-v6.ensures)

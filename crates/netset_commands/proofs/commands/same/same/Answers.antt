@@ -1,6 +1,6 @@
 use Rattle.std.proofs.Common.{inl, inr, refl, sym}
 use Rattle.std.proofs.lemmas.Result.{err_from_is_err_and}
-use Rattle.cidr_lists.specs.Tables.{kept}
+use Rattle.netset_commands.specs.Rows.{kept}
 use Rattle.netset_commands.specs.Causes.{FileFails}
 use Rattle.netset_commands.proofs.Causes.{output_cause}
 use Rattle.netset_commands.proofs.Differing.{same_written}

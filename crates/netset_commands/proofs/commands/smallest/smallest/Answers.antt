@@ -1,6 +1,6 @@
 use Rattle.std.proofs.Common.{codes, inl, refl}
 use Rattle.std.proofs.lemmas.Result.{err_from_is_err_and}
-use Rattle.cidr_lists.specs.Tables.{kept}
+use Rattle.netset_commands.specs.Rows.{kept}
 use Rattle.netset_commands.specs.Causes.{FileFails}
 use Rattle.netset_commands.proofs.FewestTold.{fewest_answered, fewest_cause, hole_refused, not_refused}
 use Rattle.netset_commands.proofs.commands.smallest.smallest.Goals as goal

@@ -1,4 +1,4 @@
-use Rattle.std.proofs.Common.{◌∙◌, ap, arith, take}
+use Rattle.std.proofs.Common.{refl, arith}
 use Rattle.std.proofs.lemmas.Slice.Zip.{length-zip}
 use Rattle.cidr.specs.model.Bits.{bits}
 use Rattle.cidr_files.specs.Tables.{parts_in, stored_networks, value_in}
@@ -8,7 +8,7 @@ use Rattle.netset_commands.proofs.input.stored.found_in.Goals as goal
 pub returns-in_err-row : goal.returns-in_err-row
 returns-in_err-row g c =
     let parts = parts_in c.args.part.now in
-    rw c.from_residual.ensures (no_row g.W.Word.width (value_in parts) (bits g.W.Word.width (g.W.Word.value c.args.address))
+    rw c.from_residual.ensures (no_row g.W.Address.width (value_in parts) (bits g.W.Address.width (g.W.Address.value c.args.address))
     (stored_networks g.W.Family.numbers parts) (c.lookup.ensures.none c.in_err-row.was c.requires.look_ups))
 
 pub bounds-part-row : goal.bounds-part-row
@@ -17,7 +17,6 @@ bounds-part-row g c =
 
 pub returns : goal.returns
 returns g c =
-    let asked = bits g.W.Word.width (g.W.Word.value c.args.address) in
-    found_clipped g.W.Word.width g.W.Address.padding g.W.Family.numbers (parts_in c.args.part.now) c.args.part.now.steps asked c.in_ok-row.row c.from.result
-    (g.C.BitString.bits c.clip.new.self) c.in_ok-row.value.now c.requires (c.in_ok-row.ensures.longest c.requires.look_ups) c.from.ensures
-    (c.clip.ensures.bits ∙ ap (take c.from.result) c.host-network.ensures) (c.in_ok-row.ensures.value c.requires.offsets)
+    let asked = bits g.W.Address.width (g.W.Address.value c.args.address) in
+    found_clipped g.W.Address.width g.W.Address.padding g.W.Family.numbers (parts_in c.args.part.now) c.args.part.now.steps asked c.in_ok-row.row _
+    c.in_ok-row.value.now c.requires (c.in_ok-row.ensures.longest c.requires.look_ups) refl (c.in_ok-row.ensures.value c.requires.offsets)

@@ -1,29 +1,30 @@
 use Rattle.std.proofs.lemmas.Result.{err_from_is_err_and}
+use Rattle.cidr.specs.texts.Printed.{plain_text}
 use Rattle.cidr_lists.specs.Printing.{line}
 use Rattle.netset_commands.proofs.WrittenLines.{walk_started, walked_at, walk_lost_at, walk_ended_at}
 use Rattle.netset_commands.proofs.output.printing.write_networks.Goals as goal
 
 pub loop-network-init : goal.loop-network-init
 loop-network-init g c =
-    walk_started (λ network. line (g.C.Printed.text network)) c.args.networks.now (g.S.Sink.state c.args.out.now) c.new-block.result c.new-block.ensures
+    walk_started (λ network. line (plain_text g.C.FamilyCidr.FAMILY (g.C.BitString.bits network))) c.args.networks.now (g.S.Sink.state c.args.out.now) c.new-block.result c.new-block.ensures
 
 pub loop-network-preserved : goal.loop-network-preserved
 loop-network-preserved g c =
-    walked_at (λ network. line (g.C.Printed.text network)) c.args.networks.now c.loop-network.network-index (g.S.Sink.state c.args.out.now)
+    walked_at (λ network. line (plain_text g.C.FamilyCidr.FAMILY (g.C.BitString.bits network))) c.args.networks.now c.loop-network.network-index (g.S.Sink.state c.args.out.now)
     (g.S.Sink.state c.loop-network.out) (g.S.Sink.state c.push_line.new.out) c.loop-network.block c.push_line.new.self c.network-item.result
     c.loop-network-test.true c.network-item.is c.loop-network.invariant
-    (rw (c.as_bytes.ensures.value, c.as_str.ensures.value, c.printed-text.ensures.bytes) at c.in_ok-push_line.ensures)
+    (rw (c.as_bytes.ensures.value, c.as_str.ensures.value, c.to_text-text.ensures.text) at c.in_ok-push_line.ensures)
 
 pub returns-in_err-push_line : goal.returns-in_err-push_line
 returns-in_err-push_line g c =
     let (y, is, same) = err_from_is_err_and c.from_residual.result c.from_residual.ensures.1 in
-    walk_lost_at (λ network. line (g.C.Printed.text network)) c.args.networks.now c.loop-network.network-index (g.S.Sink.state c.args.out.now)
+    walk_lost_at (λ network. line (plain_text g.C.FamilyCidr.FAMILY (g.C.BitString.bits network))) c.args.networks.now c.loop-network.network-index (g.S.Sink.state c.args.out.now)
     (g.S.Sink.state c.loop-network.out) (g.S.Sink.state c.push_line.new.out) c.loop-network.block c.push_line.new.self c.network-item.result
     c.from_residual.result y is c.loop-network-test.true c.network-item.is c.loop-network.invariant
-    (rw (c.as_bytes.ensures.value, c.as_str.ensures.value, c.printed-text.ensures.bytes) at c.in_err-push_line.ensures)
+    (rw (c.as_bytes.ensures.value, c.as_str.ensures.value, c.to_text-text.ensures.text) at c.in_err-push_line.ensures)
 
 pub returns : goal.returns
 returns g c =
-    walk_ended_at (λ network. line (g.C.Printed.text network)) c.args.networks.now c.loop-network.network-index (g.S.Sink.state c.args.out.now)
+    walk_ended_at (λ network. line (plain_text g.C.FamilyCidr.FAMILY (g.C.BitString.bits network))) c.args.networks.now c.loop-network.network-index (g.S.Sink.state c.args.out.now)
     (g.S.Sink.state c.loop-network.out) (g.S.Sink.state c.write.new.out) c.loop-network.block c.loop-network.block c.write.result
     c.loop-network-test.false c.loop-network.invariant c.write.ensures.writes

@@ -1,6 +1,6 @@
 use Rattle.netset_commands.proofs.Numbering.{has_table}
 use Rattle.netset_commands.specs.Numbers.{slices}
-use Rattle.cidr_lists.specs.Tables.{kept}
+use Rattle.netset_commands.specs.Rows.{kept}
 use Rattle.netset_commands.proofs.input.numbers.Numbers.of_table.Goals as goal
 
 pub returns-clause-values : goal.returns-clause-values

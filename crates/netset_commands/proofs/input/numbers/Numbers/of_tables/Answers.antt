@@ -1,6 +1,6 @@
 use Rattle.netset_commands.proofs.Numbering.{has_table, has_still}
 use Rattle.netset_commands.specs.Numbers.{slices, table_values}
-use Rattle.cidr_lists.specs.Tables.{kept}
+use Rattle.netset_commands.specs.Rows.{kept}
 use Rattle.netset_commands.proofs.input.numbers.Numbers.of_tables.Goals as goal
 
 pub returns-clause-values : goal.returns-clause-values

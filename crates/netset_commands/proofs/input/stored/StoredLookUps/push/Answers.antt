@@ -1,48 +1,17 @@
-use Rattle.std.proofs.Common.{sym, ◌∙◌, ap, Some, None}
-use Rattle.std.specs.Int.{from_le_bytes, w32}
-use Rattle.cidr.proofs.NetworkNumbers.{same_from_number}
-use Rattle.cidr.specs.either.IpAddress.{address_family, plain_bits}
-use Rattle.cidr.specs.model.Bits.{bits}
-use Rattle.cidr.specs.declared.family.Family.TheVariants.{Ipv4, Ipv6}
-use Rattle.cidr_files.specs.Layout.{wide_word}
-use Rattle.netset_commands.specs.Stored.{by_family, file_rows}
-use Rattle.netset_commands.proofs.Looked.{looks_up_row}
+use Rattle.std.proofs.Common.{refl, take, Some, None}
+use Rattle.cidr.specs.either.IpAddress.{plain_bits}
+use Rattle.netset_commands.specs.Stored.{by_family}
+use Rattle.netset_commands.proofs.Looked.{looks_up}
 use Rattle.netset_commands.proofs.input.stored.StoredLookUps.push.Goals as goal
 
 pub returns-in-Some : goal.returns-in-Some
 returns-in-Some g c =
-    let n = from_le_bytes w32 c.of-bytes.result in
-    rw (sym c.self.view_is) (looks_up_row (by_family (file_rows c.self.inside.tables)) c.args.address.now Ipv4 (bits 32 n) (Some c.in-Some.found)
-    c.to_text-text.result.bytes (g.S.Sink.state c.args.out.now) (g.S.Sink.state c.push_match.new.out) c.args.block.now c.push_match.new.block c.push_match.result
-    (ap address_family c.in-V4.is)
-    (same_from_number 32 n c.in-V4.address c.to_bits.ensures.width (c.of-bytes.ensures ∙ (c.from.ensures ∙ c.to_bits.ensures.value)) ∙ sym (ap plain_bits c.in-V4.is))
-    c.in-Some.ensures c.to_text-text.ensures.text (rw c.to_text.ensures.text at c.push_match.ensures))
+    looks_up (by_family c.args.self.now) c.args.address.now (Some (take c.in-Some.len (plain_bits c.args.address.now), c.in-Some.value.now)) _
+    (g.S.Sink.state c.args.out.now) (g.S.Sink.state c.push_match.new.out) c.args.block.now c.push_match.new.block c.push_match.result c.in-Some.ensures refl
+    (rw (c.to_text-text.ensures.text, c.block_text.ensures.bytes) at c.push_match.ensures)
 
 pub returns-in-None : goal.returns-in-None
 returns-in-None g c =
-    let n = from_le_bytes w32 c.of-bytes.result in
-    rw (sym c.self.view_is) (looks_up_row (by_family (file_rows c.self.inside.tables)) c.args.address.now Ipv4 (bits 32 n) None
-    c.to_text-text.result.bytes (g.S.Sink.state c.args.out.now) (g.S.Sink.state c.push_none.new.out) c.args.block.now c.push_none.new.block c.push_none.result
-    (ap address_family c.in-V4.is)
-    (same_from_number 32 n c.in-V4.address c.to_bits.ensures.width (c.of-bytes.ensures ∙ (c.from.ensures ∙ c.to_bits.ensures.value)) ∙ sym (ap plain_bits c.in-V4.is))
-    c.in-None.ensures c.to_text-text.ensures.text c.push_none.ensures)
-
-pub returns-in-Some-found_in : goal.returns-in-Some-found_in
-returns-in-Some-found_in g c =
-    let n = wide_word c.of-bytes-in-V6.result in
-    rw (sym c.self.view_is) (looks_up_row (by_family (file_rows c.self.inside.tables)) c.args.address.now Ipv6 (bits 128 n)
-    (Some c.in-Some-found_in.found) c.to_text-text.result.bytes (g.S.Sink.state c.args.out.now)
-    (g.S.Sink.state c.push_match-in-Some-found_in.new.out) c.args.block.now c.push_match-in-Some-found_in.new.block c.push_match-in-Some-found_in.result
-    (ap address_family c.in-V6.is)
-    (same_from_number 128 n c.in-V6.address c.to_bits-in-V6.ensures.width (c.of-bytes-in-V6.ensures ∙ c.to_bits-in-V6.ensures.value) ∙ sym (ap plain_bits c.in-V6.is))
-    c.in-Some-found_in.ensures c.to_text-text.ensures.text (rw c.to_text-in-Some-found_in.ensures.text at c.push_match-in-Some-found_in.ensures))
-
-pub returns-in-None-found_in : goal.returns-in-None-found_in
-returns-in-None-found_in g c =
-    let n = wide_word c.of-bytes-in-V6.result in
-    rw (sym c.self.view_is) (looks_up_row (by_family (file_rows c.self.inside.tables)) c.args.address.now Ipv6 (bits 128 n) None
-    c.to_text-text.result.bytes (g.S.Sink.state c.args.out.now)
-    (g.S.Sink.state c.push_none-in-None-found_in.new.out) c.args.block.now c.push_none-in-None-found_in.new.block c.push_none-in-None-found_in.result
-    (ap address_family c.in-V6.is)
-    (same_from_number 128 n c.in-V6.address c.to_bits-in-V6.ensures.width (c.of-bytes-in-V6.ensures ∙ c.to_bits-in-V6.ensures.value) ∙ sym (ap plain_bits c.in-V6.is))
-    c.in-None-found_in.ensures c.to_text-text.ensures.text c.push_none-in-None-found_in.ensures)
+    looks_up (by_family c.args.self.now) c.args.address.now None None
+    (g.S.Sink.state c.args.out.now) (g.S.Sink.state c.push_none.new.out) c.args.block.now c.push_none.new.block c.push_none.result c.in-None.ensures refl
+    (rw c.to_text-text.ensures.text at c.push_none.ensures)

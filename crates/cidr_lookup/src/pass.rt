@@ -1,0 +1,82 @@
+//! The pass over networks that ascend, which comes to one range after the other.
+ghost use Rattle.std.specs.Prelude.{◌≡◌, ℕ, ◌+◌, ◌-◌, ◌*◌, ◌^◌, ◌<◌, ◌≤◌, length, slice_index_or, false, true};
+ghost use Rattle.cidr_lookup.specs.Keys.{AreAscendingNetworks, key_networks};
+ghost use Rattle.cidr_lookup.specs.Passing.{IsEdge, IsLastWithNumber, IsPassing};
+
+use crate::address::Address;
+use crate::key::{Key, ones};
+
+/// How many keys may be open: one of each length up to 128, and one that stands for no key.
+const MOST_OPEN: usize = 130;
+
+/// Where the pass is: in a range that has begun, and in the keys that are open there, each in the one before it.
+#[derive(Drop)]
+pub(crate) struct Pass {
+    /// The number that the range begins with.
+    pub(crate) start: u128,
+    /// How many keys have been opened.
+    pub(crate) place: usize,
+    /// How many are open, and one more, which stands for no key and comes first.
+    pub(crate) depth: usize,
+    /// The last number of each open key.
+    pub(crate) lasts: [u128; MOST_OPEN],
+    /// How many keys there are up to that of each open key, and 0 for no key.
+    pub(crate) ends: [u32; MOST_OPEN],
+}
+
+/// The pass before the first key.
+pub(crate) fn started<A: Address>(keys: &[Key<A>]) -> Pass
+    requires { AreAscendingNetworks A.width (key_networks A.value keys.now) }
+    ensures passing { IsPassing A.width (key_networks A.value keys.now) result.place result.start result.lasts result.ends result.depth }
+    ensures start { result.start ≡ 0 }
+    ensures place { result.place ≡ 0 }
+    ensures depth { result.depth ≡ 1 }
+{
+    let mut lasts = [0; MOST_OPEN];
+    lasts[0] = ones(A::width());
+    Pass {
+        start: 0,
+        place: 0,
+        depth: 1,
+        lasts,
+        ends: [0; MOST_OPEN],
+    }
+}
+
+/// Goes on to where the answer may change, or returns false where it is the same up to the last address. The answer of
+/// the addresses that it passes was that of the last open key.
+pub(crate) fn goes_on<A: Address>(keys: &[Key<A>], pass: &mut Pass) -> bool
+    requires keys { AreAscendingNetworks A.width (key_networks A.value keys.now) }
+    requires few { length keys.now < 2 ^ 32 }
+    requires passing { IsPassing A.width (key_networks A.value keys.now) pass.old.place pass.old.start pass.old.lasts pass.old.ends pass.old.depth }
+    ensures passing { result ≡ true → IsPassing A.width (key_networks A.value keys.now) pass.new.place pass.new.start pass.new.lasts pass.new.ends pass.new.depth }
+    ensures edge { result ≡ true → IsEdge A.width (key_networks A.value keys.now) pass.new.start }
+    ensures further { result ≡ true → pass.old.start ≤ pass.new.start }
+    ensures range { result ≡ true → (address : ℕ) → pass.old.start ≤ address → address < pass.new.start
+        → IsLastWithNumber A.width (key_networks A.value keys.now) (length (key_networks A.value keys.now)) address (slice_index_or pass.old.ends (pass.old.depth - 1) 0) }
+    ensures rest { result ≡ false → (address : ℕ) → pass.old.start ≤ address → address < 2 ^ A.width
+        → IsLastWithNumber A.width (key_networks A.value keys.now) (length (key_networks A.value keys.now)) address (slice_index_or pass.old.ends (pass.old.depth - 1) 0) }
+    ensures steps { result ≡ true → pass.new.depth + 2 * pass.old.place + 1 ≡ pass.old.depth + 2 * pass.new.place }
+    ensures left { result ≡ true → pass.old.place ≤ pass.new.place }
+{
+    let last = pass.lasts[pass.depth - 1];
+    if pass.place < keys.len() {
+        let key = keys[pass.place];
+        let first = key.address.number();
+        if first <= last {
+            let depth = pass.depth;
+            pass.lasts[depth] = key.last();
+            pass.ends[depth] = pass.place as u32 + 1;
+            pass.start = first;
+            pass.depth = depth + 1;
+            pass.place += 1;
+            return true;
+        }
+    }
+    if last == pass.lasts[0] {
+        return false;
+    }
+    pass.start = last + 1;
+    pass.depth -= 1;
+    true
+}

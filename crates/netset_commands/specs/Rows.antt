@@ -1,0 +1,25 @@
+-- The rows of a table, as it is and for look-ups.
+use Rattle.std.specs.Prelude.{ℕ, Bool, List, map}
+use Rattle.cidr.specs.declared.family.Family.{Family}
+use Rattle.cidr.specs.declared.family.Family.TheVariants.{Ipv4, Ipv6}
+use Rattle.cidr_lists.specs.Tables.{resolved}
+use Rattle.cidr_lists.specs.declared.rows.Span.{Span}
+use Rattle.cidr_table.specs.model.FiniteMap.{StoredRows}
+use Rattle.netset_commands.specs.declared.input.tables.Searched.{Searched}
+use Rattle.netset_commands.specs.declared.input.tables.Searched.TheVariants.{Ready, Plain}
+use Rattle.netset_commands.specs.declared.input.tables.SearchedTable.{SearchedTable}
+use Rattle.netset_commands.specs.declared.input.tables.Table.{Table}
+
+-- the rows of a table, of each key one
+abbrev pub kept : Table → Family → List (List Bool × List ℕ)
+kept table Ipv4 = map (resolved table.values.items) table.v4.rows
+kept table Ipv6 = map (resolved table.values.items) table.v6.rows
+
+-- the same of one for look-ups
+abbrev pub searched_rows : {C : Type 0} → Searched (StoredRows C Span) (StoredRows C Span) → List (C × Span)
+searched_rows (Ready table) = table.rows
+searched_rows (Plain table) = table.rows
+
+abbrev pub searched : SearchedTable → Family → List (List Bool × List ℕ)
+searched table Ipv4 = map (resolved table.values.items) (searched_rows table.v4)
+searched table Ipv6 = map (resolved table.values.items) (searched_rows table.v6)

@@ -1,0 +1,17 @@
+//! The look-ups of a set in a slice of its networks.
+
+use crate::probe::{Networks, contains};
+use crate::search::place;
+use cidr::names::NetworkBits;
+
+/// How many networks come before this one or are the same, by `place`.
+#[inline]
+pub fn upto<C: NetworkBits>(networks: &[C], network: &C) -> usize {
+    place(&mut Networks::new(networks), network)
+}
+
+/// Whether one of the networks contains this one, by `contains`.
+#[inline]
+pub fn covers<C: NetworkBits>(networks: &[C], network: &C) -> bool {
+    contains(&mut Networks::new(networks), network)
+}
