@@ -25,19 +25,27 @@ HEADS = {
     "cidr_forwarding": ["use cidr::*;", "use cidr_table::*;", "use cidr_support::alloc::Global;", "use cidr_forwarding::*;"],
     "cidr_lookup": ["use cidr::Ipv4Cidr;", "use cidr_lookup::*;", "use cidr_support::alloc::Global;", "use cidr_table::LpmTable;",
                     "use core::net::Ipv4Addr;"],
+    "cidr_routes": ["use cidr::Ipv4Cidr;", "use cidr_routes::{lists::*, *};", "use cidr_sets::access::Action;",
+                    "use cidr_support::{alloc::Global, vec::Vec};"],
     "cidr_files": ["use cidr_files::*;", "use cidr_lookup::{Address, Key};", "use cidr_support::{alloc::Global, vec::Vec};",
                    "use core::net::{Ipv4Addr, Ipv6Addr};",
-                   "fn name<'a>(table: &Table<'a>, address: Ipv4Addr) -> Option<&'a str> {",
+                   "fn name<'a>(table: &FileTables<'a>, address: Ipv4Addr) -> Option<&'a str> {",
                    "    core::str::from_utf8(lookup(&table.ipv4, address.to_bits().to_le_bytes())?.1).ok()", "}"],
 }
 # A file of two networks and their names.
 FILE = """let keys = [Key { address: [0, 0, 0, 10], len: 8 }, Key { address: [0, 0, 1, 10], len: 16 }];
-let ipv4 = Rows { keys: &keys, offsets: &[0, 5, 10], values: b"outerinner" };
-let file = written(Global, &ipv4, &Rows { keys: &[], offsets: &[0], values: b"" })?;"""
+let ipv4 = FileRows { keys: &keys, offsets: &[0, 5, 10], values: b"outerinner" };
+let file = written(Global, &ipv4, &FileRows { keys: &[], offsets: &[0], values: b"" })?;"""
 TABLE_OF_A_FILE = f"{FILE}\nlet table = open(file.as_slice())?;"
 # Routes, and the same made ready.
 ROUTES = ('let rows = [("0.0.0.0/0".parse()?, 1), ("10.0.0.0/8".parse()?, 2), ("10.1.0.0/16".parse()?, 3)];\n'
           "let routes: LpmTable<Ipv4Cidr, u32> = rows.into_iter().collect();")
+# Payloads, and rows of a prefix list.
+PAYLOADS = ('let payloads = [("192.0.2.0/24", 24, 64496), ("192.0.0.0/16", 16, 64497)];\n'
+            "let payloads = payloads.map(|(n, max_length, origin)| Payload { network: n.parse::<Ipv4Cidr>().unwrap(), max_length, origin });\n"
+            "let payloads = Vec::from_slice(Global, &payloads)?;")
+PREFIXES = ('let rows = [(Action::Deny, "10.2.0.0/16", 16, 32), (Action::Permit, "10.0.0.0/8", 16, 24)];\n'
+            "let rows = rows.map(|(action, n, low, high)| Row { action, network: n.parse::<Ipv4Cidr>().unwrap(), low, high });")
 # What an example goes on with, where it does not make it: the values of the programs of the repository.
 GIVEN = {
     "cidr_table": {
@@ -49,6 +57,10 @@ GIVEN = {
         "routes": ROUTES,
         "ready": f"{ROUTES}\nlet ready = ReadyTable::new(Global, routes).map_err(|refused| refused.1)?;",
         "blocked": 'let blocked: [Ipv4Cidr; 2] = ["10.0.0.0/8".parse()?, "192.0.2.0/24".parse()?];',
+    },
+    "cidr_routes": {
+        "payloads": f"{PAYLOADS}\nlet payloads = Payloads::new(Global, payloads)?;",
+        "rows": PREFIXES, "others": f"{PREFIXES}\nlet others = [rows[0]];",
     },
     "cidr_forwarding": {
         "routes": 'let rows = [("0.0.0.0/0".parse()?, 1), ("10.0.0.0/8".parse()?, 2), ("10.1.0.0/16".parse()?, 2),\n'
@@ -72,6 +84,7 @@ GIVEN = {
 # Examples that go on with other values, by how their first line begins: what they are given. Without a line they are shown.
 ROUTES_OF_ONE = 'let mut routes: Routes = [("10.0.0.0/8".parse()?, 1)].into_iter().collect();'
 OTHERS = {
+    "let payloads = Payloads::new(": PAYLOADS,
     "let mut rows = routes.into_iter();":
         'let routes: Routes = [("0.0.0.0/0".parse()?, 1), ("10.0.0.0/8".parse()?, 2)].into_iter().collect();',
     "routes.for_each_mut(": 'let mut routes: Routes = [("10.0.0.0/8".parse()?, 9)].into_iter().collect();',
@@ -82,7 +95,7 @@ OTHERS = {
     "let smallest = routes.smallest_with_holes(":
         'let rows = [("10.0.0.0/9".parse()?, 1), ("10.128.0.0/10".parse()?, 1), ("10.192.0.0/11".parse()?, 1)];\n'
         "let routes: LpmTable<Ipv4Cidr, u32> = rows.into_iter().collect();",
-    "let ipv4 = Rows {":
+    "let ipv4 = FileRows {":
         "let ipv4 = [Key { address: [0, 0, 0, 10], len: 8 }, Key { address: [0, 0, 1, 10], len: 16 }, Key { address: [0, 2, 0, 192], len: 24 }];",
     "let network = ": "",
     "let mut text = ArrayString::": "use cidr_support::arrayvec::ArrayString;",
@@ -94,7 +107,7 @@ OTHERS = {
 # the function and shows that it returns what it is to.
 KEYS = """let keys = [Key { address: 0x0a000000u32, len: 8 }, Key { address: 0x0a010000, len: 16 }];
 let address = "10.1.2.3".parse()?;"""
-IN_ARRAYS = f"""fn find(keys: &[Key<u32>], starts: &[u32], answers: &[u32], address: Ipv4Addr) -> Result<Option<usize>, Fault> {{
+IN_ARRAYS = f"""fn find(keys: &[Key<u32>], starts: &[u32], answers: &[u32], address: Ipv4Addr) -> Result<Option<usize>, WordsFault> {{
 ...
 }}
 {KEYS}
@@ -118,30 +131,30 @@ assert_eq!(find(&keys, &mut [0; 5], &mut [0; 5], address)?, Some(1));""",
 assert_eq!(find_in(Global, &keys, address)?, Some(1));""",
     "check(alloc, keys,": f"""fn find_in(
     alloc: Global, keys: &[Key<u32>], first: &[u32], words: &[u32], steps: u32, address: Ipv4Addr,
-) -> Result<Option<usize>, Fault> {{
+) -> Result<Option<usize>, WordsFault> {{
 ...
 }}
 {WORDS_OF_KEYS}
 assert_eq!(find_in(Global, &keys, first, words, table.steps, address)?, Some(1));""",
-    "Ok(find(&first,": f"""fn find_in(first: &[u32], words: &[u32], steps: u32, address: Ipv4Addr) -> Result<Option<usize>, Fault> {{
+    "Ok(find(&first,": f"""fn find_in(first: &[u32], words: &[u32], steps: u32, address: Ipv4Addr) -> Result<Option<usize>, WordsFault> {{
 ...
 }}
 {WORDS_OF_KEYS}
 assert_eq!(find_in(first, words, table.steps, address)?, Some(1));""",
-    "written(alloc, &ipv4,": """fn file_of_rows(alloc: Global, ipv4: Rows<'_, Ipv4Bytes>, ipv6: Rows<'_, Ipv6Bytes>) -> Result<Vec<u8>, WriteError> {
+    "written(alloc, &ipv4,": """fn file_of_rows(alloc: Global, ipv4: FileRows<'_, Ipv4Bytes>, ipv6: FileRows<'_, Ipv6Bytes>) -> Result<Vec<u8>, WriteError> {
 ...
 }
 let keys = [Key { address: [0, 0, 0, 10], len: 8 }];
-let rows = Rows { keys: &keys, offsets: &[0, 5], values: b"outer" };
-let file = file_of_rows(Global, rows, Rows { keys: &[], offsets: &[0], values: b"" })?;
+let rows = FileRows { keys: &keys, offsets: &[0, 5], values: b"outer" };
+let file = file_of_rows(Global, rows, FileRows { keys: &[], offsets: &[0], values: b"" })?;
 assert_eq!(name(&checked(Global, file.as_slice())?, Ipv4Addr::new(10, 1, 2, 3)), Some("outer"));""",
-    "let (_row, name) = lookup(": f"""fn name_of<'a>(table: &Table<'a>, address: Ipv4Addr) -> Option<&'a [u8]> {{
+    "let (_row, name) = lookup(": f"""fn name_of<'a>(table: &FileTables<'a>, address: Ipv4Addr) -> Option<&'a [u8]> {{
 ...
 Some(name)
 }}
 {TABLE_OF_A_FILE}
 assert_eq!(name_of(&table, Ipv4Addr::new(10, 1, 2, 3)), Some(b"inner".as_slice()));""",
-    "has(&table.ipv6,": f"""fn has_ipv6(table: &Table<'_>, address: Ipv6Addr) -> bool {{
+    "has(&table.ipv6,": f"""fn has_ipv6(table: &FileTables<'_>, address: Ipv6Addr) -> bool {{
 ...
 }}
 {TABLE_OF_A_FILE}

@@ -48,7 +48,7 @@ HEAD = """//! The calls for C. Each passes on what it is given, which is as the 
 def written(calls, homes):
     """The text of `exports.rs`."""
     uses = {f"use crate::{homes[name]}::{name};" for _, _, of, _ in calls for _, kind in of for name in re.findall(r"\bC\w+", kind)}
-    uses |= {"use cidr_lookup::Halves;", "use cidr_support::alloc::Global;", "use crate::pointers::{slice, slice_mut};"}
+    uses |= {"use cidr_lookup::Ipv6Halves;", "use cidr_support::alloc::Global;", "use crate::pointers::{slice, slice_mut};"}
     text = []
     for module, name, of, gives in calls:
         crossed = [crossing(*each) for each in of]

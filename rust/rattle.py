@@ -71,23 +71,19 @@ def without_proofs(text):
             out.append(text[start:i])
             continue
         out.append(gone(text[start:i]))
-    return LAW.sub(lambda law: gone(law.group()), "".join([*out, text[i:]]))
+    return "".join([*out, text[i:]])
 
 
-# Laws that stand outside of `laws`, beside what they are of, with their comments.
-LAWS_BESIDE = ("equal_sets_permit_the_same", "shadowed_rules_are_decided_earlier", "equal_errors_are_the_same")
-LAW = re.compile(rf"^(?:///[^\n]*\n)*(?:#\[tactic[^\n]*\n)?pub fn (?:{'|'.join(LAWS_BESIDE)})\(\)[\s\x01]*\{{(?:\s*cidr::laws::[\w:]+\(\);\s*)?\}}", re.M)
 USE = re.compile(r"^(?:pub(?:\(\w+\))? )?use ([^;]*);", re.M)
 
 
 def without_laws(code):
-    """A law is a function that does nothing: calls of those that are imported from `laws` are left out."""
+    """A law is a function that changes nothing: calls of those that are imported from `laws` are left out."""
     code = re.sub(r"^(?:pub )?mod laws;", GONE, code, flags=re.M)
     for path in USE.findall(code):
-        of_laws = path.startswith(("crate::laws::", "cidr::laws::"))
-        for name in re.findall(r"\w+", path.rpartition("::")[2]):
-            if of_laws or name in LAWS_BESIDE:
-                code = re.sub(rf"^ *{name}\(\);", GONE, code, flags=re.M)
+        if re.match(r"\w+::laws::", path):
+            for name in re.findall(r"\w+", path.rpartition("::")[2]):
+                code = re.sub(rf"^ *{name}\([^();]*\);", GONE, code, flags=re.M)
     return code
 
 

@@ -5,7 +5,7 @@ use Rattle.std.proofs.lemmas.Option.{get_or_from_slice_get, slice_get_within}
 use Rattle.std.proofs.lemmas.Slice.Zip.{length-zip}
 use Rattle.cidr.specs.model.Bits.{bits}
 use Rattle.cidr_table.specs.model.Prefixes.{IsLongestMatch}
-use Rattle.cidr_lookup.specs.Keys.{prefix_bits, row_of}
+use Rattle.cidr_lookup.specs.Keys.{prefix_bits, row_behind}
 use Rattle.cidr_lookup.specs.Tables.{IsLookupTable}
 use Rattle.cidr_files.specs.Layout.{ipv4_counts, ipv4_parts, ipv6_counts, ipv6_parts, wide_words, words}
 use Rattle.cidr_files.specs.Tables.{AreLookUps, AreOffsets, offsets_in, part_at, stored_networks, value_in}
@@ -21,12 +21,12 @@ use Rattle.cidr_c.specs.declared.values.CValue.{CValue}
 use Rattle.cidr_c.proofs.Places.{ipv4_at, ipv4_inside, ipv6_at, ipv6_inside, moved}
 
 -- ---- the row of an answer
-pub row_of_some : (answer : ℕ) → 0 < answer → Some (answer - 1) ≡ row_of answer
-row_of_some zero some = absurd (omega arith)
-row_of_some (suc row) some = ap Some (omega arith)
+pub row_behind_some : (answer : ℕ) → 0 < answer → Some (answer - 1) ≡ row_behind answer
+row_behind_some zero some = absurd (omega arith)
+row_behind_some (suc row) some = ap Some (omega arith)
 
-pub row_of_none : (answer : ℕ) → answer ≡ 0 → None ≡ row_of answer
-row_of_none answer none = ap row_of (sym none)
+pub row_behind_none : (answer : ℕ) → answer ≡ 0 → None ≡ row_behind answer
+row_behind_none answer none = ap row_behind (sym none)
 
 -- ---- in a table
 -- a table has at most as many rows as it says

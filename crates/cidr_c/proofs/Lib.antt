@@ -13,6 +13,7 @@ pub mod Hosts
 pub mod Indexes
 pub mod LabelPairs
 pub mod LineSteps
+pub mod PlanLines
 pub mod Listed
 pub mod ListsRead
 pub mod Named

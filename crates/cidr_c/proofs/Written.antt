@@ -7,7 +7,7 @@ use Rattle.std.specs.Option.{MatchOption, unwrap_or}
 use Rattle.cidr_files.specs.Contents.{HasZerosBetween, IsWriteRefused}
 use Rattle.cidr_files.specs.Layout.{ipv4_counts, ipv4_parts, ipv6_counts, ipv6_parts, wide_word, wide_words, words}
 use Rattle.cidr_files.specs.Tables.{AreOffsets, IsFile, offsets_in, part_at, stored_networks}
-use Rattle.cidr_files.specs.declared.contents.Rows.{Rows}
+use Rattle.cidr_files.specs.declared.contents.FileRows.{FileRows}
 use Rattle.cidr_files.specs.declared.faults.WriteError.{WriteError}
 use Rattle.cidr_files.specs.declared.faults.WriteError.TheVariants.{Table}
 use Rattle.cidr_lookup.specs.Tables.{HasTooManyWords, ipv4_steps, ipv6_steps}
@@ -110,14 +110,14 @@ many_words w padding steps value keys networks is many =
     subst (λ (ns : List (ℕ × ℕ)). HasTooManyWords w padding (steps (length ns)) ns) is
     (subst (λ (k : ℕ). HasTooManyWords w padding (steps k) (key_networks value keys)) (sym (length_networks value keys)) many)
 
-refused_words : (networks : List CValue) (ipv4 : Rows (List ℕ)) (ipv6 : Rows (List (List ℕ))) → IsWriteRefused ipv4 ipv6 (Table TooLarge)
+refused_words : (networks : List CValue) (ipv4 : FileRows (List ℕ)) (ipv6 : FileRows (List (List ℕ))) → IsWriteRefused ipv4 ipv6 (Table TooLarge)
     → key_networks (from_le_bytes w32) ipv4.keys.now ≡ ipv4_networks networks → key_networks wide_word ipv6.keys.now ≡ ipv6_networks networks → AreTooMany networks
 refused_words networks ipv4 ipv6 (inl (fine, (few, ascend, many))) is4 is6 =
     inr (inl (many_words 32 4 ipv4_steps (from_le_bytes w32) ipv4.keys.now (ipv4_networks networks) is4 many))
 refused_words networks ipv4 ipv6 (inr (before, (fine, (few, ascend, many)))) is4 is6 =
     inr (inr (many_words 128 0 ipv6_steps wide_word ipv6.keys.now (ipv6_networks networks) is6 many))
 
-pub too_many_words : (networks : List CValue) (ipv4 : Rows (List ℕ)) (ipv6 : Rows (List (List ℕ))) (error : WriteError) (why : TableError)
+pub too_many_words : (networks : List CValue) (ipv4 : FileRows (List ℕ)) (ipv6 : FileRows (List (List ℕ))) (error : WriteError) (why : TableError)
     → IsWriteRefused ipv4 ipv6 error → error ≡ Table why → why ≡ TooLarge
     → key_networks (from_le_bytes w32) ipv4.keys.now ≡ ipv4_networks networks → key_networks wide_word ipv6.keys.now ≡ ipv6_networks networks → AreTooMany networks
 too_many_words networks ipv4 ipv6 error why refused is large is4 is6 =

@@ -14,10 +14,10 @@ use crate::finding::{
     joined, put_found_address, put_found_network, put_found_networks, put_number, put_plain,
     yes_or_no,
 };
-use crate::values::{CValue, address_of, ip_network_of, network_of, put_address, put_network};
+use crate::values::{CValue, address_of, ip_network_of, put_address, put_network, value_network};
 use cidr::{IpAddr, IpCidr, Ipv4Addr, Ipv4Cidr};
 use cidr_ext::{CidrExt, IpCidrExt, NetworkExt};
-use cidr_lookup::Halves;
+use cidr_lookup::Ipv6Halves;
 
 /// The network of prefix length `len` that contains that of a host, or none where `len` is above the length of that.
 #[unsafe(no_mangle)]
@@ -156,7 +156,7 @@ pub extern "C" fn pcidr_nth_by_value(host: CValue, high: u64, low: u64, out: &mu
 
 /// How many addresses the network of a host has, or none for ::/0, whose 2^128 two halves have no room for.
 #[unsafe(no_mangle)]
-pub extern "C" fn pcidr_address_count(host: &CValue, count: &mut Halves) -> u32
+pub extern "C" fn pcidr_address_count(host: &CValue, count: &mut Ipv6Halves) -> u32
     ensures { IsNumberSought (IsHostValue host.now) (width_in host.now - length (prefix_in host.now) ≡ 128)
         (λ number. number ≡ 2 ^ (width_in host.now - length (prefix_in host.now))) count.old count.new result }
 {
@@ -168,7 +168,7 @@ pub extern "C" fn pcidr_address_count(host: &CValue, count: &mut Halves) -> u32
 
 /// The index of an address in the network of a host, or none where it is not in that: the inverse of `pcidr_nth_by_value`.
 #[unsafe(no_mangle)]
-pub extern "C" fn pcidr_position(host: &CValue, address: &CValue, index: &mut Halves) -> u32
+pub extern "C" fn pcidr_position(host: &CValue, address: &CValue, index: &mut Ipv6Halves) -> u32
     ensures { IsNumberSought (IsHostValue host.now × IsAddressValue address.now)
         (¬ ((address_family_in address.now ≡ family_in host.now)
         × BeginsWith (address_bits_in address.now) (prefix_in host.now)))
@@ -254,7 +254,7 @@ pub extern "C" fn pcidr_spanning(one: &CValue, other: &CValue, out: &mut CValue)
         (λ span. IsSpanning (any_bits (network_in one.now)) (any_bits (network_in other.now)) (any_bits span))
         out.old out.new result }
 {
-    match (network_of(one), network_of(other)) {
+    match (value_network(one), value_network(other)) {
         (Some(one), Some(other)) => {
             put_network(&one.spanning(&other), out);
             OK
@@ -282,7 +282,7 @@ pub extern "C" fn pcidr_overlaps(one: &CValue, other: &CValue) -> u32
         × (BeginsWith (any_bits (network_in one.now)) (any_bits (network_in other.now))
         ⊎ BeginsWith (any_bits (network_in other.now)) (any_bits (network_in one.now)))) }
 {
-    match (network_of(one), network_of(other)) {
+    match (value_network(one), value_network(other)) {
         (Some(one), Some(other)) => yes_or_no(one.overlaps(&other)),
         _ => 0,
     }

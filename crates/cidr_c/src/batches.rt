@@ -5,7 +5,7 @@ ghost use Rattle.cidr_c.specs.model.Codes.{no_memory, no_value};
 ghost use Rattle.cidr_c.specs.model.Values.{network_in};
 
 use crate::codes::{NO_MEMORY, NO_VALUE};
-use crate::values::{CValue, network_of, put_network};
+use crate::values::{CValue, put_network, value_network};
 use cidr::AnyIpCidr;
 use std::alloc::Global;
 
@@ -19,7 +19,7 @@ pub fn networks_of(alloc: Global, values: &[CValue]) -> Result<Vec<AnyIpCidr>, u
         return Err(NO_MEMORY);
     };
     for value in values {
-        let Some(network) = network_of(value) else {
+        let Some(network) = value_network(value) else {
             return Err(NO_VALUE);
         };
         let Ok(()) = networks.push(network) else {

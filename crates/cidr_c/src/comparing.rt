@@ -7,7 +7,7 @@ ghost use Rattle.cidr_c.specs.model.Values.{IsNetworkValue, network_in};
 use crate::codes::{NO_VALUE, OK};
 use crate::finding::yes_or_no;
 use crate::sets::{both_of, deliver, set_of};
-use crate::values::{CValue, network_of};
+use crate::values::{CValue, value_network};
 use std::alloc::Global;
 
 /// The addresses of a network that a list of networks has not, as a set in a room, of which `count` becomes the number of
@@ -28,7 +28,7 @@ pub extern "C" fn pcidr_complement(
         Ok(set) => set,
         Err(code) => return code,
     };
-    match network_of(within) {
+    match value_network(within) {
         Some(within) => deliver(set.complement_in(&within), out, count),
         None => NO_VALUE,
     }

@@ -17,9 +17,9 @@ ghost use Rattle.cidr_c.specs.model.Values.{IsAddressValue, address_in};
 
 use crate::codes::{NO_MEMORY, NO_VALUE};
 use crate::finding::{joined, put_found_address, put_number};
-use crate::values::{CValue, network_of};
+use crate::values::{CValue, value_network};
 use cidr::{AnyIpCidr, BitString, FamilyCidr, IpAddr, IpCidr, Ipv4Cidr, Ipv6Cidr};
-use cidr_lookup::Halves;
+use cidr_lookup::Ipv6Halves;
 use cidr_sets::NetworkSet;
 use std::alloc::Global;
 
@@ -44,7 +44,7 @@ fn family_set<C: FamilyCidr>(alloc: Global, values: &[CValue]) -> Result<Network
         return Err(NO_MEMORY);
     };
     for value in values {
-        let Some(network) = network_of(value) else {
+        let Some(network) = value_network(value) else {
             return Err(NO_VALUE);
         };
         if let Some(part) = part_of::<C>(&network) {
@@ -57,7 +57,7 @@ fn family_set<C: FamilyCidr>(alloc: Global, values: &[CValue]) -> Result<Network
 }
 
 /// How many addresses of a family some networks have.
-fn counted<C: FamilyCidr>(alloc: Global, networks: &[CValue], count: &mut Halves) -> u32
+fn counted<C: FamilyCidr>(alloc: Global, networks: &[CValue], count: &mut Ipv6Halves) -> u32
     ensures { IsSoughtInMemory (AreNetworkValues networks.now) (HaveCountIn C.FAMILY (bits_in networks.now) (2 ^ 128))
         IsAnyValue ipv6_number (HaveCountIn C.FAMILY (bits_in networks.now)) count.old count.new result }
 {
@@ -100,7 +100,11 @@ fn nth_of<C: FamilyCidr>(set: &NetworkSet<C>, index: u128) -> Option<IpAddr>
 
 /// How many IPv4 addresses a list of networks has.
 #[unsafe(no_mangle)]
-pub extern "C" fn pcidr_count_ipv4(alloc: Global, networks: &[CValue], count: &mut Halves) -> u32
+pub extern "C" fn pcidr_count_ipv4(
+    alloc: Global,
+    networks: &[CValue],
+    count: &mut Ipv6Halves,
+) -> u32
     ensures { IsSoughtInMemory (AreNetworkValues networks.now) (HaveCountIn Ipv4 (bits_in networks.now) (2 ^ 128))
         IsAnyValue ipv6_number (HaveCountIn Ipv4 (bits_in networks.now)) count.old count.new result }
 {
@@ -109,7 +113,11 @@ pub extern "C" fn pcidr_count_ipv4(alloc: Global, networks: &[CValue], count: &m
 
 /// How many IPv6 addresses a list of networks has, or none where it has all, whose 2^128 two halves have no room for.
 #[unsafe(no_mangle)]
-pub extern "C" fn pcidr_count_ipv6(alloc: Global, networks: &[CValue], count: &mut Halves) -> u32
+pub extern "C" fn pcidr_count_ipv6(
+    alloc: Global,
+    networks: &[CValue],
+    count: &mut Ipv6Halves,
+) -> u32
     ensures { IsSoughtInMemory (AreNetworkValues networks.now) (HaveCountIn Ipv6 (bits_in networks.now) (2 ^ 128))
         IsAnyValue ipv6_number (HaveCountIn Ipv6 (bits_in networks.now)) count.old count.new result }
 {

@@ -10,7 +10,7 @@ ghost use Rattle.cidr_c.specs.model.Codes.{no_memory, no_value};
 
 use crate::codes::{NO_MEMORY, NO_VALUE};
 use crate::finding::put_list;
-use crate::values::{CValue, network_of};
+use crate::values::{CValue, value_network};
 use cidr::AnyIpCidr;
 use std::alloc::Global;
 
@@ -60,7 +60,7 @@ fn indexes_of<R: Relation>(
 {
     let mut indexes = Vec::new(alloc);
     for i in 0..networks.len() {
-        let Some(network) = network_of(&networks[i]) else {
+        let Some(network) = value_network(&networks[i]) else {
             return Err(NO_VALUE);
         };
         if R::holds(&network, asked) {
@@ -82,7 +82,7 @@ fn related<R: Relation>(
 ) -> u32
     ensures { AreRelatedPut R.Holds networks.now asked.now out.old out.new count.old count.new result }
 {
-    let Some(asked) = network_of(asked) else {
+    let Some(asked) = value_network(asked) else {
         return NO_VALUE;
     };
     match indexes_of::<R>(alloc, networks, &asked) {

@@ -3,7 +3,7 @@ ghost use Rattle.std.specs.Prelude.{◌≡◌, ◌≢◌, ◌⊎◌, ℕ, ◌+�
 ghost use Rattle.std.specs.Int.{from_le_bytes, w32};
 ghost use Rattle.cidr.specs.model.Bits.{bits};
 ghost use Rattle.cidr_table.specs.model.Prefixes.{IsLongestMatch};
-ghost use Rattle.cidr_lookup.specs.Keys.{prefix_bits, row_of};
+ghost use Rattle.cidr_lookup.specs.Keys.{prefix_bits, row_behind};
 ghost use Rattle.cidr_files.specs.Layout.{padded, padded_room, sizes_of, wide_word, words};
 ghost use Rattle.cidr_files.specs.Tables.{AreLookUps, AreOffsets, offsets_in, stored_networks, value_in};
 ghost use Rattle.cidr_c.specs.calls.Calls.{IsYesOrNo};
@@ -14,7 +14,9 @@ ghost use Rattle.cidr_c.specs.model.Values.{IsLow, number_in};
 use crate::codes::{LONG, NO_FILE, NO_ROOM, OK, OTHER_VERSION, SHORT, VALUES};
 use crate::tables::{NO_ROW, words_fault_code};
 use crate::values::CValue;
-use cidr_files::{Counts, Family, Fault, Ipv4Bytes, Ipv6Bytes, TableFault, checked, counts, open};
+use cidr_files::{
+    Counts, FileAddress, FileFault, Ipv4Bytes, Ipv6Bytes, TableFault, checked, counts, open,
+};
 use cidr_lookup::find;
 use std::alloc::Global;
 
@@ -162,16 +164,16 @@ pub extern "C" fn pcidr_set_has_each(
 }
 
 /// The number of what is wrong with a file.
-fn file_fault_code(fault: &Fault) -> u32
+fn file_fault_code(fault: &FileFault) -> u32
     ensures value { result ≡ file_fault_code fault.now }
     ensures above { 0 < result }
 {
     match fault {
-        Fault::Magic => NO_FILE,
-        Fault::Old | Fault::Version(_) => OTHER_VERSION,
-        Fault::Short => SHORT,
-        Fault::Long => LONG,
-        Fault::Ipv4(fault) | Fault::Ipv6(fault) => table_fault_code(fault),
+        FileFault::Magic => NO_FILE,
+        FileFault::Old | FileFault::Version(_) => OTHER_VERSION,
+        FileFault::Short => SHORT,
+        FileFault::Long => LONG,
+        FileFault::Ipv4(fault) | FileFault::Ipv6(fault) => table_fault_code(fault),
     }
 }
 
@@ -247,7 +249,7 @@ fn found_in(bytes: &[u8], file: &CFile, asked: &CValue) -> CFound
 /// What is found in a table. No branch hangs on whether there is a row, which a processor can't foresee: where there is
 /// none, the offsets of the first row are read.
 #[inline(always)]
-fn found_at<W: Family>(bytes: &[u8], table: &CFileTable, address: W) -> CFound
+fn found_at<W: FileAddress>(bytes: &[u8], table: &CFileTable, address: W) -> CFound
     ensures { (size : ℕ) → IsFoundInParts W.width W.padding W.numbers size table.now bytes.now (W.value address) result }
 {
     let end = end_at(bytes, table, address);
@@ -259,11 +261,11 @@ fn found_at<W: Family>(bytes: &[u8], table: &CFileTable, address: W) -> CFound
 
 /// How many rows there are up to that of the longest match, or 0 where there is none.
 #[inline(always)]
-fn end_at<W: Family>(bytes: &[u8], table: &CFileTable, address: W) -> u32
+fn end_at<W: FileAddress>(bytes: &[u8], table: &CFileTable, address: W) -> u32
     ensures within { result ≤ table.now.rows }
     ensures longest { (size : ℕ) → LieInBytes table.now bytes.now → AreLookUps W.width W.padding W.numbers (parts_at size table.now bytes.now) table.now.steps
         → IsLongestMatch (prefix_bits W.width) (bits W.width (W.value address))
-        (stored_networks W.numbers (parts_at size table.now bytes.now)) (row_of result) }
+        (stored_networks W.numbers (parts_at size table.now bytes.now)) (row_behind result) }
 {
     match row_at(bytes, table, address) {
         Some(row) => row as u32 + 1,
@@ -303,7 +305,7 @@ fn found_of(end: u32, place: (usize, u32)) -> CFound
 
 /// The row of the longest match of an address in a table, if what tells it lies inside of the bytes.
 #[inline(always)]
-fn row_at<W: Family>(bytes: &[u8], table: &CFileTable, address: W) -> Option<usize>
+fn row_at<W: FileAddress>(bytes: &[u8], table: &CFileTable, address: W) -> Option<usize>
     ensures within { IfSome result (λ row. row < table.now.rows) }
     ensures fits { IfSome result (λ row. row + 1 < 2 ^ 32) }
     ensures longest { (size : ℕ) → LieInBytes table.now bytes.now → AreLookUps W.width W.padding W.numbers (parts_at size table.now bytes.now) table.now.steps
@@ -384,7 +386,7 @@ fn has_in(bytes: &[u8], file: &CFile, asked: &CValue) -> u8
 
 /// 1 where an address is in one of the networks of a table, and 0 where not.
 #[inline(always)]
-fn has_at<W: Family>(bytes: &[u8], table: &CFileTable, address: W) -> u8
+fn has_at<W: FileAddress>(bytes: &[u8], table: &CFileTable, address: W) -> u8
     ensures { (size : ℕ) → IsInSetAt W.width W.padding W.numbers size table.now bytes.now (W.value address) result }
 {
     match row_at(bytes, table, address) {

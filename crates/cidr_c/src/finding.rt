@@ -9,7 +9,7 @@ ghost use Rattle.cidr_c.specs.model.Values.{IsAddressValue, IsIpNetworkValue, Is
 use crate::codes::{NO_ROOM, NONE, OK};
 use crate::values::{CValue, put_address, put_ip_network, put_network};
 use cidr::{AnyIpCidr, IpAddr, IpCidr};
-use cidr_lookup::Halves;
+use cidr_lookup::Ipv6Halves;
 
 /// Makes the value the network, if there is one.
 #[inline(always)]
@@ -64,13 +64,13 @@ pub fn put_found_address(found: Option<IpAddr>, out: &mut CValue) -> u32
 }
 
 /// Makes two halves the number, if there is one.
-pub fn put_number(found: Option<u128>, out: &mut Halves) -> u32
+pub fn put_number(found: Option<u128>, out: &mut Ipv6Halves) -> u32
     ensures { IsFoundOrNone IsAnyValue ipv6_number found out.old out.new result }
 {
     let Some(number) = found else {
         return NONE;
     };
-    *out = Halves {
+    *out = Ipv6Halves {
         high: (number / (1 << 64)) as u64,
         low: (number % (1 << 64)) as u64,
     };

@@ -10,7 +10,7 @@ ghost use Rattle.cidr_c.specs.model.Forwarding.{AreOfTable, AreRowValues, Forwar
 
 use crate::codes::{NO_MEMORY, NO_VALUE, OK};
 use crate::finding::{put_list, yes_or_no};
-use crate::values::{CValue, network_of, put_network};
+use crate::values::{CValue, put_network, value_network};
 use cidr::AnyIpCidr;
 use cidr_forwarding::{SmallestTable, forwards_same};
 use cidr_table::LpmTable;
@@ -36,7 +36,7 @@ fn table_of(alloc: Global, rows: &[CRow]) -> Result<LpmTable<AnyIpCidr, u64>, u3
         return Err(NO_MEMORY);
     };
     for row in rows {
-        let Some(network) = network_of(&row.network) else {
+        let Some(network) = value_network(&row.network) else {
             return Err(NO_VALUE);
         };
         let Ok(()) = listed.push((network, row.value)) else {
@@ -54,18 +54,18 @@ fn rows_in(table: &LpmTable<AnyIpCidr, u64>) -> &[(AnyIpCidr, u64)]
 }
 
 /// Rows as C has them.
-fn rows_of(alloc: Global, listed: &[(AnyIpCidr, u64)]) -> Result<Vec<CRow>, AllocError>
+fn c_rows(alloc: Global, listed: &[(AnyIpCidr, u64)]) -> Result<Vec<CRow>, AllocError>
     ensures { IfOk result (λ rows. AreRowValues rows.items × (map network_row rows.items ≡ listed.now)) }
 {
     let mut rows = Vec::with_capacity(alloc, listed.len())?;
     for row in listed {
-        rows.push(row_of(&row.0, row.1))?;
+        rows.push(c_row(&row.0, row.1))?;
     }
     Ok(rows)
 }
 
 /// A row as C has it.
-fn row_of(network: &AnyIpCidr, value: u64) -> CRow
+fn c_row(network: &AnyIpCidr, value: u64) -> CRow
     ensures is_row { IsRowValue result }
     ensures row { network_row result ≡ (network.now, value) }
 {
@@ -104,7 +104,7 @@ pub extern "C" fn pcidr_smallest(
     let Ok(smallest) = table.smallest(alloc) else {
         return NO_MEMORY;
     };
-    match rows_of(alloc, rows_in(&smallest)) {
+    match c_rows(alloc, rows_in(&smallest)) {
         Ok(rows) => put_list(rows.as_slice(), out, count),
         Err(_) => NO_MEMORY,
     }

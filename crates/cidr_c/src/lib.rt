@@ -25,6 +25,8 @@ mod masks;
 mod names;
 mod ordering;
 mod parts;
+mod plan_words;
+mod plans;
 mod pools;
 mod printing;
 mod ranges;

@@ -47,7 +47,7 @@ pub extern "C" fn pcidr_read_list(
 }
 
 /// What is done with set bits after a prefix, and whether masks are read.
-fn host_bits_by(number: u32) -> HostBits
+pub fn host_bits_by(number: u32) -> HostBits
     ensures { result ≡ host_bits_by number }
 {
     match number {

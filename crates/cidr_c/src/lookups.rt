@@ -12,7 +12,7 @@ ghost use Rattle.cidr_c.specs.model.Values.{network_in};
 use crate::batches::networks_of;
 use crate::codes::{NO_MEMORY, NO_ROOM, NO_VALUE, OK};
 use crate::sets::set_of;
-use crate::values::{CValue, network_of};
+use crate::values::{CValue, value_network};
 use cidr::AnyIpCidr;
 use cidr_sets::NetworkSet;
 use cidr_table::LpmTable;
@@ -39,7 +39,7 @@ pub extern "C" fn pcidr_contains_each(
         return NO_ROOM;
     }
     for i in 0..asked.len() {
-        let Some(network) = network_of(&asked[i]) else {
+        let Some(network) = value_network(&asked[i]) else {
             return NO_VALUE;
         };
         out[i] = held(&set, &network);
@@ -75,7 +75,7 @@ pub extern "C" fn pcidr_longest_match_each(
         return NO_ROOM;
     }
     for i in 0..asked.len() {
-        let Some(network) = network_of(&asked[i]) else {
+        let Some(network) = value_network(&asked[i]) else {
             return NO_VALUE;
         };
         out[i] = index_of(&table, &network);
@@ -89,12 +89,12 @@ pub fn table_of(alloc: Global, values: &[CValue]) -> Result<LpmTable<AnyIpCidr, 
         (λ table. AreNetworkValues values.now × AreIndexed (map network_in values.now) table.rows)
         (λ code. ((code ≡ no_value) × ¬ (AreNetworkValues values.now)) ⊎ (code ≡ no_memory)) }
 {
-    let rows = rows_of(alloc, values)?;
+    let rows = indexed_rows(alloc, values)?;
     Ok(LpmTable::from_rows(rows))
 }
 
 /// The networks that values are, each with its index, or the number of the error.
-pub fn rows_of(alloc: Global, values: &[CValue]) -> Result<Vec<(AnyIpCidr, usize)>, u32>
+pub fn indexed_rows(alloc: Global, values: &[CValue]) -> Result<Vec<(AnyIpCidr, usize)>, u32>
     ensures { MatchResult result
         (λ rows. AreNetworkValues values.now × (rows.items ≡ placed 0 (map network_in values.now)))
         (λ code. ((code ≡ no_value) × ¬ (AreNetworkValues values.now)) ⊎ (code ≡ no_memory)) }

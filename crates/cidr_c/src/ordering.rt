@@ -8,8 +8,8 @@ ghost use Rattle.cidr_c.specs.model.Codes.{no_memory};
 
 use crate::codes::{NO_MEMORY, NO_ROOM, NO_VALUE, OK};
 use crate::finding::put_list;
-use crate::lookups::{index_of, rows_of, table_of};
-use crate::values::{CValue, network_of};
+use crate::lookups::{index_of, indexed_rows, table_of};
+use crate::values::{CValue, value_network};
 use cidr::{AnyIpCidr, NetworkBits};
 use cidr_ext::NetworkExt;
 use cidr_table::LpmTable;
@@ -71,7 +71,7 @@ pub extern "C" fn pcidr_sort_order(
 ) -> u32
     ensures { AreIndexesPut IsSortOrder networks.now out.old out.new count.old count.new result }
 {
-    match rows_of(alloc, networks) {
+    match indexed_rows(alloc, networks) {
         Ok(rows) => put_indexes(alloc, sorted(rows).as_slice(), out, count),
         Err(code) => code,
     }
@@ -119,7 +119,7 @@ pub extern "C" fn pcidr_nearest_each(alloc: Global, networks: &[CValue], out: &m
         return NO_ROOM;
     }
     for i in 0..networks.len() {
-        let Some(network) = network_of(&networks[i]) else {
+        let Some(network) = value_network(&networks[i]) else {
             return NO_VALUE;
         };
         out[i] = nearest_of(&table, &network);

@@ -13,8 +13,8 @@ ghost use Rattle.cidr_c.specs.model.Values.{IsAddressValue, IsHostValue, IsNetwo
 use crate::codes::{NO_VALUE, OK, WRAPPED, order_code};
 use crate::finding::joined;
 use crate::values::{
-    CValue, host_of, ipv4_network, ipv6_network, is_ipv4, is_ipv6, network_of, put_address,
-    put_host, put_network,
+    CValue, host_of, ipv4_network, ipv6_network, is_ipv4, is_ipv6, put_address, put_host,
+    put_network, value_network,
 };
 use cidr::laws::hosts::order_is_by_family_address_and_length;
 use cidr::{AnyIpCidr, BitString, IpInet, NetworkBits};
@@ -91,7 +91,7 @@ pub extern "C" fn pcidr_network_by_value(host: CValue, out: &mut CValue) -> u32
 pub extern "C" fn pcidr_check(value: &CValue) -> u32
     ensures { IsYesOrNo result (IsNetworkValue value.now) }
 {
-    match network_of(value) {
+    match value_network(value) {
         Some(_) => 1,
         None => 0,
     }
@@ -115,7 +115,7 @@ pub extern "C" fn pcidr_contains(outer: &CValue, inner: &CValue) -> u32
             return contains(&outer, &inner);
         }
     }
-    match (network_of(outer), network_of(inner)) {
+    match (value_network(outer), value_network(inner)) {
         (Some(outer), Some(inner)) => contains(&outer, &inner),
         _ => 0,
     }
@@ -163,7 +163,7 @@ pub extern "C" fn pcidr_compare(one: &CValue, other: &CValue) -> u32
             return compared(&one, &other);
         }
     }
-    match (network_of(one), network_of(other)) {
+    match (value_network(one), value_network(other)) {
         (Some(one), Some(other)) => compared(&one, &other),
         (Some(_), None) => order_code(Ordering::Less),
         (None, Some(_)) => order_code(Ordering::Greater),

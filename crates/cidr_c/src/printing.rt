@@ -9,7 +9,7 @@ ghost use Rattle.cidr_c.specs.model.Codes.{message};
 ghost use Rattle.cidr_c.specs.model.Values.{IsAddressValue, IsHostValue, IsNetworkValue, address_in, host_in, network_in};
 
 use crate::codes::message;
-use crate::values::{CValue, address_of, host_of, network_of};
+use crate::values::{CValue, address_of, host_of, value_network};
 
 /// Writes a string with a 0 behind, if there is room for both, and returns its length.
 pub fn print(text: &str, out: &mut [u8]) -> usize
@@ -88,7 +88,7 @@ pub extern "C" fn pcidr_print_network(network: &CValue, out: &mut [u8]) -> usize
         IsPrintedInto (any_network_text plain_text (network_in network.now)) out.old out.new result }
     ensures other { ¬ (IsNetworkValue network.now) → IsUnprinted out.old out.new result }
 {
-    match network_of(network) {
+    match value_network(network) {
         Some(network) => print(network.to_text().as_str(), out),
         None => 0,
     }
@@ -102,7 +102,7 @@ pub extern "C" fn pcidr_print_network_with_length(network: &CValue, out: &mut [u
         IsPrintedInto (any_network_text forced_text (network_in network.now)) out.old out.new result }
     ensures other { ¬ (IsNetworkValue network.now) → IsUnprinted out.old out.new result }
 {
-    match network_of(network) {
+    match value_network(network) {
         Some(network) => print(network.with_length().to_text().as_str(), out),
         None => 0,
     }
@@ -115,7 +115,7 @@ pub extern "C" fn pcidr_network_to_bytes(network: &CValue, out: &mut [u8]) -> us
         IsWrittenInto (any_network_bytes (network_in network.now)) out.old out.new result }
     ensures other { ¬ (IsNetworkValue network.now) → IsUnprinted out.old out.new result }
 {
-    match network_of(network) {
+    match value_network(network) {
         Some(network) => write(network.to_compact().as_slice(), out),
         None => 0,
     }

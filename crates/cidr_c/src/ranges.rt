@@ -95,13 +95,13 @@ fn range_of(range: &AddressRange<IpAddr>) -> CRange
     ensures ends { range_in result ≡ (ip_address_bits range.now.first, ip_address_bits range.now.last) }
 {
     CRange {
-        first: value_of(&range.first),
-        last: value_of(&range.last),
+        first: address_value(&range.first),
+        last: address_value(&range.last),
     }
 }
 
 /// An address as C has it.
-fn value_of(address: &IpAddr) -> CValue
+fn address_value(address: &IpAddr) -> CValue
     ensures is_address { IsAddressValue result }
     ensures address { address_in result ≡ address.now }
 {

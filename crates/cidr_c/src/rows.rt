@@ -7,7 +7,7 @@ ghost use Rattle.cidr_c.specs.model.Values.{network_in};
 
 use crate::codes::{NO_ROOM, NO_VALUE, NONE, OK, PRESENT};
 use crate::finding::{put_list, put_plain};
-use crate::values::{CValue, network_at, network_of};
+use crate::values::{CValue, network_at, value_network};
 use cidr::AnyIpCidr;
 use cidr_rows::{Keys, covered, covering, find, insert, longest, remove};
 
@@ -16,11 +16,11 @@ const MOST: usize = 130;
 
 /// The networks of an array.
 #[derive(Clone, Copy)]
-struct Networks<'a> {
+struct NetworkKeys<'a> {
     values: &'a [CValue],
 }
 
-impl<'a> Keys<AnyIpCidr> for Networks<'a> {
+impl<'a> Keys<AnyIpCidr> for NetworkKeys<'a> {
     ghost keys = { λ networks. map network_in networks.values.now };
 
     fn len(&self) -> usize {
@@ -37,10 +37,10 @@ impl<'a> Keys<AnyIpCidr> for Networks<'a> {
 pub extern "C" fn pcidr_rows_find(networks: &[CValue], asked: &CValue, index: &mut usize) -> u32
     ensures { IsPlaceFound networks.now asked.now index.old index.new result }
 {
-    let Some(asked) = network_of(asked) else {
+    let Some(asked) = value_network(asked) else {
         return NO_VALUE;
     };
-    match find(&Networks { values: networks }, &asked) {
+    match find(&NetworkKeys { values: networks }, &asked) {
         Ok(place) => {
             *index = place;
             OK
@@ -57,8 +57,8 @@ pub extern "C" fn pcidr_rows_find(networks: &[CValue], asked: &CValue, index: &m
 pub extern "C" fn pcidr_rows_longest(networks: &[CValue], asked: &CValue, index: &mut usize) -> u32
     ensures { IsLongestFound networks.now asked.now index.old index.new result }
 {
-    match network_of(asked) {
-        Some(asked) => put_plain(longest(&Networks { values: networks }, &asked), index),
+    match value_network(asked) {
+        Some(asked) => put_plain(longest(&NetworkKeys { values: networks }, &asked), index),
         None => NO_VALUE,
     }
 }
@@ -73,10 +73,10 @@ pub extern "C" fn pcidr_rows_covered(
 ) -> u32
     ensures { AreCovered networks.now outer.now (from.old, to.old) (from.new, to.new) result }
 {
-    let Some(outer) = network_of(outer) else {
+    let Some(outer) = value_network(outer) else {
         return NO_VALUE;
     };
-    let (first, end) = covered(&Networks { values: networks }, &outer);
+    let (first, end) = covered(&NetworkKeys { values: networks }, &outer);
     *from = first;
     *to = end;
     OK
@@ -93,11 +93,11 @@ pub extern "C" fn pcidr_rows_covering(
 ) -> u32
     ensures { AreCoveringFound networks.now asked.now out.old out.new count.old count.new result }
 {
-    let Some(asked) = network_of(asked) else {
+    let Some(asked) = value_network(asked) else {
         return NO_VALUE;
     };
     let mut indexes = [0; MOST];
-    let found = covering(&Networks { values: networks }, &asked, &mut indexes);
+    let found = covering(&NetworkKeys { values: networks }, &asked, &mut indexes);
     put_list(&indexes[..found], out, count)
 }
 

@@ -15,7 +15,7 @@ ghost use Rattle.cidr_c.specs.model.Values.{IsNetworkValue, network_in};
 use crate::codes::{NO_MEMORY, NO_VALUE};
 use crate::finding::{put_list, yes_or_no};
 use crate::sets::deliver;
-use crate::values::{CValue, network_of};
+use crate::values::{CValue, value_network};
 use cidr::AnyIpCidr;
 use cidr_sets::access::{Action, Rule, deciding, permitted, shadowed};
 use std::alloc::Global;
@@ -40,7 +40,7 @@ fn rules_of(alloc: Global, rules: &[CRule]) -> Result<Vec<Rule<AnyIpCidr>>, u32>
         return Err(NO_MEMORY);
     };
     for rule in rules {
-        let Some(network) = network_of(&rule.network) else {
+        let Some(network) = value_network(&rule.network) else {
             return Err(NO_VALUE);
         };
         let action = action_of(rule);
@@ -69,7 +69,7 @@ pub extern "C" fn pcidr_permits(rules: &[CRule], address: &CValue) -> u32
     ensures { IsYesOrNo result (AreRules rules.now × IsNetworkValue address.now
         × IsPermitted (rule_bits rules.now) (rule_actions rules.now) (any_bits (network_in address.now))) }
 {
-    let Some(address) = network_of(address) else {
+    let Some(address) = value_network(address) else {
         return 0;
     };
     if are_rules(rules) {
@@ -83,7 +83,9 @@ pub extern "C" fn pcidr_permits(rules: &[CRule], address: &CValue) -> u32
 fn are_rules(rules: &[CRule]) -> bool
     ensures { Decides result (AreRules rules.now) }
 {
-    rules.iter().all(|rule| network_of(&rule.network).is_some())
+    rules
+        .iter()
+        .all(|rule| value_network(&rule.network).is_some())
 }
 
 /// Whether the first rule whose network contains the address permits it.
@@ -104,7 +106,7 @@ fn is_for(rule: &CRule, address: &AnyIpCidr) -> bool
     requires { IsNetworkValue rule.now.network }
     ensures { Decides result (BeginsWith (any_bits address.now) (any_bits (network_in rule.now.network))) }
 {
-    match network_of(&rule.network) {
+    match value_network(&rule.network) {
         Some(network) => network.contains_cidr(address),
         None => false,
     }
@@ -176,7 +178,7 @@ pub extern "C" fn pcidr_deciding(
         Ok(rules) => rules,
         Err(code) => return code,
     };
-    let Some(network) = network_of(network) else {
+    let Some(network) = value_network(network) else {
         return NO_VALUE;
     };
     match deciding(alloc, rules.as_slice(), &network) {

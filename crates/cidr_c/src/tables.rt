@@ -9,7 +9,9 @@ ghost use Rattle.cidr_c.specs.model.Tables.{AreFound, ArePut, IsBuilt, IsChecked
 use crate::codes::{NO_MEMORY, NO_ROOM, NO_TABLE, NO_VALUE, OK, TOO_MANY};
 use crate::values::CValue;
 use cidr_files::{Ipv4Bytes, Ipv6Bytes};
-use cidr_lookup::{Address, Fault, Halves, Key, LookupTable, TableError, build, check, find};
+use cidr_lookup::{
+    Address, Ipv6Halves, Key, LookupTable, TableError, WordsFault, build, check, find,
+};
 use std::alloc::{AllocError, Global};
 
 /// Where a table lies. The calls on whole tables take its parts one by one; a look-up, whose time they count in, takes the
@@ -54,7 +56,7 @@ pub const NO_ROW: u32 = u32::MAX;
 const NO_LENGTH: u32 = 255;
 
 /// A family of addresses, as values have them.
-pub trait Family: Address {
+pub trait FromValue: Address {
     ghost use Rattle.cidr_c.specs.declared.values.CValue.{CValue};
 
     /// The number of the address and the prefix length of a value.
@@ -71,7 +73,7 @@ pub trait Family: Address {
             (λ address. ((pair value.now).1 ≡ Self.width) × (Self.value address ≡ (pair value.now).0)) };
 }
 
-impl Family for u32 {
+impl FromValue for u32 {
     ghost pair = { ipv4_pair };
 
     #[inline(always)]
@@ -97,12 +99,12 @@ impl Family for u32 {
     }
 }
 
-impl Family for Halves {
+impl FromValue for Ipv6Halves {
     ghost pair = { ipv6_pair };
 
     #[inline(always)]
-    fn key_in(value: &CValue) -> Key<Halves> {
-        let address = Halves {
+    fn key_in(value: &CValue) -> Key<Ipv6Halves> {
+        let address = Ipv6Halves {
             high: value.high,
             low: value.low,
         };
@@ -119,18 +121,18 @@ impl Family for Halves {
     }
 
     #[inline(always)]
-    fn address_in(value: &CValue) -> Option<Halves> {
+    fn address_in(value: &CValue) -> Option<Ipv6Halves> {
         if value.tag != 192 {
             return None;
         }
-        Some(Halves {
+        Some(Ipv6Halves {
             high: value.high,
             low: value.low,
         })
     }
 }
 
-impl Family for Ipv4Bytes {
+impl FromValue for Ipv4Bytes {
     ghost pair = { ipv4_pair };
 
     fn key_in(value: &CValue) -> Key<Ipv4Bytes> {
@@ -147,11 +149,11 @@ impl Family for Ipv4Bytes {
     }
 }
 
-impl Family for Ipv6Bytes {
+impl FromValue for Ipv6Bytes {
     ghost pair = { ipv6_pair };
 
     fn key_in(value: &CValue) -> Key<Ipv6Bytes> {
-        let key = Halves::key_in(value);
+        let key = Ipv6Halves::key_in(value);
         Key {
             address: [
                 key.address.high.to_le_bytes(),
@@ -163,13 +165,13 @@ impl Family for Ipv6Bytes {
 
     #[inline(always)]
     fn address_in(value: &CValue) -> Option<Ipv6Bytes> {
-        let address = Halves::address_in(value)?;
+        let address = Ipv6Halves::address_in(value)?;
         Some([address.high.to_le_bytes(), address.low.to_le_bytes()])
     }
 }
 
 /// Values as keys.
-pub fn keys_in<A: Family>(alloc: Global, values: &[CValue]) -> Result<Vec<Key<A>>, AllocError>
+pub fn keys_in<A: FromValue>(alloc: Global, values: &[CValue]) -> Result<Vec<Key<A>>, AllocError>
     ensures { IfOk result (λ keys. key_networks A.value keys.items ≡ map A.pair values.now) }
 {
     let mut keys = Vec::with_capacity(alloc, values.len())?;
@@ -180,7 +182,7 @@ pub fn keys_in<A: Family>(alloc: Global, values: &[CValue]) -> Result<Vec<Key<A>
 }
 
 /// Builds the table of networks, and puts it into a room.
-fn put_table<A: Family>(
+fn put_table<A: FromValue>(
     alloc: Global,
     networks: &[CValue],
     first: &mut [u32],
@@ -238,18 +240,19 @@ pub fn table_error_code(error: &TableError) -> u32
 }
 
 /// The number of what is wrong with the words of a table.
-pub fn words_fault_code(fault: &Fault) -> u32
+pub fn words_fault_code(fault: &WordsFault) -> u32
     ensures value { result ≡ words_fault_code fault.now }
     ensures above { 0 < result }
 {
     match fault {
-        Fault::Keys(error) => table_error_code(error),
-        Fault::Steps | Fault::TooLong | Fault::First(_) | Fault::Word(_) => NO_TABLE,
+        WordsFault::Keys(error) => table_error_code(error),
+        WordsFault::Steps | WordsFault::TooLong | WordsFault::First(_) | WordsFault::Word(_) =>
+            NO_TABLE,
     }
 }
 
 /// 0 where arrays are the table of networks, or the number of what is wrong with them.
-fn check_code<A: Family>(
+fn check_code<A: FromValue>(
     alloc: Global,
     networks: &[CValue],
     first: &[u32],
@@ -269,13 +272,13 @@ fn check_code<A: Family>(
 
 /// The row of the longest match, or that which stands for none.
 #[inline(always)]
-fn row_in<A: Family>(first: &[u32], words: &[u32], steps: u32, rows: u32, asked: &CValue) -> u32
+fn row_in<A: FromValue>(first: &[u32], words: &[u32], steps: u32, rows: u32, asked: &CValue) -> u32
     ensures { IsRowFound A.width A.padding steps rows first.now words.now (A.pair asked.now) result }
 {
     let Some(address) = A::address_in(asked) else {
         return NO_ROW;
     };
-    match row_of(first, words, steps, rows, address) {
+    match longest_row(first, words, steps, rows, address) {
         Some(row) => row as u32,
         None => NO_ROW,
     }
@@ -283,7 +286,7 @@ fn row_in<A: Family>(first: &[u32], words: &[u32], steps: u32, rows: u32, asked:
 
 /// The row of the longest match of an address, if it is one of so many.
 #[inline(always)]
-fn row_of<A: Address>(
+fn longest_row<A: Address>(
     first: &[u32],
     words: &[u32],
     steps: u32,
@@ -303,7 +306,7 @@ fn row_of<A: Address>(
 }
 
 /// The rows of many.
-fn put_rows<A: Family>(
+fn put_rows<A: FromValue>(
     first: &[u32],
     words: &[u32],
     steps: u32,
@@ -352,7 +355,7 @@ pub extern "C" fn pcidr_ipv6_table_build(
 ) -> u32
     ensures { IsBuilt 128 0 ipv6_steps (map ipv6_pair networks.now) first.old words.old first.new words.new sizes.old sizes.new result }
 {
-    put_table::<Halves>(alloc, networks, first, words, sizes)
+    put_table::<Ipv6Halves>(alloc, networks, first, words, sizes)
 }
 
 /// 0 where arrays are the table of the IPv4 networks, else the number of the first error: no memory; the steps, or more
@@ -382,7 +385,7 @@ pub extern "C" fn pcidr_ipv6_table_check(
 ) -> u32
     ensures { IsChecked 128 0 steps (map ipv6_pair networks.now) first.now words.now result }
 {
-    check_code::<Halves>(alloc, networks, first, words, steps)
+    check_code::<Ipv6Halves>(alloc, networks, first, words, steps)
 }
 
 /// The row of the longest IPv4 network that an address is in, or `u32::MAX` where it is in none, and of a value that is
@@ -410,7 +413,7 @@ pub extern "C" fn pcidr_ipv6_table_lookup(
 ) -> u32
     ensures { IsRowFound 128 0 table.now.steps table.now.rows first.now words.now (ipv6_pair address.now) result }
 {
-    row_in::<Halves>(first, words, table.steps, table.rows, address)
+    row_in::<Ipv6Halves>(first, words, table.steps, table.rows, address)
 }
 
 /// The row of each of many addresses, at its index of `out`: 0, or the number of too little room.
@@ -438,5 +441,5 @@ pub extern "C" fn pcidr_ipv6_table_lookup_each(
 ) -> u32
     ensures { AreFound 128 0 table.now.steps table.now.rows first.now words.now (map ipv6_pair asked.now) out.old out.new result }
 {
-    put_rows::<Halves>(first, words, table.steps, table.rows, asked, out)
+    put_rows::<Ipv6Halves>(first, words, table.steps, table.rows, asked, out)
 }

@@ -106,7 +106,7 @@ pub fn ipv6_network(value: &CValue) -> Option<Ipv6Cidr>
 
 /// The network that a value is, if it is one.
 #[inline(always)]
-pub fn network_of(value: &CValue) -> Option<AnyIpCidr>
+pub fn value_network(value: &CValue) -> Option<AnyIpCidr>
     ensures { MatchOption result (¬ (IsNetworkValue value.now))
         (λ network. IsNetworkValue value.now × (network ≡ network_in value.now)) }
 {

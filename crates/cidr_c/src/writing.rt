@@ -6,7 +6,7 @@ ghost use Rattle.cidr_c.specs.calls.Writing.{AreValueOffsets, IsFileWritten, IsS
 use crate::codes::{NO_MEMORY, NO_ROOM, NO_VALUE, OK, TOO_MANY, VALUES};
 use crate::tables::keys_in;
 use crate::values::{CValue, is_ipv4};
-use cidr_files::{Ipv4Bytes, Ipv6Bytes, Rows, WriteError, are_offsets, written};
+use cidr_files::{FileRows, Ipv4Bytes, Ipv6Bytes, WriteError, are_offsets, written};
 use cidr_lookup::{TableError, first_refused};
 use std::alloc::{AllocError, Global};
 
@@ -94,12 +94,12 @@ fn put_file(
     let Ok(moved) = moved(alloc, &offsets[split..], from) else {
         return NO_MEMORY;
     };
-    let ipv4_table = Rows {
+    let ipv4_table = FileRows {
         keys: ipv4_keys,
         offsets: &offsets[..split + 1],
         values: front,
     };
-    let ipv6_table = Rows {
+    let ipv6_table = FileRows {
         keys: ipv6_keys,
         offsets: moved.as_slice(),
         values: back,

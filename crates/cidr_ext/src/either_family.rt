@@ -3,6 +3,7 @@ ghost use Rattle.std.specs.Prelude.{◌≡◌, ◌≢◌, ◌↔◌, ◌<◌, �
 ghost use Rattle.cidr.specs.model.Network.{BeginsWith, width_of};
 ghost use Rattle.cidr_ext.specs.model.Tree.{AreSiblings, IsHalfOf, IsSpanning, IsSupernet};
 
+use crate::laws::length_is_within_the_width;
 use crate::network::NetworkExt;
 use cidr::{Cidr, IpCidr};
 
@@ -106,8 +107,7 @@ impl IpCidrExt for IpCidr {
     }
 
     fn halves(&self) -> Option<(IpCidr, IpCidr)> {
-        // the call tells the proof that the prefix length fits
-        let _len = self.network_length();
+        length_is_within_the_width(self);
         match self {
             IpCidr::V4(network) => {
                 let (lower, upper) = network.halves()?;

@@ -9,6 +9,7 @@ ghost use Rattle.cidr_ext.specs.texts.MaskText.{host_mask_text, IsLengthOfMask, 
 
 use crate::address::AddressExt;
 use crate::families::WholeFamily;
+use crate::laws::{address_has_its_width, length_is_within_the_width};
 use crate::numbered::CidrExt;
 use arrayvec::ArrayString;
 use cidr::{Address, Cidr, Family, IpAddr, Ipv4Addr, Ipv6Addr};
@@ -128,14 +129,12 @@ where
     C::Address: AddressExt + PrintedAddress,
 {
     fn to_mask_text(&self) -> ArrayString<79> {
-        // the call tells the proof that the prefix length fits
-        let _len = self.network_length();
+        length_is_within_the_width(self);
         with_mask(self.first_address(), self.mask())
     }
 
     fn to_host_mask_text(&self) -> ArrayString<79> {
-        // the call tells the proof that the prefix length fits
-        let _len = self.network_length();
+        length_is_within_the_width(self);
         with_mask(self.first_address(), self.host_mask())
     }
 
@@ -249,8 +248,7 @@ where
     let Some(len) = length_of_mask(mask) else {
         return Err(MaskParseError::NonContiguousMask);
     };
-    // the call tells the proof how many bits the address has
-    let _number = address.to_number();
+    address_has_its_width(address);
     C::new(address, len)
         .ok()
         .ok_or(MaskParseError::InvalidHostPart)

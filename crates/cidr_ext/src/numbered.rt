@@ -6,6 +6,7 @@ ghost use Rattle.cidr_ext.specs.model.Inside.{host_mask_of, IsAddressAt, usable_
 ghost use Rattle.cidr_ext.specs.model.Subnets.{HasExactlySubnets, IsNextNetwork, IsSubnetAt, NoSubnetAt, subnets_of};
 
 use crate::address::AddressExt;
+use crate::laws::length_is_within_the_width;
 use crate::shifts::greatest;
 use crate::subnets::{Subnets, subnet_at};
 use cidr::{Address, Cidr, Family, Inet, InetIterator, InetPair};
@@ -179,8 +180,7 @@ where
     }
 
     fn position(&self, address: &C::Address) -> Option<u128> {
-        // the call tells the proof that the prefix length fits
-        let _len = self.network_length();
+        length_is_within_the_width(self);
         if !self.contains(address) {
             return None;
         }

@@ -11,7 +11,7 @@ use Rattle.cidr_files.specs.Spelling.{wide_bytes, word_bytes}
 use Rattle.cidr_files.specs.Tables.{AreOffsets, stored_networks, offsets_in, part_at}
 use Rattle.cidr_files.specs.Written.{joined_parts, spelled}
 use Rattle.cidr_files.specs.declared.contents.Contents.{Contents}
-use Rattle.cidr_files.specs.declared.contents.Rows.{Rows}
+use Rattle.cidr_files.specs.declared.contents.FileRows.{FileRows}
 use Rattle.cidr_files.specs.declared.faults.WriteError.{WriteError}
 use Rattle.cidr_files.specs.declared.faults.WriteError.TheVariants.{Table, Values}
 use Rattle.cidr_files.specs.declared.layout.Counts.{Counts}
@@ -26,7 +26,7 @@ pub record AreContents {W : Type 0} (w padding : ℕ) (value : W → ℕ) (conte
   pub sizes : length contents.rows.now.values.now < 2 ^ 32
 
 -- the parts of a table have the rows
-pub record HasRows {W : Type 0} (numbers : List ℕ → List ℕ) (parts : List (List ℕ)) (value : W → ℕ) (rows : Rows W) : Type 0 where
+pub record HasRows {W : Type 0} (numbers : List ℕ → List ℕ) (parts : List (List ℕ)) (value : W → ℕ) (rows : FileRows W) : Type 0 where
   pub networks_are : stored_networks numbers parts ≡ key_networks value rows.keys.now
   pub offsets_are : offsets_in parts ≡ rows.offsets.now
   pub values_are : part_at parts 5 ≡ rows.values.now
@@ -45,13 +45,13 @@ HasZerosBetween bytes =
 
 -- ---- rows that are not written
 -- the values lie one behind the other, an offset for each row and one more, in fewer than 2 ^ 32 bytes
-pub record AreValues {W : Type 0} (rows : Rows W) : Type 0 where
+pub record AreValues {W : Type 0} (rows : FileRows W) : Type 0 where
   pub offsets : AreOffsets rows.offsets.now (length rows.keys.now) (length rows.values.now)
   pub sizes : length rows.values.now < 2 ^ 32
 
 -- why rows are not written: too many keys; or else the values don't lie so; or else the keys have no table. Memory may be
 -- refused whatever they are
-abbrev pub AreRowsUnwritten : {W : Type 0} → (w padding : ℕ) → (ℕ → ℕ) → (W → ℕ) → Rows W → WriteError → Type 0
+abbrev pub AreRowsUnwritten : {W : Type 0} → (w padding : ℕ) → (ℕ → ℕ) → (W → ℕ) → FileRows W → WriteError → Type 0
 AreRowsUnwritten w padding steps value rows (Table TooMany) = 2 ^ 31 ≤ length rows.keys.now
 AreRowsUnwritten w padding steps value rows (Table NoMemory) = ⊤
 AreRowsUnwritten w padding steps value rows (Table error) =
@@ -59,7 +59,7 @@ AreRowsUnwritten w padding steps value rows (Table error) =
 AreRowsUnwritten w padding steps value rows Values = (length rows.keys.now < 2 ^ 31) × ¬ (AreValues rows)
 
 -- rows that have a table
-pub record AreWritable {W : Type 0} (w padding : ℕ) (steps : ℕ → ℕ) (value : W → ℕ) (rows : Rows W) : Type 0 where
+pub record AreWritable {W : Type 0} (w padding : ℕ) (steps : ℕ → ℕ) (value : W → ℕ) (rows : FileRows W) : Type 0 where
   pub few : length rows.keys.now < 2 ^ 31
   pub values : AreValues rows
   pub first : List ℕ
@@ -68,7 +68,7 @@ pub record AreWritable {W : Type 0} (w padding : ℕ) (steps : ℕ → ℕ) (val
   pub fits : length words < 2 ^ 30
 
 -- why no file is written: for the IPv4 rows, or else for the IPv6 rows
-abbrev pub IsWriteRefused : Rows (List ℕ) → Rows (List (List ℕ)) → WriteError → Type 0
+abbrev pub IsWriteRefused : FileRows (List ℕ) → FileRows (List (List ℕ)) → WriteError → Type 0
 IsWriteRefused ipv4 ipv6 error =
     AreRowsUnwritten 32 4 ipv4_steps (from_le_bytes w32) ipv4 error
     ⊎ (AreWritable 32 4 ipv4_steps (from_le_bytes w32) ipv4 × AreRowsUnwritten 128 0 ipv6_steps wide_word ipv6 error)
@@ -106,7 +106,7 @@ file_bytes ipv4 ipv6 = spelled word_bytes (head_of (counts_of ipv4) (counts_of i
     ++ (joined_parts (parts_written (from_le_bytes w32) word_bytes ipv4) ++ joined_parts (parts_written wide_word wide_bytes ipv6))
 
 -- those of the file of rows: each table has so many steps, so that there is one such file (`one_file` in `FileLaws`)
-pub record IsFileOfRows (ipv4 : Rows (List ℕ)) (ipv6 : Rows (List (List ℕ))) (bytes : List ℕ) : Type 0 where
+pub record IsFileOfRows (ipv4 : FileRows (List ℕ)) (ipv6 : FileRows (List (List ℕ))) (bytes : List ℕ) : Type 0 where
   pub ipv4_contents : Contents (List ℕ)
   pub ipv6_contents : Contents (List (List ℕ))
   pub ipv4_are : AreContents 32 4 (from_le_bytes w32) ipv4_contents
@@ -119,7 +119,7 @@ pub record IsFileOfRows (ipv4 : Rows (List ℕ)) (ipv6 : Rows (List (List ℕ)))
 
 -- ---- what private functions promise each other
 -- what is built for rows
-pub record AreTableOf {W : Type 0} (w padding : ℕ) (steps : ℕ → ℕ) (value : W → ℕ) (rows : Rows W) (table : LookupTable) : Type 0 where
+pub record AreTableOf {W : Type 0} (w padding : ℕ) (steps : ℕ → ℕ) (value : W → ℕ) (rows : FileRows W) (table : LookupTable) : Type 0 where
   pub table_is : IsLookupTable w padding table.steps (key_networks value rows.keys.now) table.first.items table.words.items
   pub own : table.steps ≡ steps (length rows.keys.now)
   pub offsets : AreOffsets rows.offsets.now (length rows.keys.now) (length rows.values.now)

@@ -3,8 +3,8 @@
 use Rattle.std.specs.Prelude.{◌≡◌, ℕ, ◌+◌, ◌^◌, ◌<◌, ◌≤◌, List, [], ◌∷◌, length, slice_index_or, slice_range, zip}
 use Rattle.cidr_lookup.specs.Tables.{IsLookupTable}
 use Rattle.cidr_files.specs.Layout.{IsLaidOut, ipv4_counts, ipv4_parts, ipv6_counts, ipv6_parts, wide_words, words}
-use Rattle.cidr_files.specs.declared.layout.Part.{Part}
-use Rattle.cidr_files.specs.declared.layout.Table.{Table}
+use Rattle.cidr_files.specs.declared.layout.FileTable.{FileTable}
+use Rattle.cidr_files.specs.declared.layout.FileTables.{FileTables}
 
 -- ---- one after the other
 abbrev pub part_at : List (List ℕ) → ℕ → List ℕ
@@ -59,12 +59,12 @@ pub record IsSmall (bytes : List ℕ) : Type 0 where
   pub ipv6 : HasFewWords wide_words (ipv6_parts bytes)
 
 -- ---- the parts as a program has them
-abbrev pub parts_in : Part → List (List ℕ)
+abbrev pub parts_in : FileTable → List (List ℕ)
 parts_in part =
     part.first.now ∷ part.words.now ∷ part.addresses.now ∷ part.lengths.now ∷ part.offsets.now ∷ part.values.now ∷ []
 
 -- the two tables of a file's bytes
-pub record IsTableCutFrom (bytes : List ℕ) (table : Table) : Type 0 where
+pub record IsTableCutFrom (bytes : List ℕ) (table : FileTables) : Type 0 where
   pub ipv4 : parts_in table.ipv4 ≡ ipv4_parts bytes
   pub ipv4_steps : table.ipv4.steps ≡ (ipv4_counts bytes).steps
   pub ipv6 : parts_in table.ipv6 ≡ ipv6_parts bytes

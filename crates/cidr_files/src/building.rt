@@ -6,9 +6,9 @@ ghost use Rattle.cidr_files.specs.Contents.{AreContents, AreRowsUnwritten, AreTa
 ghost use Rattle.cidr_files.specs.Layout.{ipv4_counts, ipv4_parts, ipv6_counts, ipv6_parts, wide_word, wide_words, words};
 ghost use Rattle.cidr_files.specs.Tables.{IsFile, IsSmall};
 
+use crate::address::{FileAddress, Ipv4Bytes, Ipv6Bytes};
 use crate::checking::are_offsets;
-use crate::contents::{Contents, Rows};
-use crate::family::{Family, Ipv4Bytes, Ipv6Bytes};
+use crate::contents::{Contents, FileRows};
 use crate::faults::WriteError;
 use crate::writing::file_of;
 use cidr_lookup::{LookupTable, TableError, build};
@@ -23,7 +23,7 @@ use std::alloc::Global;
 /// before any.
 ///
 /// ```
-/// let ipv4 = Rows {
+/// let ipv4 = FileRows {
 ///     keys: &ipv4,
 ///     offsets: &[0, 5, 10, 14],
 ///     values: b"outerinnertest",
@@ -37,8 +37,8 @@ use std::alloc::Global;
 /// ```
 pub fn written(
     alloc: Global,
-    ipv4: &Rows<'_, Ipv4Bytes>,
-    ipv6: &Rows<'_, Ipv6Bytes>,
+    ipv4: &FileRows<'_, Ipv4Bytes>,
+    ipv6: &FileRows<'_, Ipv6Bytes>,
 ) -> Result<Vec<u8>, WriteError>
     ensures file { IfOk result (λ bytes. IsFile bytes.items) }
     ensures small { IfOk result (λ bytes. IsSmall bytes.items) }
@@ -59,7 +59,10 @@ pub fn written(
 }
 
 /// A table of rows and their words.
-fn contents_of<'a, W: Family>(rows: &'a Rows<'a, W>, table: &'a LookupTable) -> Contents<'a, W>
+fn contents_of<'a, W: FileAddress>(
+    rows: &'a FileRows<'a, W>,
+    table: &'a LookupTable,
+) -> Contents<'a, W>
     requires { AreTableOf W.width W.padding W.steps W.value rows.now table.now }
     ensures contents { AreContents W.width W.padding W.value result }
     ensures rows { result.rows.now ≡ rows.now }
@@ -74,7 +77,10 @@ fn contents_of<'a, W: Family>(rows: &'a Rows<'a, W>, table: &'a LookupTable) -> 
 }
 
 /// The look-up table of rows.
-fn table_of<W: Family>(alloc: Global, rows: &Rows<'_, W>) -> Result<LookupTable, WriteError>
+fn table_of<W: FileAddress>(
+    alloc: Global,
+    rows: &FileRows<'_, W>,
+) -> Result<LookupTable, WriteError>
     ensures table { IfOk result (AreTableOf W.width W.padding W.steps W.value rows.now) }
     ensures refused { IfErr result (AreRowsUnwritten W.width W.padding W.steps W.value rows.now) }
 {

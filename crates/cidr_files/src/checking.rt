@@ -4,17 +4,17 @@ ghost use Rattle.cidr_lookup.specs.Keys.{key_networks};
 ghost use Rattle.cidr_files.specs.Faults.{IsFaultOfBytes, IsTableFault};
 ghost use Rattle.cidr_files.specs.Tables.{AreOffsets, IsTableCutFrom, IsFile, IsStoredTable, parts_in};
 
-use crate::family::{Family, Ipv4Bytes, Ipv6Bytes};
-use crate::faults::{Fault, TableFault};
-use crate::layout::{Part, Table};
+use crate::address::{FileAddress, Ipv4Bytes, Ipv6Bytes};
+use crate::faults::{FileFault, TableFault};
+use crate::layout::{FileTable, FileTables};
 use crate::opening::open;
-use cidr_lookup::Fault::Keys;
 use cidr_lookup::TableError::NoMemory;
+use cidr_lookup::WordsFault::Keys;
 use cidr_lookup::{Address, Key, Words};
 use std::alloc::{AllocError, Global};
 
 /// The tables of a file, by [`open`] and by [`check`](crate::check) of both, in the time and memory of these. The error
-/// is the first of those that [`Fault`] names, in its order, but that want of memory for a table may come before what else
+/// is the first of those that [`FileFault`] names, in its order, but that want of memory for a table may come before what else
 /// is wrong with it.
 ///
 /// ```
@@ -22,17 +22,17 @@ use std::alloc::{AllocError, Global};
 /// name(&table, Ipv4Addr::new(10, 1, 2, 3)) // Some("inner")
 /// name(&table, Ipv4Addr::new(192, 0, 3, 0)) // None
 /// ```
-pub fn checked(alloc: Global, bytes: &[u8]) -> Result<Table<'_>, Fault>
+pub fn checked(alloc: Global, bytes: &[u8]) -> Result<FileTables<'_>, FileFault>
     ensures file { IfOk result (λ _. IsFile bytes.now) }
     ensures cut { IfOk result (IsTableCutFrom bytes.now) }
     ensures refused { IfErr result (IsFaultOfBytes bytes.now) }
 {
     let table = open(bytes)?;
     if let Err(fault) = check::<Ipv4Bytes>(alloc, &table.ipv4) {
-        return Err(Fault::Ipv4(fault));
+        return Err(FileFault::Ipv4(fault));
     }
     if let Err(fault) = check::<Ipv6Bytes>(alloc, &table.ipv6) {
-        return Err(Fault::Ipv6(fault));
+        return Err(FileFault::Ipv6(fault));
     }
     Ok(table)
 }
@@ -43,7 +43,7 @@ pub fn checked(alloc: Global, bytes: &[u8]) -> Result<Table<'_>, Fault>
 ///
 /// It takes O(n) for n rows: the table is built, and compared as it goes. It allocates the keys and their ranges, and frees
 /// them.
-pub fn check<W: Family>(alloc: Global, part: &Part<'_>) -> Result<(), TableFault>
+pub fn check<W: FileAddress>(alloc: Global, part: &FileTable<'_>) -> Result<(), TableFault>
     ensures table { IfOk result (λ _. IsStoredTable W.width W.padding W.numbers (parts_in part.now) part.now.steps) }
     ensures refused { IfErr result (IsTableFault W.width W.padding W.numbers (parts_in part.now) part.now.steps) }
 {

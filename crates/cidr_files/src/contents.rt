@@ -7,7 +7,7 @@ use cidr_lookup::Key;
 
 /// The rows of a table: networks, and a value for each.
 #[derive(Drop)]
-pub struct Rows<'a, W> {
+pub struct FileRows<'a, W> {
     /// The networks, by first address and then by length.
     pub keys: &'a [Key<W>],
     /// Where the value of each begins among the values, in bytes from 0 on, and last where they end: one more than
@@ -21,7 +21,7 @@ pub struct Rows<'a, W> {
 #[derive(Drop)]
 pub struct Contents<'a, W> {
     /// The rows.
-    pub rows: &'a Rows<'a, W>,
+    pub rows: &'a FileRows<'a, W>,
     /// The entries of the blocks of addresses, as `build` of `cidr_lookup` returns them.
     pub first: &'a [u32],
     /// The words of nodes and lists, from the same.

@@ -10,7 +10,7 @@ use std::fmt;
 pub enum TableFault {
     /// The keys or the words: the message of that. That of the keys may be that there was no memory to check the table: it
     /// may be right or wrong, in whatever way.
-    Words(cidr_lookup::Fault),
+    Words(cidr_lookup::WordsFault),
     /// The values don't lie one behind the other, or there are not as many as keys: `values not one behind the other`.
     Offsets,
 }
@@ -33,7 +33,7 @@ impl Error for TableFault {}
 
 /// What is wrong with a file: the first thing.
 #[derive(Debug, Drop, PartialEq)]
-pub enum Fault {
+pub enum FileFault {
     /// It doesn't begin with the bytes of a file of tables: `no file of tables`.
     Magic,
     /// It is of version 1 or 2, which earlier releases wrote: `of an older version, which an older netset compile made: compile
@@ -52,7 +52,7 @@ pub enum Fault {
     Ipv6(TableFault),
 }
 
-impl fmt::Display for Fault {
+impl fmt::Display for FileFault {
     ghost use Rattle.std.specs.Prelude.{Some};
     ghost use Rattle.cidr_files.specs.Messages.{fault_message};
 
@@ -60,20 +60,20 @@ impl fmt::Display for Fault {
 
     fn fmt<W: fmt::Write>(&self, f: &mut fmt::Formatter<W>) -> fmt::Result {
         match self {
-            Fault::Magic => f.write_str("no file of tables"),
-            Fault::Old => f.write_str(
+            FileFault::Magic => f.write_str("no file of tables"),
+            FileFault::Old => f.write_str(
                 "of an older version, which an older netset compile made: compile the table anew",
             ),
-            Fault::Version(other) => write!(f, "of another version than 3: {other}"),
-            Fault::Short => f.write_str("shorter than its header says"),
-            Fault::Long => f.write_str("longer than its header says"),
-            Fault::Ipv4(fault) => write!(f, "no table of IPv4: {fault}"),
-            Fault::Ipv6(fault) => write!(f, "no table of IPv6: {fault}"),
+            FileFault::Version(other) => write!(f, "of another version than 3: {other}"),
+            FileFault::Short => f.write_str("shorter than its header says"),
+            FileFault::Long => f.write_str("longer than its header says"),
+            FileFault::Ipv4(fault) => write!(f, "no table of IPv4: {fault}"),
+            FileFault::Ipv6(fault) => write!(f, "no table of IPv6: {fault}"),
         }
     }
 }
 
-impl Error for Fault {}
+impl Error for FileFault {}
 
 /// Why no file was made; [`written`](crate::written) says what comes first.
 #[derive(Debug, Drop, PartialEq)]

@@ -17,7 +17,7 @@ pub struct Counts {
 
 /// The parts of a table, in bytes as the file has them; README.md says what they are.
 #[derive(Clone, Copy)]
-pub struct Part<'a> {
+pub struct FileTable<'a> {
     /// The entries of the blocks of addresses that have the same first bits, as `cidr_lookup` has them.
     pub first: &'a [u8],
     /// The words of nodes and lists.
@@ -36,9 +36,9 @@ pub struct Part<'a> {
 
 /// The two tables of a file.
 #[derive(Clone, Copy)]
-pub struct Table<'a> {
+pub struct FileTables<'a> {
     /// The table of IPv4 networks.
-    pub ipv4: Part<'a>,
+    pub ipv4: FileTable<'a>,
     /// The table of IPv6 networks.
-    pub ipv6: Part<'a>,
+    pub ipv6: FileTable<'a>,
 }

@@ -5,22 +5,22 @@
 //! bytes. [`written`] makes the bytes of a file. README.md describes them.
 #![tactic(auto)]
 
+mod address;
 mod building;
 mod checking;
 mod contents;
-mod family;
 mod faults;
 mod layout;
 mod looking;
 mod opening;
 mod writing;
 
+pub use address::{FileAddress, Ipv4Bytes, Ipv6Bytes};
 pub use building::written;
 pub use checking::{are_offsets, check, checked};
-pub use contents::{Contents, Rows};
-pub use family::{Family, Ipv4Bytes, Ipv6Bytes};
-pub use faults::{Fault, TableFault, WriteError};
-pub use layout::{Counts, Part, Table};
+pub use contents::{Contents, FileRows};
+pub use faults::{FileFault, TableFault, WriteError};
+pub use layout::{Counts, FileTable, FileTables};
 pub use looking::{Found, find, has, lookup};
 pub use opening::{counts, open};
 pub use writing::file_of;

@@ -7,8 +7,8 @@ ghost use Rattle.cidr_lookup.specs.Keys.{prefix_bits};
 ghost use Rattle.cidr_files.specs.Layout.{words};
 ghost use Rattle.cidr_files.specs.Tables.{AreLookUps, AreOffsets, stored_networks, offsets_in, part_at, parts_in, value_in};
 
-use crate::family::Family;
-use crate::layout::Part;
+use crate::address::FileAddress;
+use crate::layout::FileTable;
 
 /// What a look-up finds: a row, and where its value lies among the values.
 #[derive(Clone, Copy)]
@@ -32,7 +32,7 @@ pub struct Found {
 /// ```
 /// let (_row, name) = lookup(&table.ipv4, address.to_bits().to_le_bytes())?;
 /// ```
-pub fn lookup<'a, W: Family>(part: &Part<'a>, address: W) -> Option<(usize, &'a [u8])>
+pub fn lookup<'a, W: FileAddress>(part: &FileTable<'a>, address: W) -> Option<(usize, &'a [u8])>
     ensures within { IfSome result (λ found. found.0 < length (stored_networks W.numbers (parts_in part.now))) }
     ensures longest { IfSome result (λ found. AreLookUps W.width W.padding W.numbers (parts_in part.now) part.now.steps
         → IsLongestMatch (prefix_bits W.width) (bits W.width (W.value address)) (stored_networks W.numbers (parts_in part.now)) (Some found.0)) }
@@ -52,7 +52,7 @@ pub fn lookup<'a, W: Family>(part: &Part<'a>, address: W) -> Option<(usize, &'a 
 /// What [`lookup`] finds, in its time, with the place of the value among the values in place of its bytes. In parts that
 /// are no table the place is inside of the values, too.
 #[inline(always)]
-pub fn find<W: Family>(part: &Part<'_>, address: W) -> Option<Found>
+pub fn find<W: FileAddress>(part: &FileTable<'_>, address: W) -> Option<Found>
     ensures within { IfSome result (λ found. found.row < length (stored_networks W.numbers (parts_in part.now))) }
     ensures longest { IfSome result (λ found. AreLookUps W.width W.padding W.numbers (parts_in part.now) part.now.steps
         → IsLongestMatch (prefix_bits W.width) (bits W.width (W.value address)) (stored_networks W.numbers (parts_in part.now)) (Some found.row)) }
@@ -64,7 +64,7 @@ pub fn find<W: Family>(part: &Part<'_>, address: W) -> Option<Found>
         AreOffsets (offsets_in (parts_in part.now)) (length (stored_networks W.numbers (parts_in part.now))) (length (part_at (parts_in part.now) 5))
         → slice_range (part_at (parts_in part.now) 5) found.from found.to ≡ value_in (parts_in part.now) found.row) }
 {
-    let row = row_of(part, address)?;
+    let row = longest_row(part, address)?;
     let (from, to) = place_of(part, row);
     Some(Found { row, from, to })
 }
@@ -75,12 +75,12 @@ pub fn find<W: Family>(part: &Part<'_>, address: W) -> Option<Found>
 /// ```
 /// has(&table.ipv6, Ipv6Bytes::of(address.to_bits()))
 /// ```
-pub fn has<W: Family>(part: &Part<'_>, address: W) -> bool
+pub fn has<W: FileAddress>(part: &FileTable<'_>, address: W) -> bool
     ensures { AreLookUps W.width W.padding W.numbers (parts_in part.now) part.now.steps
         → (IsTrue result ↔ ((network : ℕ × ℕ) × Contains (stored_networks W.numbers (parts_in part.now)) network
         × BeginsWith (bits W.width (W.value address)) (prefix_bits W.width network))) }
 {
-    match row_of(part, address) {
+    match longest_row(part, address) {
         Some(_) => true,
         None => false,
     }
@@ -88,7 +88,7 @@ pub fn has<W: Family>(part: &Part<'_>, address: W) -> bool
 
 /// The row of the longest network that an address is in.
 #[inline(always)]
-fn row_of<W: Family>(part: &Part<'_>, address: W) -> Option<usize>
+fn longest_row<W: FileAddress>(part: &FileTable<'_>, address: W) -> Option<usize>
     ensures within { IfSome result (λ row. row < length (stored_networks W.numbers (parts_in part.now))) }
     ensures short { IfSome result (λ row. row < 2 ^ 63) }
     ensures longest { AreLookUps W.width W.padding W.numbers (parts_in part.now) part.now.steps
@@ -106,7 +106,7 @@ fn row_of<W: Family>(part: &Part<'_>, address: W) -> Option<usize>
 
 /// Where the value of a row begins and ends, or twice 0 where the offsets are wrong.
 #[inline(always)]
-fn place_of(part: &Part<'_>, row: usize) -> (u32, u32)
+fn place_of(part: &FileTable<'_>, row: usize) -> (u32, u32)
     requires { row < 2 ^ 63 }
     ensures ordered { result.0 ≤ result.1 }
     ensures inside { result.1 ≤ length (part_at (parts_in part.now) 5) }

@@ -4,8 +4,8 @@ ghost use Rattle.cidr_files.specs.Faults.{IsFaultOfBytes};
 ghost use Rattle.cidr_files.specs.Layout.{IsLaidOut, bytes_behind, counts_at, ipv4_counts, ipv6_counts, padded, parts_by_size, padded_room, sizes_of, word_at};
 ghost use Rattle.cidr_files.specs.Tables.{IsTableCutFrom, parts_in};
 
-use crate::faults::Fault;
-use crate::layout::{Counts, Part, Table};
+use crate::faults::FileFault;
+use crate::layout::{Counts, FileTable, FileTables};
 
 /// The first word of a file: the bytes 89 43 49 44, which begin no UTF-8 text.
 pub(crate) const MAGIC: u32 = 0x4449_4389;
@@ -18,35 +18,35 @@ const HEADER: usize = 64;
 
 /// The tables of a file, in parts that are not yet checked: a few reads, however long it is, and no allocation. The
 /// error is the first of `Magic`, `Old` or `Version`, and `Short` or `Long`.
-pub fn open(bytes: &[u8]) -> Result<Table<'_>, Fault>
+pub fn open(bytes: &[u8]) -> Result<FileTables<'_>, FileFault>
     ensures laid_out { IfOk result (λ _. IsLaidOut bytes.now) }
     ensures cut { IfOk result (IsTableCutFrom bytes.now) }
     ensures refused { IfErr result (IsFaultOfBytes bytes.now) }
     ensures unopened { IfErr result (λ _. ¬ (IsLaidOut bytes.now)) }
 {
     if word_at(bytes, 0) != MAGIC {
-        return Err(Fault::Magic);
+        return Err(FileFault::Magic);
     }
     let version = word_at(bytes, 1);
     if 0 < version && version < VERSION {
-        return Err(Fault::Old);
+        return Err(FileFault::Old);
     }
     if version != VERSION {
-        return Err(Fault::Version(version));
+        return Err(FileFault::Version(version));
     }
     if bytes.len() < HEADER {
-        return Err(Fault::Short);
+        return Err(FileFault::Short);
     }
     let Some((ipv4, rest)) = part_of(&bytes[HEADER..], 4, &counts_at(bytes, 4)) else {
-        return Err(Fault::Short);
+        return Err(FileFault::Short);
     };
     let Some((ipv6, rest)) = part_of(rest, 16, &counts_at(bytes, 10)) else {
-        return Err(Fault::Short);
+        return Err(FileFault::Short);
     };
     if !rest.is_empty() {
-        return Err(Fault::Long);
+        return Err(FileFault::Long);
     }
-    Ok(Table { ipv4, ipv6 })
+    Ok(FileTables { ipv4, ipv6 })
 }
 
 /// The counts of the IPv4 table and of the IPv6 table, as the header of a file has them: what is behind the end counts
@@ -59,7 +59,7 @@ pub fn counts(bytes: &[u8]) -> (Counts, Counts)
 }
 
 /// The parts of a table whose addresses have so many bytes, and what lies behind them; `None` where the bytes are too few.
-fn part_of<'a>(bytes: &'a [u8], size: usize, counts: &Counts) -> Option<(Part<'a>, &'a [u8])>
+fn part_of<'a>(bytes: &'a [u8], size: usize, counts: &Counts) -> Option<(FileTable<'a>, &'a [u8])>
     requires { size ≤ 16 }
     ensures parts { IfSome result (λ found. parts_in found.0 ≡ parts_by_size (sizes_of size counts.now) bytes.now) }
     ensures steps { IfSome result (λ found. found.0.steps ≡ counts.now.steps) }
@@ -75,7 +75,7 @@ fn part_of<'a>(bytes: &'a [u8], size: usize, counts: &Counts) -> Option<(Part<'a
     let (lengths, rest) = cut(rest, rows)?;
     let (offsets, rest) = cut(rest, 4 * (rows + 1))?;
     let (values, rest) = cut(rest, counts.values as usize)?;
-    let part = Part {
+    let part = FileTable {
         first,
         words,
         addresses,

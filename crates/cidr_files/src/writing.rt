@@ -7,8 +7,8 @@ ghost use Rattle.cidr_files.specs.Spelling.{word_bytes};
 ghost use Rattle.cidr_files.specs.Tables.{IsFile, IsSmall};
 ghost use Rattle.cidr_files.specs.Written.{AreBelow, filled, free, joined_parts, spelled};
 
+use crate::address::{FileAddress, Ipv4Bytes, Ipv6Bytes};
 use crate::contents::{Contents, counts_of};
-use crate::family::{Family, Ipv4Bytes, Ipv6Bytes};
 use crate::layout::Counts;
 use crate::opening::{MAGIC, VERSION};
 use cidr_lookup::Key;
@@ -72,7 +72,10 @@ fn put_head(out: &mut Vec<u8>, ipv4: &Counts, ipv6: &Counts) -> Result<(), Alloc
 }
 
 /// Writes the parts of a table.
-fn put_contents<W: Family>(out: &mut Vec<u8>, contents: &Contents<'_, W>) -> Result<(), AllocError>
+fn put_contents<W: FileAddress>(
+    out: &mut Vec<u8>,
+    contents: &Contents<'_, W>,
+) -> Result<(), AllocError>
     requires aligned { length out.old.items % 8 ≡ 0 }
     requires lengths { AreBelow 256 (lengths_of contents.now.rows.now.keys.now) }
     ensures parts { OnOk result (out.new.items ≡ out.old.items ++ joined_parts (parts_written W.value W.bytes_of contents.now)) }
@@ -99,7 +102,7 @@ fn put_word_part(out: &mut Vec<u8>, words: &[u32]) -> Result<(), AllocError>
 }
 
 /// Writes the part of the addresses of keys.
-fn put_key_part<W: Family>(out: &mut Vec<u8>, keys: &[Key<W>]) -> Result<(), AllocError>
+fn put_key_part<W: FileAddress>(out: &mut Vec<u8>, keys: &[Key<W>]) -> Result<(), AllocError>
     requires { length out.old.items % 8 ≡ 0 }
     ensures part { OnOk result (out.new.items ≡ out.old.items ++ filled (spelled W.bytes_of (key_addresses W.value keys.now))) }
     ensures aligned { OnOk result (length out.new.items % 8 ≡ 0) }
@@ -110,7 +113,7 @@ fn put_key_part<W: Family>(out: &mut Vec<u8>, keys: &[Key<W>]) -> Result<(), All
 }
 
 /// Writes the part of their prefix lengths.
-fn put_length_part<W: Family>(out: &mut Vec<u8>, keys: &[Key<W>]) -> Result<(), AllocError>
+fn put_length_part<W: FileAddress>(out: &mut Vec<u8>, keys: &[Key<W>]) -> Result<(), AllocError>
     requires aligned { length out.old.items % 8 ≡ 0 }
     requires lengths { AreBelow 256 (lengths_of keys.now) }
     ensures part { OnOk result (out.new.items ≡ out.old.items ++ filled (lengths_of keys.now)) }
@@ -133,7 +136,7 @@ fn put_part(out: &mut Vec<u8>, part: &[u8]) -> Result<(), AllocError>
 }
 
 /// Writes the bytes of the addresses of keys.
-fn put_keys<W: Family>(out: &mut Vec<u8>, keys: &[Key<W>]) -> Result<(), AllocError>
+fn put_keys<W: FileAddress>(out: &mut Vec<u8>, keys: &[Key<W>]) -> Result<(), AllocError>
     ensures { OnOk result (out.new.items ≡ out.old.items ++ spelled W.bytes_of (key_addresses W.value keys.now)) }
 {
     for i in 0..keys.len() {
@@ -143,7 +146,7 @@ fn put_keys<W: Family>(out: &mut Vec<u8>, keys: &[Key<W>]) -> Result<(), AllocEr
 }
 
 /// Writes a byte for the prefix length of each key.
-fn put_lengths<W: Family>(out: &mut Vec<u8>, keys: &[Key<W>]) -> Result<(), AllocError>
+fn put_lengths<W: FileAddress>(out: &mut Vec<u8>, keys: &[Key<W>]) -> Result<(), AllocError>
     requires { AreBelow 256 (lengths_of keys.now) }
     ensures { OnOk result (out.new.items ≡ out.old.items ++ lengths_of keys.now) }
 {

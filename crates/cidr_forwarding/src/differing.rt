@@ -9,7 +9,8 @@ ghost use Rattle.cidr_forwarding.specs.Forwarding.{in_bits, AreNetworksOf, AreIp
 ghost use Rattle.cidr_forwarding.specs.Trees.{paired, shared_values, sole_values, differing};
 ghost use Rattle.cidr_forwarding.specs.Plans.{planned, IsNode, AreDeep, AreOf, behind};
 
-use crate::halves::{half, know_all, own_value, skipped, split};
+use crate::halves::{half, own_value, skipped, split};
+use crate::laws::keys_ascend_within_129_bits;
 use crate::same::are_ended;
 use crate::tables::rows_of;
 use cidr::NetworkBits;
@@ -49,8 +50,8 @@ pub fn differences<C: NetworkBits + Copy, V: Copy + Eq>(
 {
     let rows = rows_of(one);
     let others = rows_of(other);
-    know_all(rows);
-    know_all(others);
+    keys_ascend_within_129_bits(rows);
+    keys_ascend_within_129_bits(others);
     let mut out = Vec::new(alloc);
     differ(rows, others, 0, None, None, C::null(), &mut out)?;
     Ok(out)

@@ -1,22 +1,11 @@
 //! Rows whose keys have their first bits in common, by the next bit.
 ghost use Rattle.std.specs.Prelude.{◌≡◌, ◌+◌, ◌<◌, ◌≤◌, ◌++◌, ◌∷◌, [], Bool, false, true, length, take, drop};
 ghost use Rattle.std.specs.List.{AllByRecursion};
-ghost use Rattle.std.specs.List.Sorted.{IsStrictlySortedBy};
-ghost use Rattle.std.specs.Map.{keys_of};
 ghost use Rattle.cidr_forwarding.specs.Trees.{own, below, longer, sharing};
 ghost use Rattle.cidr_forwarding.specs.Plans.{tails, IsNode, AreDeep, AreOfOne, NextIs};
 
 use cidr::NetworkBits;
-
-/// The rows are of one network of no bits, and no key has more than 129, which a proof gets from the calls.
-pub(crate) fn know_all<C: NetworkBits + Copy, V: Copy>(rows: &[(C, V)])
-    requires { IsStrictlySortedBy C.cmp (keys_of rows.now) }
-    ensures { IsNode C.bits 0 rows.now }
-{
-    for row in rows {
-        row.0.len();
-    }
-}
+use cidr_table::laws::keys::has_at_most_129_bits;
 
 /// How many rows have no more than `depth` bits, which is at most one: the first.
 pub(crate) fn skipped<C: NetworkBits + Copy, V: Copy>(rows: &[(C, V)], depth: usize) -> usize
@@ -92,7 +81,7 @@ pub(crate) fn half<C: NetworkBits + Copy>(key: &C, depth: usize, upper: bool) ->
     requires { depth < length (C.bits key.now) }
     ensures { C.bits result ≡ take depth (C.bits key.now) ++ upper ∷ [] }
 {
-    key.len();
+    has_at_most_129_bits(key);
     let mut half = *key;
     half.clip(depth + 1);
     half.set(depth, upper);

@@ -23,6 +23,7 @@
 mod candidates;
 mod differing;
 mod halves;
+mod laws;
 mod plan;
 mod same;
 mod tables;

@@ -11,7 +11,8 @@ ghost use Rattle.cidr_forwarding.specs.Choices.{EndsIn, is_listed, head_or, note
 ghost use Rattle.cidr_forwarding.specs.Plans.{planned, measured, IsNode, AreDeep, AreOf, AreOfOne, behind, choices, put_rows};
 
 use crate::candidates::{first_of, holds, join};
-use crate::halves::{first_bits, half, know_all, own_value, shared, skipped, split};
+use crate::halves::{first_bits, half, own_value, shared, skipped, split};
+use crate::laws::keys_ascend_within_129_bits;
 use cidr::NetworkBits;
 use std::alloc::{AllocError, Global};
 
@@ -72,7 +73,7 @@ fn smallest<C: NetworkBits + Copy, V: Copy + Ord>(
     ensures rows { IfOk result (λ smallest. in_bits C.bits smallest.items ≡ put_rows V.eq holes (planned C.bits 0 None rows.now) None) }
     ensures node { IsNode C.bits 0 rows.now }
 {
-    know_all(rows);
+    keys_ascend_within_129_bits(rows);
     // tables of routers and of GeoIP have some 1.1 counts and 2.5 to 3.1 candidates a row
     let quarter = rows.len() / 4;
     let mut counts = Vec::with_capacity(alloc, quarter.saturating_mul(5))?;

@@ -8,7 +8,8 @@ ghost use Rattle.cidr_forwarding.specs.Forwarding.{AreNetworksOf, AreIpRows, For
 ghost use Rattle.cidr_forwarding.specs.Trees.{agree};
 ghost use Rattle.cidr_forwarding.specs.Plans.{planned, IsNode, AreDeep};
 
-use crate::halves::{know_all, own_value, skipped, split};
+use crate::halves::{own_value, skipped, split};
+use crate::laws::keys_ascend_within_129_bits;
 use crate::tables::rows_of;
 use cidr::NetworkBits;
 use cidr_table::LpmTable;
@@ -36,8 +37,8 @@ pub fn forwards_same<C: NetworkBits + Copy, V: Copy + Eq>(
 {
     let rows = rows_of(one);
     let others = rows_of(other);
-    know_all(rows);
-    know_all(others);
+    keys_ascend_within_129_bits(rows);
+    keys_ascend_within_129_bits(others);
     agree(rows, others, 0, None, None)
 }
 

@@ -2,8 +2,8 @@
 use Rattle.std.specs.Prelude.{◌≡◌, ◌<◌, ℕ, Bool, true, List, ◌∷◌, ◌++◌, length, take, Option, Some, None, Result, Ok, Err, IfSome, IsUtf8}
 use Rattle.std.specs.List.{All, slice_get}
 use Rattle.cidr_io.specs.Shown.{byte_excerpt}
-use Rattle.cidr_io.specs.declared.arguments.ReadError.{ReadError}
-use Rattle.cidr_io.specs.declared.arguments.ReadError.TheVariants.{NotText, NoMemory}
+use Rattle.cidr_io.specs.declared.arguments.ArgumentReadError.{ArgumentReadError}
+use Rattle.cidr_io.specs.declared.arguments.ArgumentReadError.TheVariants.{NotText, NoMemory}
 use Rattle.std.specs.declared.env.FillError.{FillError}
 use Rattle.std.specs.declared.env.FillError.TheVariants.{NotPresent, TooLong}
 
@@ -31,6 +31,6 @@ IsNotText told shown = IfSome told (λ given. (before after : List (List ℕ)) �
     × All IsUtf8 before × ¬ (IsUtf8 argument) × (shown ≡ byte_excerpt argument))
 
 -- why they are not read; `refused` tells whether an allocation was refused
-abbrev pub AreUnread : Option (List (List ℕ)) → Bool → ReadError → Type 0
+abbrev pub AreUnread : Option (List (List ℕ)) → Bool → ArgumentReadError → Type 0
 AreUnread told refused (NotText shown) = IsNotText told shown.bytes
 AreUnread told refused NoMemory = refused ≡ true

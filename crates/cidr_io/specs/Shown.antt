@@ -4,8 +4,8 @@ use Rattle.std.specs.Char.{digit_char, encode_utf8, is_ascii_control, is_control
 use Rattle.std.specs.Int.{is_in_range}
 use Rattle.std.specs.List.{flat_map, list_any}
 use Rattle.std.specs.Str.{chars}
-use Rattle.cidr_io.specs.declared.shown.Part.{Part}
-use Rattle.cidr_io.specs.declared.shown.Part.TheVariants.{Plain, Shown}
+use Rattle.cidr_io.specs.declared.shown.MessagePart.{MessagePart}
+use Rattle.cidr_io.specs.declared.shown.MessagePart.TheVariants.{Plain, Shown}
 
 -- `\x` and two hexadecimal digits
 abbrev pub escape : ℕ → List ℕ
@@ -46,7 +46,7 @@ abbrev pub byte_excerpt : List ℕ → List ℕ
 byte_excerpt bytes = cut_to 40 (map shown_byte bytes)
 
 -- a part of a message: the program's own words, or a string from outside
-abbrev pub part_text : Part → List ℕ
+abbrev pub part_text : MessagePart → List ℕ
 part_text (Plain text) = text.now
 part_text (Shown text) = shown text.now
 

@@ -30,12 +30,12 @@ pub trait Arguments {
 
 /// The arguments that the system has given, which nothing is told of.
 #[derive(Clone, Copy)]
-pub struct Given<'a, R: Env> {
+pub struct SystemArguments<'a, R: Env> {
     /// The system.
     pub system: &'a R,
 }
 
-impl<R: Env> Arguments for Given<'_, R> {
+impl<R: Env> Arguments for SystemArguments<'_, R> {
     ghost use Rattle.std.specs.Prelude.{None};
 
     ghost told = { λ _. None };
@@ -47,21 +47,21 @@ impl<R: Env> Arguments for Given<'_, R> {
 
 /// Why the arguments can't be read.
 #[derive(Debug, Drop, PartialEq)]
-pub enum ReadError {
+pub enum ArgumentReadError {
     /// An argument is not UTF-8: its beginning, as `byte_excerpt` shows it.
     NotText(ArrayString<42>),
     /// An allocation for the arguments was refused.
     NoMemory,
 }
 
-impl From<AllocError> for ReadError {
+impl From<AllocError> for ArgumentReadError {
     ghost use Rattle.std.specs.Prelude.{◌≡◌};
-    ghost use Rattle.cidr_io.specs.declared.arguments.ReadError.TheVariants.{NoMemory};
+    ghost use Rattle.cidr_io.specs.declared.arguments.ArgumentReadError.TheVariants.{NoMemory};
 
     ghost from_gives = { λ _ e. e ≡ NoMemory };
 
-    fn from(_error: AllocError) -> ReadError {
-        ReadError::NoMemory
+    fn from(_error: AllocError) -> ArgumentReadError {
+        ArgumentReadError::NoMemory
     }
 }
 
@@ -100,7 +100,7 @@ fn bytes_at<M: Memory, A: Arguments>(
 pub fn texts_of<M: Memory, A: Arguments>(
     memory: &mut M,
     arguments: &A,
-) -> Result<Vec<String>, ReadError>
+) -> Result<Vec<String>, ArgumentReadError>
     ensures { MatchResult result (λ texts. AreArguments (A.told arguments.now) (map string_bytes texts.items))
         (AreUnread (A.told arguments.now) (M.refused memory.new)) }
 {
@@ -111,7 +111,7 @@ pub fn texts_of<M: Memory, A: Arguments>(
         };
         let text = match String::from_utf8(bytes) {
             Ok(text) => text,
-            Err(e) => return Err(ReadError::NotText(byte_excerpt(e.as_bytes()))),
+            Err(e) => return Err(ArgumentReadError::NotText(byte_excerpt(e.as_bytes()))),
         };
         memory.reserve(&mut texts, 1)?;
         let Ok(()) = texts.push(text) else {

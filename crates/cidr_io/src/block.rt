@@ -5,7 +5,7 @@ ghost use Rattle.cidr_io.specs.Collecting.{Collects, HasSaid};
 ghost use Rattle.cidr_io.specs.Shown.{part_text, shown};
 ghost use Rattle.cidr_io.specs.Writing.{Answered, Tells, State, Writes};
 
-use crate::shown::{Part, shown_char};
+use crate::shown::{MessagePart, shown_char};
 use crate::sink::{OutputFailed, Sink};
 use crate::writing::{flush, write_all};
 use arrayvec::ArrayVec;
@@ -43,12 +43,12 @@ fn total_len(parts: &[&[u8]]) -> usize {
 }
 
 /// The most bytes that the parts of a message may have: four for each byte of a string that is shown.
-fn most_len(parts: &[Part<'_>]) -> usize {
+fn most_len(parts: &[MessagePart<'_>]) -> usize {
     let mut len = 0usize;
     for part in parts {
         len = len.saturating_add(match part {
-            Part::Plain(text) => text.len(),
-            Part::Shown(text) => text.len().saturating_mul(4),
+            MessagePart::Plain(text) => text.len(),
+            MessagePart::Shown(text) => text.len().saturating_mul(4),
         });
     }
     len
@@ -145,12 +145,12 @@ impl Block {
     }
 
     /// Appends a part of a message.
-    fn push_part<S: Sink>(&mut self, out: &mut S, part: Part<'_>) -> Result<(), OutputFailed>
+    fn push_part<S: Sink>(&mut self, out: &mut S, part: MessagePart<'_>) -> Result<(), OutputFailed>
         ensures { Collects (S.state out.old) (S.state out.new) self.old self.new (part_text part.entry) result }
     {
         match part {
-            Part::Plain(text) => self.push(out, text.as_bytes()),
-            Part::Shown(text) => self.push_shown(out, text),
+            MessagePart::Plain(text) => self.push(out, text.as_bytes()),
+            MessagePart::Shown(text) => self.push_shown(out, text),
         }
     }
 
@@ -159,7 +159,7 @@ impl Block {
     pub fn push_message<S: Sink>(
         &mut self,
         out: &mut S,
-        parts: &[Part<'_>],
+        parts: &[MessagePart<'_>],
     ) -> Result<(), OutputFailed>
         ensures { Collects (S.state out.old) (S.state out.new) self.old self.new (flat_map part_text parts.now) result }
     {
@@ -181,7 +181,7 @@ impl Block {
     }
 
     /// Appends a message as `push_message` does, as far as the sink takes messages: one that has failed gets nothing.
-    pub fn say_message<S: Sink>(&mut self, out: &mut S, parts: &[Part<'_>])
+    pub fn say_message<S: Sink>(&mut self, out: &mut S, parts: &[MessagePart<'_>])
         ensures { (start : State) (text : List ℕ) → HasSaid start (S.state out.old) self.old text
             → HasSaid start (S.state out.new) self.new (text ++ flat_map part_text parts.now) }
     {

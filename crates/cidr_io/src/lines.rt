@@ -3,7 +3,7 @@ ghost use Rattle.std.specs.Prelude.{◌≡◌, ◌<◌, ◌≤◌, [], Ok, None,
 ghost use Rattle.std.specs.Bool.{Decides};
 ghost use Rattle.std.specs.Io.KnownBytes.{IsAtEnd, prepend_known};
 ghost use Rattle.cidr_io.specs.Lines.{HasNoFeed, IsFirstFeed, IsNextLine, IsTooLong, KeepsLines, MayFail, StaysTold, kept_of};
-ghost use Rattle.cidr_io.specs.declared.lines.ReadError.TheVariants.{Failed, NoMemory};
+ghost use Rattle.cidr_io.specs.declared.lines.LineReadError.TheVariants.{Failed, NoMemory};
 
 use crate::memory::Memory;
 use crate::source::Source;
@@ -21,21 +21,21 @@ const KEPT: usize = MOST_BYTES + 1;
 
 /// Why a line is not read.
 #[derive(Clone, Copy, Debug, Drop, PartialEq)]
-pub enum ReadError {
+pub enum LineReadError {
     /// A read of the source has failed.
     Failed,
     /// An allocation was refused.
     NoMemory,
 }
 
-impl From<AllocError> for ReadError {
+impl From<AllocError> for LineReadError {
     ghost use Rattle.std.specs.Prelude.{◌≡◌};
-    ghost use Rattle.cidr_io.specs.declared.lines.ReadError.TheVariants.{NoMemory};
+    ghost use Rattle.cidr_io.specs.declared.lines.LineReadError.TheVariants.{NoMemory};
 
     ghost from_gives = { λ _ e. e ≡ NoMemory };
 
-    fn from(_error: AllocError) -> ReadError {
-        ReadError::NoMemory
+    fn from(_error: AllocError) -> LineReadError {
+        LineReadError::NoMemory
     }
 }
 
@@ -69,7 +69,7 @@ fn read_more<M: Memory, S: Source>(
     source: &mut S,
     chunk: &mut [u8],
     block: &mut Vec<u8>,
-) -> Result<bool, ReadError>
+) -> Result<bool, LineReadError>
     requires { 0 < length chunk.old }
     ensures told { OnOk result (StaysTold (prepend_known block.old.items (S.left source.old))
         (prepend_known block.new.items (S.left source.new))) }
@@ -81,7 +81,7 @@ fn read_more<M: Memory, S: Source>(
     ensures refused { IfErr result (λ e. e ≡ NoMemory → M.refused memory.new ≡ true) }
 {
     let Some(count) = source.read_some(chunk) else {
-        return Err(ReadError::Failed);
+        return Err(LineReadError::Failed);
     };
     memory.reserve(block, count)?;
     let Ok(()) = block.extend_from_slice(&chunk[..count]) else {
@@ -97,7 +97,7 @@ fn fill_line<M: Memory, S: Source>(
     source: &mut S,
     chunk: &mut [u8],
     block: &mut Vec<u8>,
-) -> Result<Option<usize>, ReadError>
+) -> Result<Option<usize>, LineReadError>
     requires { 0 < length chunk.old }
     ensures lines { OnOk result (KeepsLines (prepend_known block.old.items (S.left source.old))
         (prepend_known block.new.items (S.left source.new))) }
@@ -118,7 +118,7 @@ fn fill_line<M: Memory, S: Source>(
             return Ok(None);
         }
     }
-    Err(ReadError::Failed)
+    Err(LineReadError::Failed)
 }
 
 /// How many bytes are kept of a line of so many.
@@ -139,7 +139,7 @@ fn find_line<M: Memory, S: Source>(
     block: &mut Vec<u8>,
     next: usize,
     ahead: Option<usize>,
-) -> Result<(usize, Option<usize>), ReadError>
+) -> Result<(usize, Option<usize>), LineReadError>
     requires chunk { 0 < length chunk.old }
     requires within { next ≤ vec_len block.old }
     requires ahead { IfSome ahead (IsFirstFeed (drop next block.old.items)) }
@@ -178,7 +178,7 @@ fn new_chunk<M: Memory>(memory: &mut M) -> Result<Vec<u8>, AllocError>
 pub fn read_to_end<M: Memory, S: Source + Drop>(
     memory: &mut M,
     source: S,
-) -> Result<Vec<u8>, ReadError>
+) -> Result<Vec<u8>, LineReadError>
     ensures bytes { IfOk result (λ bytes. IfSome (S.left source) (λ text. bytes.items ≡ text)) }
     ensures failed { IfErr result (λ e. e ≡ Failed → S.left source ≡ None) }
     ensures refused { IfErr result (λ e. e ≡ NoMemory → M.refused memory.new ≡ true) }
@@ -230,7 +230,7 @@ impl<S: Source + Drop> Model for LineReader<S> {
 impl<S: Source + Drop> LineReader<S> {
     /// A reader of a source, of which nothing is read yet: it is at no line. The error is `NoMemory`, for the room of
     /// 64 KiB.
-    pub fn new<M: Memory>(memory: &mut M, source: S) -> Result<LineReader<S>, ReadError>
+    pub fn new<M: Memory>(memory: &mut M, source: S) -> Result<LineReader<S>, LineReadError>
         ensures left { IfOk result (λ reader. reader.left ≡ S.left source) }
         ensures line { IfOk result (λ reader. reader.line ≡ []) }
         ensures refused { IfErr result (λ e. (e ≡ NoMemory) × (M.refused memory.new ≡ true)) }
@@ -254,7 +254,7 @@ impl<S: Source + Drop> LineReader<S> {
     /// It takes time in the length of the line, also of one that is too long. The errors are `Failed` where a read of
     /// the source fails, and `NoMemory`, which `memory` remembers. After an error the reader is at no line, and what it
     /// reads next is not told.
-    pub fn read_line<M: Memory>(&mut self, memory: &mut M) -> Result<bool, ReadError>
+    pub fn read_line<M: Memory>(&mut self, memory: &mut M) -> Result<bool, LineReadError>
         ensures line { IfOk result (λ more. IfSome self.old.left
             (λ text. IsNextLine text self.new.line more self.new.left)) }
         ensures failed { IfErr result (λ e. e ≡ Failed → MayFail self.old.left) }

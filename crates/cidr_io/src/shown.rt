@@ -10,7 +10,7 @@ const MOST: usize = 40;
 
 /// A part of a message.
 #[derive(Clone, Copy)]
-pub enum Part<'a> {
+pub enum MessagePart<'a> {
     /// The program's own words.
     Plain(&'a str),
     /// A string from outside, which is shown in whole: a control character as `\x` and its code, a hidden one as `\u` and its code.

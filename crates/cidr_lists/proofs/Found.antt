@@ -16,8 +16,8 @@ use Rattle.cidr_lists.specs.declared.entries.Entry.{Entry}
 use Rattle.cidr_lists.specs.declared.entries.Place.{Place}
 use Rattle.cidr_lists.specs.declared.findings.Finding.{Finding}
 use Rattle.cidr_lists.specs.declared.findings.Finding.TheVariants.{HostBits, NotCanonical, Repeats, Inside, Mergeable}
-use Rattle.cidr_lists.specs.declared.findings.Kind.{Kind}
-use Rattle.cidr_lists.specs.declared.findings.Kind.TheVariants as looked
+use Rattle.cidr_lists.specs.declared.findings.FindingKind.{FindingKind}
+use Rattle.cidr_lists.specs.declared.findings.FindingKind.TheVariants as looked
 use Rattle.cidr_lists.specs.declared.findings.Note.{Note}
 use Rattle.cidr_lists.specs.declared.near.Near.{Near}
 use Rattle.cidr_lists.proofs.Nested.{sibling_same}
@@ -284,7 +284,7 @@ module _ (entries : List Entry) (i : ℕ) (entry : Entry) where
   form_found true is = (None, canonical entries i entry is)
   form_found false is = (Some (noted (NotCanonical entry.host)), (refl, refl, not_canonical entries i entry is))
 
-  pub some_found : (near : Near) → IsNear (map entry_network entries) (entry_network entry) near → (k : Kind)
+  pub some_found : (near : Near) → IsNear (map entry_network entries) (entry_network entry) near → (k : FindingKind)
       → (note : Option Note) × IsOnlyNote entries i entry (kind_rank k) note
   some_found near h looked.HostBits = elim (cases_lt (host_part (host_parts entry.host)) 1) [
     | inl none ↦ (None, no_host_bits entries i entry none)

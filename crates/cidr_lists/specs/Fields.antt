@@ -71,7 +71,7 @@ begin_of (Byte separator) line = line
 abbrev pub behind_field : Separator → List ℕ → List ℕ
 behind_field separator line = after_first (separates separator) (begin_of separator line)
 
--- the field at a place, from 0 on: what stands before the next byte that parts fields; empty in a line of fewer fields
+-- the field at an index, counted from 0: what stands before the next byte that parts fields; empty in a line of fewer fields
 abbrev pub field_at : Separator → ℕ → List ℕ → List ℕ
 field_at separator zero line = before_first (separates separator) (begin_of separator line)
 field_at separator (suc place) line = field_at separator place (behind_field separator line)

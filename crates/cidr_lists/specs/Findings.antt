@@ -16,8 +16,8 @@ use Rattle.cidr_lists.specs.declared.entries.Entry.{Entry}
 use Rattle.cidr_lists.specs.declared.entries.Place.{Place}
 use Rattle.cidr_lists.specs.declared.findings.Finding.{Finding}
 use Rattle.cidr_lists.specs.declared.findings.Finding.TheVariants.{HostBits, NotCanonical, Repeats, Inside, Mergeable}
-use Rattle.cidr_lists.specs.declared.findings.Kind.{Kind}
-use Rattle.cidr_lists.specs.declared.findings.Kind.TheVariants as kind
+use Rattle.cidr_lists.specs.declared.findings.FindingKind.{FindingKind}
+use Rattle.cidr_lists.specs.declared.findings.FindingKind.TheVariants as kind
 use Rattle.cidr_lists.specs.declared.findings.Note.{Note}
 
 -- the network of an entry
@@ -115,7 +115,7 @@ IsOnlyNote entries index entry place (Some note) =
     (note.index ≡ index) × (note.place ≡ entry.place) × IsOnly (IsFinding entries index entry) place (Some note.finding)
 
 -- the rank of the findings of a kind
-abbrev pub kind_rank : Kind → ℕ
+abbrev pub kind_rank : FindingKind → ℕ
 kind_rank kind.HostBits = 0
 kind_rank kind.Form = 1
 kind_rank kind.Same = 2

@@ -1,6 +1,6 @@
 -- How a row of a table has a network and its value: as fields; as the files of routes and origins that CAIDA publishes
 -- ("Routeviews Prefix-to-AS mappings", pfx2as); or as `ip route` of iproute2 prints routes (ip-route(8)).
-use Rattle.std.specs.Prelude.{◌≡◌, ◌≢◌, ◌⊎◌, ◌==◌, ℕ, ◌^◌, ◌<◌, Bool, true, false, if◌then◌else◌, List, [], ◌∷◌, ◌++◌, codes, length, slice_index_or, take, ◌+◌, IsUtf8, Option, Some, None}
+use Rattle.std.specs.Prelude.{◌≡◌, ◌≢◌, ◌⊎◌, ◌==◌, ℕ, ◌^◌, ◌<◌, ◌≤◌, Bool, true, false, if◌then◌else◌, List, [], ◌∷◌, ◌++◌, codes, length, slice_index_or, take, ◌+◌, IsUtf8, Option, Some, None}
 use Rattle.std.specs.List.{All}
 use Rattle.std.specs.Str.{bytes_eq, IsTrimAscii}
 use Rattle.std.specs.declared.cmp.Ordering.TheVariants.{Greater}
@@ -59,7 +59,7 @@ abbrev pub with_length : IpAddr → List ℕ → List ℕ
 with_length address len = ip_text address ++ slash ∷ len
 
 -- ---- a row
--- the field of the rest of a row at a place, from 0 on
+-- the field of the rest of a row at an index, counted from 0
 abbrev pub place_at : Separator → ℕ → Column
 place_at separator place = record { place = place; separator = separator }
 
@@ -113,11 +113,11 @@ IsBadCell bits first NoField = first ≡ []
 IsBadCell bits first (Quoted text) = (begins_quoted first ≡ true) × (text.bytes ≡ byte_excerpt first)
 IsBadCell bits first e = (first ≢ []) × (begins_quoted first ≡ false) × IsNoNetworkField bits first e
 
--- the field of the length behind an address is missing; or it is longer than any length or mask; or the two are no network
+-- the field of the length behind an address is missing; or it is longer than any length or mask; or else the two are no network
 abbrev pub IsBadLength : HostBits → IpAddr → List ℕ → LineError → Type 0
 IsBadLength bits address len NoField = len ≡ []
 IsBadLength bits address len (NoLength text) = (45 < length len) × (text.bytes ≡ byte_excerpt len)
-IsBadLength bits address len e = (len ≢ []) × IsNoNetworkField bits (with_length address len) e
+IsBadLength bits address len e = (len ≢ []) × (length len ≤ 45) × IsNoNetworkField bits (with_length address len) e
 
 -- it is a range
 abbrev pub IsBadRange : Separator → List ℕ → List ℕ → LineError → Type 0

@@ -31,7 +31,7 @@ use Rattle.cidr_lists.specs.declared.records.RecordType.TheVariants.{Addresses, 
 abbrev pub bar : Separator
 bar = Byte 124
 
--- the field of a record at a place, from 0 on
+-- the field of a record at an index, counted from 0
 abbrev pub record_column : ℕ → Column
 record_column place = record { place = place; separator = bar }
 
@@ -95,10 +95,10 @@ abbrev pub RecordSays : List ℕ → List IpCidr → Type 0
 RecordSays line said = ¬ (IsTooLong line) × (content : Content) × IsRecordContent line content × AreContentNetworks content said
 
 -- ---- a record in error
--- the value is not UTF-8; or it is no number of addresses, or there are not so many from the first one on
+-- the value is not UTF-8; or else it is no number of addresses, or there are not so many from the first one on
 abbrev pub IsBadCount : List Bool → List ℕ → LineError → Type 0
 IsBadCount first value (NotUtf8 text) = ¬ (IsUtf8 value) × (text.bytes ≡ byte_excerpt value)
-IsBadCount first value (NoCount text) = ((count : ℕ) → IsCount value count → (count ≡ 0) ⊎ (2 ^ 32 < number first + count))
+IsBadCount first value (NoCount text) = IsUtf8 value × ((count : ℕ) → IsCount value count → (count ≡ 0) ⊎ (2 ^ 32 < number first + count))
     × (text.bytes ≡ byte_excerpt value)
 IsBadCount first value e = ⊥
 

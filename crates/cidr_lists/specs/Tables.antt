@@ -5,15 +5,12 @@ use Rattle.cidr.specs.declared.cidr.combined.IpCidr.{IpCidr}
 use Rattle.cidr.specs.declared.cidr.combined.IpCidr.TheVariants.{V4, V6}
 use Rattle.cidr.specs.declared.family.Family.{Family}
 use Rattle.cidr.specs.declared.family.Family.TheVariants.{Ipv4, Ipv6}
-use Rattle.cidr_lookup.specs.Rows.{IsCountRefused}
-use Rattle.cidr_lookup.specs.declared.table.TableError.{TableError}
 use Rattle.cidr_table.specs.model.LastRows.{AreLastRows}
 use Rattle.cidr_lists.specs.Lists.{Text, bits_in, lines_of}
 use Rattle.cidr_lists.specs.Forms.{RowSays}
 use Rattle.cidr_lists.specs.declared.forms.RowForm.{RowForm}
-use Rattle.cidr_lists.specs.declared.rows.Rows.{Rows}
+use Rattle.cidr_lists.specs.declared.rows.RowList.{RowList}
 use Rattle.cidr_lists.specs.declared.rows.Span.{Span}
-use Rattle.cidr_lists.specs.declared.table.Table.{Table}
 
 -- ---- a table
 -- a network of either family with what belongs to it, if it is of this family
@@ -46,7 +43,7 @@ abbrev pub resolved : {C : Type 0} → List ℕ → C × Span → C × List ℕ
 resolved values row = (row.0, value_at values row.1)
 
 -- the rows of a family
-abbrev pub stored : Rows → Family → List (List Bool × Span)
+abbrev pub stored : RowList → Family → List (List Bool × Span)
 stored rows Ipv4 = rows.v4.items
 stored rows Ipv6 = rows.v6.items
 
@@ -55,28 +52,18 @@ abbrev pub AreSpansWithin : List ℕ → List (List Bool × Span) → Type 0
 AreSpansWithin values rows = AllByRecursion (λ row. row.1.start + row.1.len ≤ length values) rows
 
 -- the rows that lines say
-pub record Stores (rows : Rows) (said : List (Option (IpCidr × List ℕ))) : Type 0 where
+pub record Stores (rows : RowList) (said : List (Option (IpCidr × List ℕ))) : Type 0 where
   pub same : (family : Family) → map (resolved rows.values.items) (stored rows family) ≡ rows_in family said
   pub within : (family : Family) → AreSpansWithin rows.values.items (stored rows family)
 
 -- a value comes behind those before, and its row behind those of its family
-pub record Pushes (old new : Rows) (network : IpCidr) (value : List ℕ) : Type 0 where
+pub record Pushes (old new : RowList) (network : IpCidr) (value : List ℕ) : Type 0 where
   pub values : new.values.items ≡ old.values.items ++ value
   pub rows : (family : Family) → stored new family
       ≡ stored old family ++ row_in family (network, record { start = length old.values.items; len = length value })
 
 -- rows with the same networks and values
-pub record AreCopies (rows others : Rows) : Type 0 where
+pub record AreCopies (rows others : RowList) : Type 0 where
   pub v4 : others.v4.items ≡ rows.v4.items
   pub v6 : others.v6.items ≡ rows.v6.items
   pub values : others.values.items ≡ rows.values.items
-
--- why rows make no table: a family has too many networks or too many words of look-ups, or there is no memory
-abbrev pub IsTableRefused : Rows → TableError → Type 0
-IsTableRefused rows e =
-    (family : Family) × (networks : List (List Bool × Span)) × AreLastRows (stored rows family) networks × IsCountRefused (length networks) e
-
--- the rows of a table, of each key one
-abbrev pub kept : Table → Family → List (List Bool × List ℕ)
-kept table Ipv4 = map (resolved table.values.items) table.v4.rows
-kept table Ipv6 = map (resolved table.values.items) table.v6.rows

@@ -134,7 +134,7 @@ fn mergeable<'a>(
 
 /// What is looked for in a line.
 #[derive(Clone, Copy, Debug)]
-pub enum Kind {
+pub enum FindingKind {
     /// Set bits after the prefix.
     HostBits,
     /// Another string than the printed one.
@@ -151,7 +151,7 @@ pub enum Kind {
 /// constant time. `index` is that of the line among the lines, counted from 0. The caller has to prove that `near` is
 /// what `near_at` gave for the line, among the same lines.
 pub fn find<'a>(
-    kind: Kind,
+    kind: FindingKind,
     entries: &[Entry<'a>],
     near: Near,
     index: usize,
@@ -161,10 +161,10 @@ pub fn find<'a>(
     ensures { IsOnlyNote entries.now index entry.now (kind_rank kind) result }
 {
     match kind {
-        Kind::HostBits => host_bits(entries, index, entry),
-        Kind::Form => not_canonical(entries, index, entry),
-        Kind::Same => repeats(entries, near, index, entry),
-        Kind::Outer => inside(entries, near, index, entry),
-        Kind::Half => mergeable(entries, near, index, entry),
+        FindingKind::HostBits => host_bits(entries, index, entry),
+        FindingKind::Form => not_canonical(entries, index, entry),
+        FindingKind::Same => repeats(entries, near, index, entry),
+        FindingKind::Outer => inside(entries, near, index, entry),
+        FindingKind::Half => mergeable(entries, near, index, entry),
     }
 }

@@ -445,7 +445,7 @@ pub fn walk_layout<'a>(style: Option<Style<'a>>, family: Family) -> Layout<'a>
 }
 
 /// Appends a network.
-fn push_row<C: FamilyCidr>(
+fn push_network<C: FamilyCidr>(
     text: &mut Vec<u8>,
     layout: &Layout<'_>,
     network: &C,
@@ -470,7 +470,7 @@ fn push_later_rows<C: FamilyCidr>(
 {
     for network in networks {
         text.extend_from_slice(layout.between.as_bytes())?;
-        push_row(text, layout, network)?;
+        push_network(text, layout, network)?;
     }
     Ok(())
 }
@@ -489,7 +489,7 @@ fn push_layout<C: FamilyCidr>(
         return Ok(());
     };
     text.extend_from_slice(layout.head.as_bytes())?;
-    push_row(text, layout, first)?;
+    push_network(text, layout, first)?;
     push_later_rows(text, layout, rest)?;
     text.extend_from_slice(layout.tail.as_bytes())?;
     Ok(())

@@ -1,9 +1,10 @@
-//! Laws, each as the contract of a function that does nothing. After a call, a caller's proof has the law; a program
+//! Laws, each as the contract of a function that changes nothing. After a call, a caller's proof has the law; a program
 //! that runs needs none of these.
 ghost use Rattle.std.specs.Prelude.{◌≡◌, [], ◌∷◌, ◌==◌, ℕ, Bool, List, ◌++◌, Contains, Option, get_or, map, option_to_list};
 ghost use Rattle.std.specs.List.{AllZip, flat_map, slice_split};
 ghost use Rattle.cidr.specs.declared.cidr.combined.IpCidr.{IpCidr};
 ghost use Rattle.cidr.specs.declared.family.Family.{Family};
+ghost use Rattle.cidr_table.specs.model.Cover.{IsReduced};
 ghost use Rattle.cidr_lists.specs.Changes.{printed_changes};
 ghost use Rattle.cidr_lists.specs.Fields.{field_at};
 ghost use Rattle.cidr_lists.specs.Formats.{bare, styled};
@@ -11,12 +12,14 @@ ghost use Rattle.cidr_lists.specs.Json.{IsStringText, quote};
 ghost use Rattle.cidr_lists.specs.LookUps.{LookUp, look_object};
 ghost use Rattle.cidr_lists.specs.Lists.{IsNetworkBy, Text, ListSays, text_by};
 ghost use Rattle.cidr_lists.specs.ReadBack.{AreOfFamilies, AreUnions, ChangeTells, IsLookUp, ObjectTells, SaysJust, TellsJust, TellsLooks};
-ghost use Rattle.cidr_lists.specs.Sets.{printed_sets};
+ghost use Rattle.cidr_lists.specs.Sets.{networks_of, printed_sets};
 ghost use Rattle.cidr_lists.specs.declared.changes.Sign.{Sign};
 ghost use Rattle.cidr_lists.specs.declared.columns.Separator.TheVariants.{Byte};
 ghost use Rattle.cidr_lists.specs.declared.formats.Format.TheVariants.{Json, Plain};
 ghost use Rattle.cidr_lists.specs.declared.formats.LineFormat.TheVariants.{Json as JsonLines};
 ghost use Rattle.cidr_lists.specs.declared.lines.HostBits.{HostBits};
+
+use crate::sets::Sets;
 
 /// A string is one network at most, in each way of reading networks.
 pub fn a_string_is_one_network()
@@ -84,3 +87,11 @@ pub fn a_string_says_one_value()
 pub fn fields_are_parts()
     ensures { (byte place : ℕ) (line : List ℕ) → field_at (Byte byte) place line ≡ get_or (slice_split (λ b. b == byte) line) place [] }
 {}
+
+/// The networks of sets are the shortest lists of their addresses.
+pub(crate) fn sets_are_reduced(sets: &Sets)
+    ensures { (family : Family) → IsReduced 129 (networks_of sets.now family) }
+{
+    sets.v4.as_slice();
+    sets.v6.as_slice();
+}

@@ -167,7 +167,7 @@ fn cleared_or_masked(field: &str) -> Result<IpCidr, NetworkParseError>
 
 /// The network that a string is; an address is one too. Where set bits are cleared it is that of the host that the string
 /// is, and where masks are read the string may have one. The error is the first of parsing it without a mask.
-pub fn network_of(host_bits: HostBits, field: &str) -> Result<IpCidr, NetworkParseError>
+pub fn read_network(host_bits: HostBits, field: &str) -> Result<IpCidr, NetworkParseError>
     ensures { MatchResult result (IsNetworkBy host_bits field.now) (IsNoNetworkBy host_bits field.now) }
 {
     match host_bits {
@@ -186,7 +186,7 @@ fn content_of_field(host_bits: HostBits, field: &str) -> Result<Content, LineErr
         return Ok(Content::Blank);
     }
     let Some((front, back)) = field.split_once('-') else {
-        return match network_of(host_bits, field) {
+        return match read_network(host_bits, field) {
             Ok(network) => Ok(Content::Network(network)),
             Err(e) => Err(LineError::NoNetwork(bad_network(host_bits, field), e)),
         };
@@ -213,7 +213,7 @@ pub(crate) fn whole_network(host_bits: HostBits, line: &[u8]) -> Option<IpCidr>
     let Ok(text) = str::from_utf8(line) else {
         return None;
     };
-    match network_of(without_masks(host_bits), text) {
+    match read_network(without_masks(host_bits), text) {
         Ok(network) => Some(network),
         Err(_) => None,
     }

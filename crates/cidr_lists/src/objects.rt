@@ -9,7 +9,7 @@ ghost use Rattle.cidr_lists.specs.declared.formats.Notation.TheVariants.{Members
 
 use crate::formats::{LineFormat, Notation, object_end, written};
 use crate::json::push_string;
-use crate::printing::network_of;
+use crate::printing::network_around;
 use arrayvec::ArrayString;
 use cidr::{Family, IpAddr, Ipv4Cidr, Ipv6Cidr};
 use std::alloc::AllocError;
@@ -42,11 +42,11 @@ fn members_of(address: &IpAddr, len: u8) -> ArrayString<200>
 {
     match address {
         IpAddr::V4(address) => {
-            let network = network_of::<Ipv4Cidr>(*address, len);
+            let network = network_around::<Ipv4Cidr>(*address, len);
             written(&network, Notation::Members)
         }
         IpAddr::V6(address) => {
-            let network = network_of::<Ipv6Cidr>(*address, len);
+            let network = network_around::<Ipv6Cidr>(*address, len);
             written(&network, Notation::Members)
         }
     }

@@ -8,7 +8,7 @@ use arrayvec::ArrayString;
 use cidr::{BitString, FamilyCidr, IpAddr, Ipv4Cidr, Ipv6Cidr};
 
 /// The network of the first `len` bits of an address; of the address itself where `len` is above its width.
-pub(crate) fn network_of<C: FamilyCidr>(address: C::Address, len: u8) -> C
+pub(crate) fn network_around<C: FamilyCidr>(address: C::Address, len: u8) -> C
     ensures bits { C.bits result ≡ take len (C.Address.bits address) }
     ensures wide { length (C.Address.bits address) ≡ width_of C.FAMILY }
 {
@@ -25,7 +25,7 @@ pub fn block_text(address: &IpAddr, len: u8) -> ArrayString<43>
     ensures wide { length (plain_bits address.now) ≡ width_of (address_family address.now) }
 {
     match address {
-        IpAddr::V4(address) => network_of::<Ipv4Cidr>(*address, len).to_text(),
-        IpAddr::V6(address) => network_of::<Ipv6Cidr>(*address, len).to_text(),
+        IpAddr::V4(address) => network_around::<Ipv4Cidr>(*address, len).to_text(),
+        IpAddr::V6(address) => network_around::<Ipv6Cidr>(*address, len).to_text(),
     }
 }

@@ -37,7 +37,7 @@ impl ListForm {
     }
 }
 
-/// The field of a record at a place, from 0 on.
+/// The field of a record at an index, counted from 0.
 fn record_column(place: u64) -> Column
     ensures { result ≡ record_column place }
 {

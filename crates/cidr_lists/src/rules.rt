@@ -80,7 +80,7 @@ pub fn rule_of(host_bits: HostBits, line: &[u8]) -> Result<Option<(IpCidr, Actio
 }
 
 /// Adds the rule that a line says, if it says one.
-fn add_line(
+fn add_rule_line(
     host_bits: HostBits,
     number: u64,
     line: &[u8],
@@ -265,7 +265,7 @@ impl Rules {
         let mut number = 1;
         loop {
             let (line, behind) = rest.split_at(line_len(rest));
-            add_line(host_bits, number, line, &mut rules)?;
+            add_rule_line(host_bits, number, line, &mut rules)?;
             let Some((_, next)) = behind.split_first() else {
                 return Ok(rules);
             };

@@ -1,7 +1,7 @@
 //! The addresses of lists as sets, and sets put together.
 ghost use Rattle.std.specs.Prelude.{◌≡◌, ◌↔◌, [], IfOk, IsTrue, ◌∷◌, map};
 ghost use Rattle.cidr.specs.declared.family.Family.{Family};
-ghost use Rattle.cidr_table.specs.model.Cover.{Covers, IsReduced};
+ghost use Rattle.cidr_table.specs.model.Cover.{Covers};
 ghost use Rattle.cidr_sets.specs.model.Sets.{IsSetOf};
 ghost use Rattle.cidr_lists.specs.Reading.{listed};
 ghost use Rattle.cidr_lists.specs.Sets.{networks_of, Combined, Steps, IsInSets, IsFreeOf};
@@ -9,6 +9,7 @@ ghost use Rattle.std.specs.Bool.{Decides};
 ghost use Rattle.cidr_lists.specs.Within.{IsWithin, LiesIn};
 ghost use Rattle.cidr_lists.specs.Lists.{line_networks};
 
+use crate::laws::sets_are_reduced;
 use crate::lists::Lists;
 use cidr::{BitString, IpCidr, Ipv4Cidr, Ipv6Cidr, NetworkBits};
 use cidr_sets::NetworkSet;
@@ -124,14 +125,6 @@ impl Sets {
         }
     }
 
-    /// Tells the proof that the networks of both sets are in normal form.
-    fn known(&self)
-        ensures { (family : Family) → IsReduced 129 (networks_of self.now family) }
-    {
-        self.v4.as_slice();
-        self.v6.as_slice();
-    }
-
     /// The sets of each family put together, as the calls of `NetworkSet` do, in their time and memory. The error is
     /// that there is no memory, and both stay as they were.
     pub fn stepped(&self, step: Step, other: &Sets) -> Result<Sets, AllocError>
@@ -165,7 +158,7 @@ pub fn combined(step: Step, first: Sets, others: &[Sets]) -> Result<Sets, AllocE
         → IsSetOf 129 (λ a. Combined IsInSets step (IsInSets first family a) others.now family a)
         (networks_of sets family)) }
 {
-    first.known();
+    sets_are_reduced(&first);
     let mut all = first;
     for other in others {
         all = all.stepped(step, other)?;

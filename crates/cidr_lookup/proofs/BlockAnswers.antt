@@ -7,7 +7,7 @@ use Rattle.std.proofs.lemmas.Option.{get_or_from_slice_get, slice_get_within}
 use Rattle.cidr.specs.model.Bits.{bits}
 use Rattle.cidr.specs.laws.BitLaws.{bits_high}
 use Rattle.cidr_table.specs.model.Prefixes.{IsLongestAt, IsLongestMatch}
-use Rattle.cidr_lookup.specs.Keys.{AreAscendingNetworks, prefix_bits, row_of}
+use Rattle.cidr_lookup.specs.Keys.{AreAscendingNetworks, prefix_bits, row_behind}
 use Rattle.cidr_lookup.specs.Ranges.{AreMatchRanges}
 use Rattle.cidr_lookup.specs.Passing.{HasNumber, at}
 use Rattle.cidr_lookup.proofs.Longest.{inside, length_network, row_within}
@@ -40,7 +40,7 @@ module _ (w : ℕ) (networks : List (ℕ × ℕ)) (good : AreAscendingNetworks w
       let nested = nests w (at w networks i) (at w networks k) (good.each i a.0) (good.each k b.0) (good.ascending i k lt b.0) (omega (arith, b.2.0, a.2.1)) in
       omega (arith, nested.0, a.3, b.3, m.longest n.key (contained k n) n.begins)
 
-  one_match : (value value' : ℕ) → IsLongestMatch (prefix_bits w) (bits w address) networks (row_of value) → IsLongestMatch (prefix_bits w) (bits w address) networks (row_of value')
+  one_match : (value value' : ℕ) → IsLongestMatch (prefix_bits w) (bits w address) networks (row_behind value) → IsLongestMatch (prefix_bits w) (bits w address) networks (row_behind value')
       → value ≡ value'
   one_match zero zero m n = refl
   one_match zero (suc k) m n = absurd (m n.key (contained k n) n.begins)
@@ -59,7 +59,7 @@ one_answer w padding networks good number value value' known known' =
     let address = number / 2 ^ padding in
     let same : bits w address ≡ bits w (address % 2 ^ w) = ap (bits w) (sym (shr_split address w)) ∙ bits_high w (address / 2 ^ w) (address % 2 ^ w) in
     one_match w networks good (address % 2 ^ w) (mod_below address (2 ^ w) (pow_pos w)) value value'
-    (subst (λ b. IsLongestMatch (prefix_bits w) b networks (row_of value)) same known) (subst (λ b. IsLongestMatch (prefix_bits w) b networks (row_of value')) same known')
+    (subst (λ b. IsLongestMatch (prefix_bits w) b networks (row_behind value)) same known) (subst (λ b. IsLongestMatch (prefix_bits w) b networks (row_behind value')) same known')
 
 -- ---- blocks
 module _ (w padding : ℕ) (networks : List (ℕ × ℕ)) (starts answers : List ℕ) (ranges : AreMatchRanges w networks starts answers) where

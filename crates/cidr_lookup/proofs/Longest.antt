@@ -10,7 +10,7 @@ use Rattle.cidr.specs.model.Bits.{bits, number}
 use Rattle.cidr.specs.model.Network.{BeginsWith}
 use Rattle.cidr.specs.laws.BitLaws.{length-bits, number-bits, bits-append}
 use Rattle.cidr_table.specs.model.Prefixes.{IsLongestMatch}
-use Rattle.cidr_lookup.specs.Keys.{AreAscendingNetworks, IsNetwork, last_number_in, prefix_bits, row_of}
+use Rattle.cidr_lookup.specs.Keys.{AreAscendingNetworks, IsNetwork, last_number_in, prefix_bits, row_behind}
 use Rattle.cidr_lookup.specs.Passing.{HasNumber, IsLastWithNumber, at}
 use Rattle.cidr_lookup.proofs.Numbers.{nests}
 
@@ -63,7 +63,7 @@ module _ (w : ℕ) (networks : List (ℕ × ℕ)) (good : AreAscendingNetworks w
   in_at : (key : ℕ × ℕ) (c : Contains networks key) → BeginsWith (bits w address) (prefix_bits w key) → HasNumber w networks (at w networks c.0) address
   in_at key c b = inside w (at w networks c.0) (good.each c.0 c.1) address within (subst (λ k. BeginsWith (bits w address) (prefix_bits w k)) (sym (key_at key c)) b)
 
-  pub longest : (end : ℕ) → IsLastWithNumber w networks (length networks) address end → IsLongestMatch (prefix_bits w) (bits w address) networks (row_of end)
+  pub longest : (end : ℕ) → IsLastWithNumber w networks (length networks) address end → IsLongestMatch (prefix_bits w) (bits w address) networks (row_behind end)
   longest zero known = λ key c b. absurd (omega (arith, known.before c.0 c.1 (in_at key c b)))
   longest (suc i) known =
       let one : suc i - 1 ≡ i = omega arith in
@@ -90,6 +90,6 @@ module _ (w : ℕ) (networks : List (ℕ × ℕ)) (good : AreAscendingNetworks w
 
 -- a longest match is one of the networks
 pub row_within : (w : ℕ) (networks : List (ℕ × ℕ)) (address : List Bool) (answer : ℕ)
-    → IsLongestMatch (prefix_bits w) address networks (row_of answer) → answer ≤ length networks
+    → IsLongestMatch (prefix_bits w) address networks (row_behind answer) → answer ≤ length networks
 row_within w networks address zero m = omega arith
 row_within w networks address (suc row) m = omega (arith, slice_get_within networks row m.key m.here)

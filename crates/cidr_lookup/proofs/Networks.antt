@@ -26,7 +26,7 @@ use Rattle.cidr_table.specs.model.Prefixes.{IsLongestAt, IsLongestMatch, IsLooke
 use Rattle.cidr_lookup.specs.Keys.{AreAscendingNetworks, IsNetwork, Precedes, key_networks, prefix_bits}
 use Rattle.cidr_lookup.specs.declared.key.Key.{Key}
 use Rattle.cidr_lookup.specs.Rows.{IsCountRefused, numbered, numbered_rows}
-use Rattle.cidr_lookup.specs.Tables.{IsLookupTable, IsTableRefused}
+use Rattle.cidr_lookup.specs.Tables.{HasTooManyWords, IsLookupTable, IsTableRefused}
 use Rattle.cidr_lookup.specs.declared.table.TableError.{TableError}
 use Rattle.cidr_lookup.specs.declared.table.TableError.TheVariants.{TooMany, Refused, TooLarge, NoMemory}
 
@@ -234,6 +234,14 @@ module _ {C V : Type 0} (w : ℕ) (f : C → List Bool) where
       (found w f (first_of w k) (keys_of rows) r (subst (AreAscendingNetworks w) (by_keys rows) table.keys) h)
 
 -- ---- why there is no table of networks that ascend
+pub large_result : {T : Type 0} (w padding : ℕ) (steps : ℕ → ℕ) (m n : ℕ) (networks numbers : List (ℕ × ℕ)) (result : Result T TableError) → m ≡ n → networks ≡ numbers
+    → IfErr result (IsTableRefused w padding (steps m) networks) → IfErr result (λ error. error ≡ TooLarge → HasTooManyWords w padding (steps n) numbers)
+large_result w padding steps m n networks numbers (Ok table) same is h = tt
+large_result w padding steps m n networks numbers (Err TooMany) same is h = λ e. cc e
+large_result w padding steps m n networks numbers (Err (Refused place)) same is h = λ e. cc e
+large_result w padding steps m n networks numbers (Err TooLarge) same is h = λ e. rw (sym same, sym is) h.2
+large_result w padding steps m n networks numbers (Err NoMemory) same is h = λ e. cc e
+
 pub refused : (w padding steps count : ℕ) (networks : List (ℕ × ℕ)) (error : TableError) → length networks ≡ count → count < 2 ^ 31 → AreAscendingNetworks w networks
     → IsTableRefused w padding steps networks error → IsCountRefused count error
 refused w padding steps count networks TooMany same few are many = absurd (omega (arith, same, few, many))

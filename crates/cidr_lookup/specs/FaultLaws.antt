@@ -2,11 +2,11 @@
 use Rattle.std.proofs.Common.{◌≡◌, refl, arith, inl, inr, ℕ, ◌^◌, ◌<◌, List, length}
 use Rattle.cidr_lookup.specs.Faults.{IsFault}
 use Rattle.cidr_lookup.specs.Tables.{IsLookupTable}
-use Rattle.cidr_lookup.specs.declared.checking.Fault.{Fault}
-use Rattle.cidr_lookup.specs.declared.checking.Fault.TheVariants.{Steps, TooLong, Keys, First, Word}
+use Rattle.cidr_lookup.specs.declared.checking.WordsFault.{WordsFault}
+use Rattle.cidr_lookup.specs.declared.checking.WordsFault.TheVariants.{Steps, TooLong, Keys, First, Word}
 use Rattle.cidr_lookup.specs.declared.table.TableError.TheVariants.{TooMany, Refused, TooLarge, NoMemory}
 
-pub no_fault : (w padding steps : ℕ) (networks : List (ℕ × ℕ)) (first words : List ℕ) (fault : Fault) → IsLookupTable w padding steps networks first words
+pub no_fault : (w padding steps : ℕ) (networks : List (ℕ × ℕ)) (first words : List ℕ) (fault : WordsFault) → IsLookupTable w padding steps networks first words
     → length networks < 2 ^ 31 → length first < 2 ^ 30 → length words < 2 ^ 30 → IsFault w padding steps networks first words fault → fault ≡ Keys NoMemory
 no_fault w padding steps networks first words Steps good few less less' wrong = absurd (wrong (good.some, good.few))
 no_fault w padding steps networks first words TooLong good few less less' (at, inl long) = absurd (omega (arith, long))

@@ -2,8 +2,8 @@
 use Rattle.std.specs.Prelude.{◌≡◌, ◌≢◌, ℕ, ◌+◌, ◌*◌, ◌^◌, ◌<◌, ◌≤◌, ◌⊎◌, List, length, slice_get, take}
 use Rattle.cidr_lookup.specs.Keys.{AreAscendingNetworks}
 use Rattle.cidr_lookup.specs.Tables.{AreKeysRefused, IsLookupTable}
-use Rattle.cidr_lookup.specs.declared.checking.Fault.{Fault}
-use Rattle.cidr_lookup.specs.declared.checking.Fault.TheVariants.{Steps, TooLong, Keys, First, Word}
+use Rattle.cidr_lookup.specs.declared.checking.WordsFault.{WordsFault}
+use Rattle.cidr_lookup.specs.declared.checking.WordsFault.TheVariants.{Steps, TooLong, Keys, First, Word}
 
 -- the first word that is another, or that one of the two has alone
 abbrev pub IsFirstOther : (words all : List ℕ) → ℕ → Type 0
@@ -18,7 +18,7 @@ abbrev pub AreSizes : (w padding steps : ℕ) → (first words : List ℕ) → T
 AreSizes w padding steps first words = AreSteps w padding steps × (length first < 2 ^ 30) × (length words < 2 ^ 30)
 
 -- why words are refused, each where those before it don't hold, but that an entry and a word are told as they are built
-abbrev pub IsFault : (w padding steps : ℕ) → List (ℕ × ℕ) → (first words : List ℕ) → Fault → Type 0
+abbrev pub IsFault : (w padding steps : ℕ) → List (ℕ × ℕ) → (first words : List ℕ) → WordsFault → Type 0
 IsFault w padding steps networks first words Steps = ¬ (AreSteps w padding steps)
 IsFault w padding steps networks first words TooLong = AreSteps w padding steps × ((2 ^ 30 ≤ length first) ⊎ (2 ^ 30 ≤ length words))
 IsFault w padding steps networks first words (Keys error) = AreSizes w padding steps first words × AreKeysRefused w networks error

@@ -41,6 +41,6 @@ abbrev pub key_networks : {W : Type 0} → (W → ℕ) → List (Key W) → List
 key_networks {W} value keys = map (λ (key : Key W). (value key.address, key.len)) keys
 
 -- ---- what a value says: 0 that no network has the address, and else how many networks there are up to the longest that has
-abbrev pub row_of : ℕ → Option ℕ
-row_of zero = None
-row_of (suc row) = Some row
+abbrev pub row_behind : ℕ → Option ℕ
+row_behind zero = None
+row_behind (suc row) = Some row

@@ -2,8 +2,8 @@
 use Rattle.std.specs.Prelude.{ℕ, List, ◌++◌, codes, decimal}
 use Rattle.cidr_lookup.specs.declared.table.TableError.{TableError}
 use Rattle.cidr_lookup.specs.declared.table.TableError.TheVariants as error
-use Rattle.cidr_lookup.specs.declared.checking.Fault.{Fault}
-use Rattle.cidr_lookup.specs.declared.checking.Fault.TheVariants.{Steps, TooLong, Keys, First, Word}
+use Rattle.cidr_lookup.specs.declared.checking.WordsFault.{WordsFault}
+use Rattle.cidr_lookup.specs.declared.checking.WordsFault.TheVariants.{Steps, TooLong, Keys, First, Word}
 
 abbrev pub table_message : TableError → List ℕ
 table_message error.TooMany = codes "more than 2147483647 keys"
@@ -11,7 +11,7 @@ table_message (error.Refused place) = codes "no network, or out of order: key " 
 table_message error.TooLarge = codes "more than 1073741823 words"
 table_message error.NoMemory = codes "out of memory"
 
-abbrev pub fault_message : Fault → List ℕ
+abbrev pub fault_message : WordsFault → List ℕ
 fault_message Steps = codes "no such number of steps"
 fault_message TooLong = codes "more than 1073741823 words"
 fault_message (Keys problem) = table_message problem

@@ -2,7 +2,7 @@
 use Rattle.std.specs.Prelude.{◌≡◌, ◌≢◌, ℕ, zero, suc, ◌+◌, ◌*◌, ◌/◌, ◌^◌, ◌<◌, ◌≤◌, List, [], ◌∷◌, length, slice_index_or}
 use Rattle.cidr.specs.model.Bits.{bits}
 use Rattle.cidr_table.specs.model.Prefixes.{IsLongestMatch}
-use Rattle.cidr_lookup.specs.Keys.{prefix_bits, row_of}
+use Rattle.cidr_lookup.specs.Keys.{prefix_bits, row_behind}
 
 -- the last range that begins at most with the number
 pub record IsRangeOf (starts : List ℕ) (number k : ℕ) : Type 0 where
@@ -24,7 +24,7 @@ pub record AreMatchRanges (w : ℕ) (networks : List (ℕ × ℕ)) (starts answe
   pub fits : (k : ℕ) → k < length starts → slice_index_or starts k 0 < 2 ^ w
   pub changes : (k : ℕ) → k + 1 < length starts → slice_index_or answers k 0 ≢ slice_index_or answers (k + 1) 0
   pub matches : (address k : ℕ) → address < 2 ^ w → IsRangeOf starts address k
-      → IsLongestMatch (prefix_bits w) (bits w address) networks (row_of (slice_index_or answers k 0))
+      → IsLongestMatch (prefix_bits w) (bits w address) networks (row_behind (slice_index_or answers k 0))
 
 -- the changes to n ranges from one on: where each begins, with zeros behind it and divided by 2 ^ 64, and its answer
 unfoldable pub changes_from : (padding : ℕ) (starts answers : List ℕ) (k n : ℕ) → List (ℕ × ℕ)

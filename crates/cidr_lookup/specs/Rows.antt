@@ -2,6 +2,7 @@
 use Rattle.std.specs.Prelude.{ℕ, ◌^◌, ◌<◌, ◌≤◌, Bool, List, length, map}
 use Rattle.cidr.specs.model.Bits.{number}
 use Rattle.cidr.specs.model.Network.{first_of}
+use Rattle.cidr_lookup.specs.Tables.{HasTooManyWords}
 use Rattle.cidr_lookup.specs.declared.table.TableError.{TableError}
 use Rattle.cidr_lookup.specs.declared.table.TableError.TheVariants.{TooMany, Refused, TooLarge, NoMemory}
 
@@ -18,3 +19,7 @@ IsCountRefused count TooMany = 2 ^ 31 ≤ count
 IsCountRefused count (Refused place) = ⊥
 IsCountRefused count TooLarge = count < 2 ^ 31
 IsCountRefused count NoMemory = count < 2 ^ 31
+
+-- the look-up table of rows, of as many steps as so many have, has too many words
+abbrev pub HaveTooManyWords : {C V : Type 0} → (C → List Bool) → (w padding : ℕ) → (ℕ → ℕ) → List (C × V) → Type 0
+HaveTooManyWords bits w padding steps rows = HasTooManyWords w padding (steps (length rows)) (numbered_rows bits w rows)

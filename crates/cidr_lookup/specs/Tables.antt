@@ -2,14 +2,14 @@
 use Rattle.std.specs.Prelude.{◌≡◌, ℕ, ◌+◌, ◌*◌, ◌/◌, ◌^◌, ◌<◌, ◌≤◌, nat_lt, if◌then◌else◌, List, [], Some, length}
 use Rattle.cidr.specs.model.Bits.{bits}
 use Rattle.cidr_table.specs.model.Prefixes.{IsLongestMatch}
-use Rattle.cidr_lookup.specs.Keys.{AreAscendingNetworks, IsFirstRefused, prefix_bits, row_of}
+use Rattle.cidr_lookup.specs.Keys.{AreAscendingNetworks, IsFirstRefused, prefix_bits, row_behind}
 use Rattle.cidr_lookup.specs.declared.table.TableError.{TableError}
 use Rattle.cidr_lookup.specs.declared.table.TableError.TheVariants.{TooMany, Refused, TooLarge, NoMemory}
 use Rattle.cidr_lookup.specs.Nodes.{AreEntries, IsEntry}
 
 -- what a value says of a number, which is an address of w bits with some zeros behind it: its longest match (RFC 1812, 5.2.4.3)
 abbrev pub IsAnswer : (w padding : ℕ) → List (ℕ × ℕ) → (number value : ℕ) → Type 0
-IsAnswer w padding networks number value = IsLongestMatch (prefix_bits w) (bits w (number / 2 ^ padding)) networks (row_of value)
+IsAnswer w padding networks number value = IsLongestMatch (prefix_bits w) (bits w (number / 2 ^ padding)) networks (row_behind value)
 
 -- the entries of all blocks of 64 ^ steps numbers
 pub record IsLookupTable (w padding steps : ℕ) (networks : List (ℕ × ℕ)) (first words : List ℕ) : Type 0 where

@@ -2,7 +2,7 @@
 ghost use Rattle.std.specs.Prelude.{◌≡◌, ℕ, ◌+◌, ◌*◌, ◌/◌, ◌%◌, ◌^◌, ◌<◌, ◌≤◌};
 ghost use Rattle.cidr_lookup.specs.Tables.{ipv4_steps};
 
-/// The number of an address, as it lies in an array: a `u32` of IPv4 or [`Halves`](crate::Halves) of IPv6, and the bytes
+/// The number of an address, as it lies in an array: a `u32` of IPv4 or [`Ipv6Halves`](crate::Ipv6Halves) of IPv6, and the bytes
 /// of these, as a file has them.
 ///
 /// The nodes of a look-up table divide by six bits. So that all bits but the first are parts of six, a number has some

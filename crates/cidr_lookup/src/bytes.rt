@@ -4,7 +4,7 @@ ghost use Rattle.std.specs.Int.{from_le_bytes, w32, w64};
 ghost use Rattle.cidr_lookup.specs.Tables.{ipv4_steps, ipv6_steps};
 
 use crate::address::Address;
-use crate::halves::Halves;
+use crate::halves::Ipv6Halves;
 use crate::words::Words;
 
 impl Words for &[[u8; 4]] {
@@ -78,7 +78,7 @@ impl Address for [u8; 4] {
     }
 }
 
-/// The bytes of [`Halves`]: those of the higher half and those of the lower one, of each the lowest first.
+/// The bytes of [`Ipv6Halves`]: those of the higher half and those of the lower one, of each the lowest first.
 impl Address for [[u8; 8]; 2] {
     ghost value = { λ bytes. from_le_bytes w64 (slice_index_or bytes 0 []) * 2 ^ 64 + from_le_bytes w64 (slice_index_or bytes 1 []) };
 
@@ -95,13 +95,13 @@ impl Address for [[u8; 8]; 2] {
 
     #[inline(always)]
     fn of(number: u128) -> [[u8; 8]; 2] {
-        let halves = Halves::of(number);
+        let halves = Ipv6Halves::of(number);
         [halves.high.to_le_bytes(), halves.low.to_le_bytes()]
     }
 
     #[inline(always)]
     fn width() -> u32 {
-        Halves::width()
+        Ipv6Halves::width()
     }
 
     #[inline(always)]
@@ -111,11 +111,11 @@ impl Address for [[u8; 8]; 2] {
 
     #[inline(always)]
     fn padded_width() -> u32 {
-        Halves::padded_width()
+        Ipv6Halves::padded_width()
     }
 
     fn steps_for(networks: usize) -> u32 {
-        Halves::steps_for(networks)
+        Ipv6Halves::steps_for(networks)
     }
 
     #[inline(always)]
@@ -136,11 +136,11 @@ impl Address for [[u8; 8]; 2] {
 
 /// The number that the bytes are.
 #[inline(always)]
-fn halves(bytes: [[u8; 8]; 2]) -> Halves
+fn halves(bytes: [[u8; 8]; 2]) -> Ipv6Halves
     ensures high { result.high ≡ from_le_bytes w64 (slice_index_or bytes 0 []) }
     ensures low { result.low ≡ from_le_bytes w64 (slice_index_or bytes 1 []) }
 {
-    Halves {
+    Ipv6Halves {
         high: u64::from_le_bytes(bytes[0]),
         low: u64::from_le_bytes(bytes[1]),
     }

@@ -3,7 +3,7 @@ ghost use Rattle.std.specs.Prelude.{◌≡◌, refl};
 ghost use Rattle.cidr.specs.model.Network.{width_of};
 
 use crate::address::Address;
-use crate::halves::Halves;
+use crate::halves::Ipv6Halves;
 use cidr::{FamilyCidr, Ipv4Cidr, Ipv6Cidr};
 
 /// A network of one family, whose [`Key`](crate::Key) a look-up table has: `Ipv4Cidr` and `Ipv6Cidr`.
@@ -22,7 +22,7 @@ impl Keyed for Ipv4Cidr {
 }
 
 impl Keyed for Ipv6Cidr {
-    type Number = Halves;
+    type Number = Ipv6Halves;
 
     ghost wide = { refl };
 }

@@ -29,8 +29,8 @@ mod table;
 mod words;
 
 pub use address::Address;
-pub use checking::{Fault, check};
-pub use halves::Halves;
+pub use checking::{WordsFault, check};
+pub use halves::Ipv6Halves;
 pub use key::{Key, first_refused};
 pub use keyed::Keyed;
 pub use ready::ReadyTable;

@@ -5,8 +5,9 @@ ghost use Rattle.std.specs.Map.{keys_of};
 ghost use Rattle.cidr.specs.model.Network.{first_of};
 ghost use Rattle.cidr_lookup.specs.Keys.{key_networks};
 ghost use Rattle.cidr_table.specs.model.Prefixes.{IsLongestAt, IsLongestMatch, IsLookedUp};
-ghost use Rattle.cidr_lookup.specs.Rows.{IsCountRefused, numbered_rows};
+ghost use Rattle.cidr_lookup.specs.Rows.{HaveTooManyWords, IsCountRefused, numbered_rows};
 ghost use Rattle.cidr_lookup.specs.Tables.{IsLookupTable};
+ghost use Rattle.cidr_lookup.specs.declared.table.TableError.TheVariants.{TooLarge};
 
 use crate::address::Address;
 use crate::key::Key;
@@ -56,6 +57,7 @@ impl<C: Keyed, V> ReadyTable<C, V> {
         ensures ok { IfOk result (λ ready. ready ≡ table) }
         ensures err { IfErr result (λ refused. refused.0 ≡ table) }
         ensures refused { IfErr result (λ refused. IsCountRefused (length table.rows) refused.1) }
+        ensures large { IfErr result (λ refused. refused.1 ≡ TooLarge → HaveTooManyWords C.bits C.Number.width C.Number.padding C.Number.steps table.rows) }
     {
         match words_of(alloc, rows_of(&table)) {
             Ok(words) => Ok(ReadyTable { table, words }),
@@ -168,6 +170,7 @@ fn words_of<C: Keyed, V>(alloc: Global, rows: &[(C, V)]) -> Result<LookupTable, 
     ensures table { IfOk result (λ table. IsLookupTable C.Number.width C.Number.padding table.steps
         (numbered_rows C.bits C.Number.width rows.now) table.first.items table.words.items) }
     ensures refused { IfErr result (IsCountRefused (length rows.now)) }
+    ensures large { IfErr result (λ error. error ≡ TooLarge → HaveTooManyWords C.bits C.Number.width C.Number.padding C.Number.steps rows.now) }
 {
     if rows.len() >= 1 << 31 {
         return Err(TableError::TooMany);

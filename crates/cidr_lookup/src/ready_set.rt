@@ -1,7 +1,9 @@
 //! Lists of networks, made ready for look-ups.
 ghost use Rattle.std.specs.Prelude.{◌≡◌, ◌↔◌, List, Bool, length, map, IfErr, IfOk, IsTrue};
 ghost use Rattle.cidr_table.specs.model.Cover.{Covers};
-ghost use Rattle.cidr_lookup.specs.Rows.{IsCountRefused};
+ghost use Rattle.cidr_table.specs.model.LastRows.{AreLastRows};
+ghost use Rattle.cidr_lookup.specs.Rows.{HaveTooManyWords, IsCountRefused};
+ghost use Rattle.cidr_lookup.specs.declared.table.TableError.TheVariants.{TooLarge};
 
 use crate::keyed::Keyed;
 use crate::ready::ReadyTable;
@@ -46,11 +48,14 @@ impl<C: Keyed> ReadySet<C> {
     pub fn new(alloc: Global, networks: &[C]) -> Result<Self, TableError>
         ensures ok { IfOk result (λ ready. (a : List Bool) → Covers (map C.bits ready) a ↔ Covers (map C.bits networks.now) a) }
         ensures refused { IfErr result (IsCountRefused (length networks.now)) }
+        ensures large { IfErr result (λ error. error ≡ TooLarge → (rows : List (C × Unit {0}))
+            × AreLastRows (map (λ (network : C). (network, tt)) networks.now) rows
+            × HaveTooManyWords C.bits C.Number.width C.Number.padding C.Number.steps rows) }
     {
         if networks.len() >= 1 << 31 {
             return Err(TableError::TooMany);
         }
-        let Ok(rows) = rows_of(alloc, networks) else {
+        let Ok(rows) = rows_without_values(alloc, networks) else {
             return Err(TableError::NoMemory);
         };
         match ReadyTable::new(alloc, LpmTable::from_rows(rows)) {
@@ -72,7 +77,7 @@ impl<C: Keyed> ReadySet<C> {
 }
 
 /// A row of each network.
-fn rows_of<C: Copy>(alloc: Global, networks: &[C]) -> Result<Vec<(C, ())>, AllocError>
+fn rows_without_values<C: Copy>(alloc: Global, networks: &[C]) -> Result<Vec<(C, ())>, AllocError>
     ensures { IfOk result (λ rows. rows.items ≡ map (λ (network : C). (network, tt)) networks.now) }
 {
     let mut rows = Vec::with_capacity(alloc, networks.len())?;

@@ -2,7 +2,7 @@
 ghost use Rattle.std.specs.Prelude.{◌≡◌, ℕ, ◌+◌, ◌*◌, ◌^◌, ◌<◌, ◌≤◌, List, length};
 ghost use Rattle.cidr.specs.model.Bits.{bits};
 ghost use Rattle.cidr_table.specs.model.Prefixes.{IsLongestMatch};
-ghost use Rattle.cidr_lookup.specs.Keys.{prefix_bits, row_of};
+ghost use Rattle.cidr_lookup.specs.Keys.{prefix_bits, row_behind};
 ghost use Rattle.cidr_lookup.specs.Searching.{AreOrdered, AscendAt, IsListAt, IsValueAt, change_at};
 ghost use Rattle.cidr_lookup.specs.Tables.{IsAnswer, IsLookupTable};
 
@@ -33,13 +33,13 @@ pub fn find<A: Address, T: Words>(first: &T, words: &T, steps: u32, address: A) 
         → IsLookupTable A.width A.padding steps networks (T.words first.now) (T.words words.now)
         → IsLongestMatch (prefix_bits A.width) (bits A.width (A.value address)) networks result }
 {
-    row(value_of(first, words, steps, address))
+    row(found_value(first, words, steps, address))
 }
 
 /// The index that a value says.
 #[inline(always)]
 fn row(value: u32) -> Option<usize>
-    ensures { result ≡ row_of value }
+    ensures { result ≡ row_behind value }
 {
     if value == 0 {
         return None;
@@ -49,7 +49,7 @@ fn row(value: u32) -> Option<usize>
 
 /// The value that an address is led to.
 #[inline(always)]
-fn value_of<A: Address, T: Words>(first: &T, words: &T, steps: u32, address: A) -> u32
+fn found_value<A: Address, T: Words>(first: &T, words: &T, steps: u32, address: A) -> u32
     ensures { (networks : List (ℕ × ℕ))
         → IsLookupTable A.width A.padding steps networks (T.words first.now) (T.words words.now)
         → IsAnswer A.width A.padding networks (A.value address * 2 ^ A.padding) result }

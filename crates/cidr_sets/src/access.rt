@@ -1,12 +1,11 @@
 //! Access lists: rules in order, each of which permits or denies the addresses of a network.
-ghost use Rattle.std.specs.Prelude.{◌≡◌, ◌↔◌, ◌<◌, ℕ, Bool, List, length, map, Contains, IfOk, Some};
+ghost use Rattle.std.specs.Prelude.{◌≡◌, ◌↔◌, ℕ, length, map, Contains, IfOk, Some};
 ghost use Rattle.std.specs.Bool.{Decides};
-ghost use Rattle.std.specs.List.{All, slice_get};
+ghost use Rattle.std.specs.List.{All};
 ghost use Rattle.std.specs.List.Sorted.{IsStrictlyIncreasing};
-ghost use Rattle.cidr.specs.model.Network.{BeginsWith};
 ghost use Rattle.cidr_table.specs.model.Cover.{Covers};
 ghost use Rattle.cidr_sets.specs.model.Sets.{IsSetOf};
-ghost use Rattle.cidr_sets.specs.model.FirstRules.{IsFirstRule, IsPermitted, IsDeciding, AreDecidingRules, IsShadowed};
+ghost use Rattle.cidr_sets.specs.model.FirstRules.{IsPermitted, IsDeciding, AreDecidingRules, IsShadowed};
 ghost use Rattle.cidr_sets.specs.declared.access.Action.{Action};
 ghost use Rattle.cidr_sets.specs.declared.access.Action.TheVariants.{Permit};
 
@@ -247,20 +246,3 @@ pub fn shadowed_by<C: NetworkBits + Copy>(
     }
     Ok(out)
 }
-
-/// Each address of a rule's network is decided by some rule, and where no address reaches the rule, only by earlier
-/// ones. This function does nothing: after a call, a caller's proof has the law.
-pub fn shadowed_rules_are_decided_earlier()
-    ensures some { (networks : List (List Bool)) (i : ℕ) (p a : List Bool) → slice_get networks i ≡ Some p
-        → BeginsWith a p → (j : ℕ) × IsFirstRule networks a j }
-    ensures earlier { (w : ℕ) (networks : List (List Bool)) (i j : ℕ) (p : List Bool) → slice_get networks i ≡ Some p
-        → IsShadowed w networks i → IsDeciding w networks p j → j < i }
-{}
-
-/// Two access lists permit the same addresses exactly if their sets, as [`permitted`] returns them, are equal. This
-/// function does nothing: after a call, a caller's proof has the law.
-pub fn equal_sets_permit_the_same()
-    ensures { (w : ℕ) (these those : List (List Bool)) (actions others : List Action) (set other : List (List Bool))
-        → IsSetOf w (IsPermitted these actions) set → IsSetOf w (IsPermitted those others) other
-        → (set ≡ other) ↔ ((a : List Bool) → length a ≡ w → IsPermitted these actions a ↔ IsPermitted those others a) }
-{}

@@ -6,8 +6,8 @@ ghost use Rattle.cidr_sets.specs.internal.Deciding.{AreRows, AreUnreached, Ascen
 
 use crate::access::Rule;
 use crate::rests::half;
-use crate::search::known;
 use cidr::NetworkBits;
+use cidr_table::laws::keys::has_at_most_129_bits;
 use cidr_table::{LpmTable, is_inside};
 use std::alloc::{AllocError, Global};
 
@@ -44,7 +44,7 @@ fn parts_of<C: NetworkBits + Copy>(
 ) -> Result<Vec<(C, usize)>, AllocError>
     ensures { IfOk result (λ parts. TellFirst C.bits (map (λ r. C.bits r.network) rules.now) (length rules.now) parts.items) }
 {
-    let rows = rows_of(alloc, rules)?;
+    let rows = rule_rows(alloc, rules)?;
     let mut parts = Vec::new(alloc);
     let mut left = rows.as_slice();
     while let Some((row, behind)) = left.split_first() {
@@ -54,7 +54,7 @@ fn parts_of<C: NetworkBits + Copy>(
 }
 
 /// The networks of the rules, each with its index: in their order, and equal ones in that of the rules.
-fn rows_of<C: NetworkBits + Copy>(
+fn rule_rows<C: NetworkBits + Copy>(
     alloc: Global,
     rules: &[Rule<C>],
 ) -> Result<Vec<(C, usize)>, AllocError>
@@ -83,7 +83,7 @@ fn push_parts<'a, C: NetworkBits + Copy>(
     requires { AscendFrom C.bits (C.bits network.now) rows.now }
     ensures { IfOk result (λ rest. IsPartStep C.bits (C.bits network.now) index rows.now rest.now parts.old.items parts.new.items) }
 {
-    known(network);
+    has_at_most_129_bits(network);
     let mut least = index;
     let mut left = rows;
     while let Some((row, behind)) = left.split_first() {
@@ -140,7 +140,7 @@ pub fn deciding_in<C: NetworkBits + Copy>(
         → (j : ℕ) → Contains by.items j ↔ IsDeciding 129 networks (C.bits network.now) j) }
     ensures ascending { IfOk result (λ by. IsStrictlyIncreasing by.items) }
 {
-    known(network);
+    has_at_most_129_bits(network);
     match parts.lookup(network) {
         Some(row) => {
             let mut by = Vec::new(alloc);

@@ -1,13 +1,15 @@
 //! Laws, each as the contract of a function that does nothing. After a call, a caller's proof has the law; a program
 //! that runs needs none of these.
-ghost use Rattle.std.specs.Prelude.{◌≡◌, ◌↔◌, ◌≤◌, [], ℕ, Bool, List, length, map};
+ghost use Rattle.std.specs.Prelude.{◌≡◌, ◌↔◌, ◌<◌, ◌≤◌, [], ℕ, Bool, List, Some, length, map};
 ghost use Rattle.std.specs.Cmp.Lexicographic.{pointwise};
+ghost use Rattle.std.specs.List.{slice_get};
 ghost use Rattle.cidr.specs.either.IpAddress.{TellsEqual};
+ghost use Rattle.cidr.specs.model.Network.{BeginsWith};
 ghost use Rattle.cidr_table.specs.model.Cover.{AreNetworks, Covers, CoverSame, IsFull};
 ghost use Rattle.cidr_table.specs.model.Cover.{IsReduced};
 ghost use Rattle.cidr_table.specs.model.CoverAddresses.{AreIpNetworks, IsIpAddressBits};
 ghost use Rattle.cidr_sets.specs.model.Counts.{AreAddresses};
-ghost use Rattle.cidr_sets.specs.model.FirstRules.{IsPermitted};
+ghost use Rattle.cidr_sets.specs.model.FirstRules.{IsDeciding, IsFirstRule, IsPermitted, IsShadowed};
 ghost use Rattle.cidr_sets.specs.model.Ranges.{AreRanges, IsInSome};
 ghost use Rattle.cidr_sets.specs.model.Sets.{IsSetOf};
 ghost use Rattle.cidr_sets.specs.declared.access.Action.{Action};
@@ -61,4 +63,21 @@ pub fn permitted_sets_decide_addresses()
     ensures ip { (networks set : List (List Bool)) (actions : List Action) → AreIpNetworks networks
         → IsSetOf 129 (IsPermitted networks actions) set
         → (a : List Bool) → IsIpAddressBits a → Covers set a ↔ IsPermitted networks actions a }
+{}
+
+/// Each address of a rule's network is decided by some rule, and where no address reaches the rule, only by earlier
+/// ones.
+pub fn shadowed_rules_are_decided_earlier()
+    ensures some { (networks : List (List Bool)) (i : ℕ) (p a : List Bool) → slice_get networks i ≡ Some p
+        → BeginsWith a p → (j : ℕ) × IsFirstRule networks a j }
+    ensures earlier { (w : ℕ) (networks : List (List Bool)) (i j : ℕ) (p : List Bool) → slice_get networks i ≡ Some p
+        → IsShadowed w networks i → IsDeciding w networks p j → j < i }
+{}
+
+/// Two access lists permit the same addresses exactly if their sets, as [`permitted`](crate::access::permitted) returns
+/// them, are equal.
+pub fn equal_sets_permit_the_same()
+    ensures { (w : ℕ) (these those : List (List Bool)) (actions others : List Action) (set other : List (List Bool))
+        → IsSetOf w (IsPermitted these actions) set → IsSetOf w (IsPermitted those others) other
+        → (set ≡ other) ↔ ((a : List Bool) → length a ≡ w → IsPermitted these actions a ↔ IsPermitted those others a) }
 {}

@@ -7,9 +7,9 @@ ghost use Rattle.cidr_sets.specs.internal.Edits.{IsAlone, IsBeside, IsHalf, IsPa
 ghost use Rattle.cidr_sets.specs.model.Sets.{IsUnion};
 
 use crate::lookup::upto;
-use crate::search::known;
 use cidr::{BitString, NetworkBits};
 use cidr_table::is_inside;
+use cidr_table::laws::keys::has_at_most_129_bits;
 
 /// Whether there is a network at an index, and it lies in another.
 fn is_inside_at<C: BitString>(networks: &[C], at: usize, outer: &C) -> bool
@@ -105,7 +105,7 @@ pub(crate) fn joined_with<C: NetworkBits + Copy>(networks: &[C], network: &C) ->
     ensures set { IsUnion 129 (map C.bits networks.now) (C.bits network.now ∷ [])
         (map C.bits (take result.1 networks.now) ++ C.bits result.0 ∷ [] ++ map C.bits (drop result.2 networks.now)) }
 {
-    known(network);
+    has_at_most_129_bits(network);
     let (mut start, mut end) = inside_of(networks, network);
     let mut whole = *network;
     while let Some((from, to)) = other_half(networks, start, end, &whole) {

@@ -11,9 +11,9 @@ ghost use Rattle.cidr_sets.specs.model.Ranges.{AreBeginless, AreComplete, AreRan
 ghost use Rattle.cidr_sets.specs.laws.RangeLaws.{plain_beginless, ip_beginless, plain_complete, ip_complete, plain_ends, any_ends, plain_inside, any_inside, v4_fits, v6_fits};
 ghost use Rattle.cidr_sets.specs.model.Sets.{IsSetOf};
 
-use crate::search::known;
 use crate::set::{NetworkSet, reduced};
 use cidr::{AnyIpCidr, BitString, IpAddr, Ipv4Addr, Ipv4Cidr, Ipv6Addr, Ipv6Cidr, NetworkBits};
+use cidr_table::laws::keys::has_at_most_129_bits;
 use std::alloc::{AllocError, Global};
 use std::cmp::Ordering;
 use std::iter::FusedIterator;
@@ -202,8 +202,8 @@ impl<C: Addressed + Copy> NetworkSet<C> {
         ensures addresses { C.IsAddress (C.address_bits first) × C.IsAddress (C.address_bits last) }
     {
         let (first, last) = (C::single(first), C::single(last));
-        known(&first);
-        known(&last);
+        has_at_most_129_bits(&first);
+        has_at_most_129_bits(&last);
         let mut networks = Vec::new(alloc);
         match first.cmp(&last) {
             Ordering::Less => {
@@ -294,7 +294,7 @@ impl<'a, C: Addressed + Copy> FusedIterator for Ranges<'a, C> {}
 fn touches<C: BitString>(network: &C, next: &C) -> bool
     ensures { result ≡ touches (C.bits network.now) (C.bits next.now) }
 {
-    known(network);
+    has_at_most_129_bits(network);
     let shared = network.shared_prefix_len(next);
     if shared >= network.len() || shared >= next.len() {
         return false;
@@ -327,7 +327,7 @@ fn push_side<C: BitString + Copy>(
     ensures fits { OnOk result (length out.new.items
         ≤ length out.old.items + 1 + (length (C.bits edge.now) - (len + 1))) }
 {
-    known(edge);
+    has_at_most_129_bits(edge);
     let mut block = trimmed(edge, len, up);
     out.push(block)?;
     let start = block.len();

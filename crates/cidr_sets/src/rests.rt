@@ -6,9 +6,9 @@ ghost use Rattle.cidr.specs.model.Bits.{bit_cmp};
 ghost use Rattle.cidr.specs.model.Network.{BeginsWith};
 ghost use Rattle.cidr_sets.specs.internal.Steps.{Ascend, IsSkipped};
 
-use crate::search::known;
 use cidr::{BitString, NetworkBits};
 use cidr_table::is_inside;
+use cidr_table::laws::keys::has_at_most_129_bits;
 
 /// The networks without the first ones, which come before this one and don't contain it.
 pub(crate) fn skip<'a, C: NetworkBits>(network: &C, others: &'a [C]) -> &'a [C]
@@ -40,7 +40,7 @@ pub(crate) fn half<C: BitString + Copy>(network: &C, inner: &C, upper: bool) -> 
     ensures bits { C.bits result ≡ C.bits network.now ++ upper ∷ [] }
     ensures room { length (C.bits network.now) < 129 }
 {
-    known(inner);
+    has_at_most_129_bits(inner);
     let mut half = *inner;
     half.clip(network.len());
     half.append(upper);

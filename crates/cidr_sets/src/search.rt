@@ -3,7 +3,7 @@ ghost use Rattle.std.specs.Prelude.{◌≡◌, ℕ, ◌<◌, ◌≤◌, ◌+◌,
 ghost use Rattle.cidr_table.specs.model.Cover.{IsReduced};
 ghost use Rattle.cidr_sets.specs.model.Searches.{IsUpto};
 
-use cidr::{BitString, NetworkBits};
+use cidr::NetworkBits;
 use cidr_table::Probe;
 
 /// How many networks come before this one or are the same. Binary search: it makes at most as many comparisons as the
@@ -25,11 +25,4 @@ pub fn place<C: NetworkBits, P: Probe<C>>(networks: &mut P, network: &C) -> usiz
         left = half;
     }
     low
-}
-
-/// Has no more than 129 bits, which a proof gets from the call.
-pub fn known<C: BitString>(network: &C)
-    ensures { length (C.bits network.now) ≤ 129 }
-{
-    network.len();
 }

@@ -8,8 +8,8 @@ ghost use Rattle.cidr_sets.specs.model.Sets.{IsSetOf};
 ghost use Rattle.cidr_sets.specs.internal.Steps.{Ascend};
 
 use crate::probe::{Networks, contains};
-use crate::search::known;
 use cidr::NetworkBits;
+use cidr_table::laws::keys::has_at_most_129_bits;
 use cidr_table::least_cover_in_place;
 use std::alloc::{AllocError, Global};
 use std::marker::Model;
@@ -108,7 +108,7 @@ impl<C: NetworkBits + Copy> NetworkSet<C> {
         ensures networks { IsTrue result ↔ Covers (map C.bits self.now) (C.bits network.now) }
         ensures reduced { IsReduced 129 (map C.bits self.now) }
     {
-        known(network);
+        has_at_most_129_bits(network);
         contains(&mut self.probe(), network)
     }
 

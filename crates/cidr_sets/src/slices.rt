@@ -16,8 +16,8 @@ ghost use Rattle.cidr_sets.specs.internal.Steps.{Ascend, IsDifferenceStep, IsOve
 use crate::merging::{next_of, next_shared};
 use crate::ranges::{Addressed, all_from};
 use crate::rests::{half, is_passed, skip};
-use crate::search::known;
 use cidr::{BitString, NetworkBits};
+use cidr_table::laws::keys::has_at_most_129_bits;
 use cidr_table::{is_inside, least_cover_in_place};
 
 /// Writes the networks of the addresses that one of two sets has, or both, to the first elements of `out`, and returns
@@ -145,7 +145,7 @@ pub fn complement_in<C: NetworkBits + Copy>(
     ensures short { IfNone result ((set : List (List Bool))
         → IsComplement 129 (C.bits network.now) (map C.bits networks.now) set → length out.old < length set) }
 {
-    known(network);
+    has_at_most_129_bits(network);
     let (count, _) = write_rest(out, 0, network, networks)?;
     Some(count)
 }
@@ -177,8 +177,8 @@ pub fn from_range<C: Addressed + Copy>(
         → IsSetOf 129 (IsBetween (C.address_bits first) (C.address_bits last)) set → length out.old < length set) }
 {
     let (first, last) = (C::single(first), C::single(last));
-    known(&first);
-    known(&last);
+    has_at_most_129_bits(&first);
+    has_at_most_129_bits(&last);
     write_between(out, 0, &C::null(), &first, &last)
 }
 
@@ -205,9 +205,9 @@ fn write_between<C: NetworkBits + Copy>(
     ensures over { IfNone result (IsOverfull (IsBetweenEdges (C.bits first.now) (C.bits last.now))
         (C.bits network.now) (map C.bits (take n out.old)) (length out.old)) }
 {
-    known(network);
-    known(first);
-    known(last);
+    has_at_most_129_bits(network);
+    has_at_most_129_bits(first);
+    has_at_most_129_bits(last);
     if is_passed(network, first) || is_passed(last, network) {
         return Some(n);
     }

@@ -2,5 +2,6 @@
 //! that runs needs none of these.
 
 pub mod covers;
+pub mod keys;
 pub mod loading;
 pub mod look_ups;

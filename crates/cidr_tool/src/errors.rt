@@ -1,6 +1,5 @@
 //! Why a run of the program gave no answer.
 ghost use Rattle.std.specs.Prelude.{◌≡◌, Some};
-ghost use Rattle.cidr.specs.either.IpAddress.{TellsEqual};
 
 use arrayvec::ArrayString;
 use cidr::AddrParseError;
@@ -84,12 +83,4 @@ impl From<OutputFailed> for ToolError {
     fn from(_error: OutputFailed) -> ToolError {
         ToolError::Output
     }
-}
-
-/// Errors are equal exactly where their kind and their contents are the same.
-pub fn equal_errors_are_the_same()
-    ensures fault { TellsEqual ⟦<Fault as PartialEq>⟧.eq }
-    ensures tool { TellsEqual ⟦<ToolError as PartialEq>⟧.eq }
-{
-    cidr::laws::errors::equal_errors_are_the_same();
 }

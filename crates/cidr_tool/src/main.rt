@@ -3,6 +3,7 @@
 
 mod commands;
 mod errors;
+mod laws;
 mod program;
 mod report;
 mod run;
@@ -10,7 +11,7 @@ mod run;
 mod tests;
 mod walks;
 
-use cidr_io::arguments::Given;
+use cidr_io::arguments::SystemArguments;
 use cidr_io::memory::Heap;
 use cidr_io::sink::Tracked;
 use program::program;
@@ -19,5 +20,10 @@ use std::process::ExitCode;
 fn main(rt: HostRuntime) -> ExitCode {
     let (mut out, mut err) = (Tracked::new(rt.stdout()), Tracked::new(rt.stderr()));
     let mut memory = Heap::new(rt.alloc());
-    ExitCode::from(program(&mut memory, &Given { system: &rt }, &mut out, &mut err))
+    ExitCode::from(program(
+        &mut memory,
+        &SystemArguments { system: &rt },
+        &mut out,
+        &mut err,
+    ))
 }

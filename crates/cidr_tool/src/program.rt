@@ -5,7 +5,7 @@ ghost use Rattle.cidr_tool.specs.Program.{AnswersAll, Runs};
 use crate::errors::ToolError;
 use crate::report::{report, report_no_memory};
 use crate::run::run;
-use cidr_io::arguments::{Arguments, ReadError, borrowed, texts_of};
+use cidr_io::arguments::{ArgumentReadError, Arguments, borrowed, texts_of};
 use cidr_io::memory::Memory;
 use cidr_io::sink::Sink;
 use std::alloc::AllocError;
@@ -22,8 +22,8 @@ fn answer<M: Memory, A: Arguments, O: Sink>(
 {
     let texts = match texts_of(memory, arguments) {
         Ok(texts) => texts,
-        Err(ReadError::NotText(_)) => return Ok(Err(ToolError::Usage)),
-        Err(ReadError::NoMemory) => return Err(AllocError),
+        Err(ArgumentReadError::NotText(_)) => return Ok(Err(ToolError::Usage)),
+        Err(ArgumentReadError::NoMemory) => return Err(AllocError),
     };
     let slices = borrowed(memory, texts.as_slice())?;
     Ok(run(slices.as_slice(), out))

@@ -7,11 +7,11 @@ ghost use Rattle.cidr_sets.specs.model.FirstRules.{IsPermitted, IsShadowed};
 ghost use Rattle.cidr_uses.specs.AccessList.{Matches, IsFirstMatch, AreDeciders};
 
 use cidr::{AnyIpCidr, IpAddr, Ipv4Addr, Ipv4Cidr, NetworkBits};
-use cidr_sets::access::{
-    Rule, deciding, equal_sets_permit_the_same, permits, permitted, shadowed,
+use cidr_sets::access::{Rule, deciding, permits, permitted, shadowed};
+use cidr_sets::laws::{
+    equal_sets_are_the_same, equal_sets_permit_the_same, permitted_sets_decide_addresses,
     shadowed_rules_are_decided_earlier,
 };
-use cidr_sets::laws::{equal_sets_are_the_same, permitted_sets_decide_addresses};
 use std::alloc::{AllocError, Global};
 
 /// Whether some entry of the list matches the address. An empty list allows none, and the entry `any` allows every

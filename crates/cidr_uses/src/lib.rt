@@ -1,5 +1,5 @@
 //! Parts of small programs, written by the public calls of `cidr`, `cidr_table`, `cidr_forwarding`, `cidr_lookup`,
-//! `cidr_sets` and `cidr_ext` only and proved from their public contracts only.
+//! `cidr_routes`, `cidr_sets` and `cidr_ext` only and proved from their public contracts only.
 #![tactic(auto)]
 
 pub mod access_list;
@@ -31,6 +31,7 @@ pub mod read_back;
 pub mod reading;
 pub mod ready_sets;
 pub mod route_hits;
+pub mod route_origins;
 pub mod routing_table;
 pub mod strict_parsers;
 pub mod strings;

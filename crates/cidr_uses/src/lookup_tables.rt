@@ -5,7 +5,7 @@ ghost use Rattle.cidr_table.specs.model.Prefixes.{IsLongestMatch};
 ghost use Rattle.cidr_lookup.specs.Keys.{prefix_bits, key_networks};
 
 use cidr::{Ipv4Addr, Ipv6Addr};
-use cidr_lookup::{Address, Fault, Halves, Key, TableError, build, check, find};
+use cidr_lookup::{Address, Ipv6Halves, Key, TableError, WordsFault, build, check, find};
 use std::alloc::Global;
 
 /// The index of the longest of the keys that have an address, by a table that it builds.
@@ -25,7 +25,7 @@ pub fn longest_match(
 /// The same of IPv6.
 pub fn longest_wide_match(
     alloc: Global,
-    keys: &[Key<Halves>],
+    keys: &[Key<Ipv6Halves>],
     address: Ipv6Addr,
 ) -> Result<Option<usize>, TableError>
     ensures { IfOk result (IsLongestMatch (prefix_bits 128) address (key_networks (λ halves. halves.high * 2 ^ 64 + halves.low) keys.now)) }
@@ -33,7 +33,7 @@ pub fn longest_wide_match(
     let table = build(alloc, keys)?;
     let first = table.first.as_slice();
     let words = table.words.as_slice();
-    let number = Halves::of(address.to_bits());
+    let number = Ipv6Halves::of(address.to_bits());
     Ok(find(&first, &words, table.steps, number))
 }
 
@@ -45,7 +45,7 @@ pub fn checked_match(
     words: &[u32],
     steps: u32,
     address: Ipv4Addr,
-) -> Result<Option<usize>, Fault>
+) -> Result<Option<usize>, WordsFault>
     ensures { IfOk result (IsLongestMatch (prefix_bits 32) address (key_networks (λ number. number) keys.now)) }
 {
     check(alloc, keys, &first, &words, steps)?;
@@ -53,8 +53,11 @@ pub fn checked_match(
 }
 
 /// What `check` says of a table that was built: it accepts it, or an allocation failed.
-pub fn built_is_accepted(alloc: Global, keys: &[Key<u32>]) -> Result<Result<(), Fault>, TableError>
-    ensures { IfOk result (λ checked. IfErr checked (λ fault. fault ≡ Fault.Keys TableError.NoMemory)) }
+pub fn built_is_accepted(
+    alloc: Global,
+    keys: &[Key<u32>],
+) -> Result<Result<(), WordsFault>, TableError>
+    ensures { IfOk result (λ checked. IfErr checked (λ fault. fault ≡ WordsFault.Keys TableError.NoMemory)) }
 {
     let table = build(alloc, keys)?;
     let first = table.first.as_slice();

@@ -1,7 +1,7 @@
 //! A program for lists of networks.
 #![tactic(auto)]
 
-use cidr_io::arguments::Given;
+use cidr_io::arguments::SystemArguments;
 use cidr_io::memory::Heap;
 use cidr_io::sink::Tracked;
 use netset_commands::input::files::System;
@@ -31,7 +31,7 @@ fn main(rt: HostRuntime) -> ExitCode {
         runtime: &rt,
         refused: None,
     };
-    let arguments = Given { system: &rt };
+    let arguments = SystemArguments { system: &rt };
     let mut memory = Heap::new(rt.alloc());
     ExitCode::from(program(
         &mut memory,

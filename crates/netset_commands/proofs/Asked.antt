@@ -12,8 +12,8 @@ use Rattle.cidr_lists.specs.declared.fields.Asked.{Asked}
 use Rattle.netset_commands.specs.LookUps.{AreFirstSaid, AreReadBefore, AskLooks, AsksLines, EndsAsking, EndsReading, IsErrorBehind, LineAsks}
 use Rattle.netset_commands.specs.Reading.{IsNextLine, IsStopped}
 use Rattle.cidr_lists.specs.declared.errors.LineError.{LineError}
-use Rattle.netset_commands.specs.declared.errors.ReadError.{ReadError}
-use Rattle.netset_commands.specs.declared.errors.ReadError.TheVariants.{Line, Input, NoMemory}
+use Rattle.netset_commands.specs.declared.errors.ListReadError.{ListReadError}
+use Rattle.netset_commands.specs.declared.errors.ListReadError.TheVariants.{Line, Input, NoMemory}
 use Rattle.netset_commands.proofs.TextProgress.{Passed, none_passed, one_passed, all_passed, error_passed, first_passed}
 use Rattle.netset_commands.proofs.Zips.{zip_length}
 
@@ -74,19 +74,19 @@ module _ (which : Asked) where
   first_read None left asked p = tt
   first_read (Some text) left asked p = first_passed (LineAsks which) text left asked (length asked + 1) p
 
-  stopped : (contents : Option (List ℕ)) (asked : List (Option IpAddr)) (e : ReadError) → IsStopped e → IfSome contents (λ text. AreFirstSaid (LineAsks which) text asked)
+  stopped : (contents : Option (List ℕ)) (asked : List (Option IpAddr)) (e : ListReadError) → IsStopped e → IfSome contents (λ text. AreFirstSaid (LineAsks which) text asked)
       → IfSome contents (λ text. EndsAsking which text asked e)
   stopped None asked e s p = tt
   stopped (Some text) asked (Line number e) s p = absurd s
   stopped (Some text) asked Input s p = p
   stopped (Some text) asked NoMemory s p = p
 
-  stopped_behind : (first : ℕ) (asked : List (Option IpAddr)) (e : ReadError) → IsStopped e → IsErrorBehind first asked e
+  stopped_behind : (first : ℕ) (asked : List (Option IpAddr)) (e : ListReadError) → IsStopped e → IsErrorBehind first asked e
   stopped_behind first asked (Line number e) s = absurd s
   stopped_behind first asked Input s = tt
   stopped_behind first asked NoMemory s = tt
 
-  pub asking_stopped : (first : ℕ) (contents left next : Option (List ℕ)) (asked : List (Option IpAddr)) (number : ℕ) (e : ReadError) → IsStopped e
+  pub asking_stopped : (first : ℕ) (contents left next : Option (List ℕ)) (asked : List (Option IpAddr)) (number : ℕ) (e : ListReadError) → IsStopped e
       → Asking first contents left asked number → AsksLines which first contents next asked (Err e)
   asking_stopped first contents left next asked number e s a = (stopped_behind first asked e s, stopped contents asked e s (first_read contents left asked a.passed))
 
@@ -194,7 +194,7 @@ module _ (which : Asked) where
     group_first None left looks others asked first more number p g is h = tt
     group_first (Some text) left looks others asked first more number p g is h = first_of_group text left looks others asked first more number p g is h
 
-    error_in_group : (text : List ℕ) (left : Option (List ℕ)) (looks others : List (Option LookUp)) (asked : List (Option IpAddr)) (number : ℕ) (e : ReadError)
+    error_in_group : (text : List ℕ) (left : Option (List ℕ)) (looks others : List (Option LookUp)) (asked : List (Option IpAddr)) (number : ℕ) (e : ListReadError)
         → Passed (LineLooks which table) text left looks number → IsErrorBehind number asked e → IfSome left (λ text. EndsAsking which text asked e)
         → AllZip (AskLooks table) asked others → EndsReading which table text (looks ++ others) e
     error_in_group text left looks others asked number (Line n e) p is g h =
@@ -211,7 +211,7 @@ module _ (which : Asked) where
     error_in_group text left looks others asked number Input p is g h = first_of_group text left looks others asked asked [] number p g (sym (append-nil asked)) h
     error_in_group text left looks others asked number NoMemory p is g h = first_of_group text left looks others asked asked [] number p g (sym (append-nil asked)) h
 
-    pub group_ended : (contents left : Option (List ℕ)) (looks others : List (Option LookUp)) (asked : List (Option IpAddr)) (number : ℕ) (e : ReadError)
+    pub group_ended : (contents left : Option (List ℕ)) (looks others : List (Option LookUp)) (asked : List (Option IpAddr)) (number : ℕ) (e : ListReadError)
         → IfSome contents (λ text. Passed (LineLooks which table) text left looks number) → IsErrorBehind number asked e → IfSome left (λ text. EndsAsking which text asked e)
         → AllZip (AskLooks table) asked others → IfSome contents (λ text. EndsReading which table text (looks ++ others) e)
     group_ended None left looks others asked number e p is g h = tt
@@ -228,14 +228,14 @@ module _ (which : Asked) where
   all_first None asked g = tt
   all_first (Some text) asked g = record { before = lines_of text; after = []; lines = sym (append-nil (lines_of text)); fine = g }
 
-  ended_first : (contents : Option (List ℕ)) (asked : List (Option IpAddr)) (e : ReadError) → IfSome contents (λ text. EndsAsking which text asked e)
+  ended_first : (contents : Option (List ℕ)) (asked : List (Option IpAddr)) (e : ListReadError) → IfSome contents (λ text. EndsAsking which text asked e)
       → IfSome contents (λ text. AreFirstSaid (LineAsks which) text asked)
   ended_first None asked e g = tt
   ended_first (Some text) asked (Line number e) g = record { before = g.before; after = g.line ∷ g.after; lines = g.lines; fine = g.fine }
   ended_first (Some text) asked Input g = g
   ended_first (Some text) asked NoMemory g = g
 
-  pub first_asked : (first : ℕ) (contents left : Option (List ℕ)) (asked : List (Option IpAddr)) (read : Result (Option ℕ) ReadError) → AsksLines which first contents left asked read
+  pub first_asked : (first : ℕ) (contents left : Option (List ℕ)) (asked : List (Option IpAddr)) (read : Result (Option ℕ) ListReadError) → AsksLines which first contents left asked read
       → IfSome contents (λ text. AreFirstSaid (LineAsks which) text asked)
   first_asked first contents left asked (Ok (Some number)) h = before_first contents left asked h.1
   first_asked first contents left asked (Ok None) h = all_first contents asked h

@@ -6,9 +6,9 @@ use Rattle.std.proofs.lemmas.List.{length-map}
 use Rattle.std.proofs.lemmas.List.Splits.{length-slice_split}
 use Rattle.std.proofs.lemmas.List.Sums.{count_by-le-length}
 use Rattle.cidr_io.specs.Lines.{MayFail as NoLineFails}
-use Rattle.cidr_io.specs.declared.lines.ReadError.{ReadError as NoLine}
-use Rattle.cidr_io.specs.declared.lines.ReadError.TheVariants.{Failed}
-use Rattle.cidr_io.specs.declared.lines.ReadError.TheVariants as no_line
+use Rattle.cidr_io.specs.declared.lines.LineReadError.{LineReadError as NoLine}
+use Rattle.cidr_io.specs.declared.lines.LineReadError.TheVariants.{Failed}
+use Rattle.cidr_io.specs.declared.lines.LineReadError.TheVariants as no_line
 use Rattle.cidr_io.specs.declared.sink.OutputFailed.{OutputFailed}
 use Rattle.cidr_io.specs.Writing.{State}
 use Rattle.netset_commands.specs.Causes.{Cause, AreTooMany, LookCause, FileFails, IsToldReason, ReadCause, Refusals, TextFails}
@@ -27,8 +27,8 @@ use Rattle.netset_commands.specs.declared.errors.CommandError.TheVariants as err
 use Rattle.netset_commands.specs.declared.errors.FileError.TheVariants.{TooLarge, NotSaved, Hole, Unlike, Old, Version, Short, Long, Changed}
 use Rattle.cidr_lists.specs.declared.errors.LineError.{LineError}
 use Rattle.cidr_lists.specs.declared.forms.RowForm.{RowForm}
-use Rattle.netset_commands.specs.declared.errors.ReadError.{ReadError}
-use Rattle.netset_commands.specs.declared.errors.ReadError.TheVariants.{Line, Input, NoMemory}
+use Rattle.netset_commands.specs.declared.errors.ListReadError.{ListReadError}
+use Rattle.netset_commands.specs.declared.errors.ListReadError.TheVariants.{Line, Input, NoMemory}
 use Rattle.netset_commands.specs.declared.commands.look.LookError.{LookError}
 use Rattle.netset_commands.specs.declared.commands.look.LookError.TheVariants.{Reading, Output}
 use Rattle.netset_commands.specs.declared.commands.matching.Written.{Written}
@@ -59,14 +59,14 @@ pub no_line_cause : (contents left : Option (List ℕ)) (refused : Bool) (e : No
 no_line_cause contents left refused Failed known fails none = told_fails contents left known (fails refl)
 no_line_cause contents left refused no_line.NoMemory known fails none = none refl
 
-pub lines_cause : (contents left : Option (List ℕ)) (refused : Bool) (e : ReadError) → KnownOf contents left → ReadCause (NoLineFails left) refused e
+pub lines_cause : (contents left : Option (List ℕ)) (refused : Bool) (e : ListReadError) → KnownOf contents left → ReadCause (NoLineFails left) refused e
     → ReadCause (TextFails contents) refused e
 lines_cause contents left refused (Line number e) known h = tt
 lines_cause contents left refused Input known h = told_fails contents left known h
 lines_cause contents left refused NoMemory known h = h
 
 -- a line alone never says that a file can't be read
-pub line_cause : (Fails : Type 0) (refused : Bool) (e : ReadError) → ReadCause ⊥ refused e → ReadCause Fails refused e
+pub line_cause : (Fails : Type 0) (refused : Bool) (e : ListReadError) → ReadCause ⊥ refused e → ReadCause Fails refused e
 line_cause Fails refused (Line number e) h = tt
 line_cause Fails refused Input h = absurd h
 line_cause Fails refused NoMemory h = h
@@ -109,7 +109,7 @@ whole_fails contents reasons name why left opened opens h = file_fails contents 
 pub whole_read : (left : Option (List ℕ)) (text bytes : List ℕ) → left ≡ Some text → IfSome left (λ text. bytes ≡ text) → bytes ≡ text
 whole_read left text bytes is h = subst (λ (k : Option (List ℕ)). IfSome k (λ text. bytes ≡ text)) is h
 
-pub file_cause : (contents : List ℕ → Option Text) (reasons : List ℕ → Option Reason) (file : Bor (List ℕ)) (left : Option (List ℕ)) (refused : Bool) (e : ReadError)
+pub file_cause : (contents : List ℕ → Option Text) (reasons : List ℕ → Option Reason) (file : Bor (List ℕ)) (left : Option (List ℕ)) (refused : Bool) (e : ListReadError)
     → reasons file.now ≡ None → ((text : Text) → contents file.now ≡ Some text → left ≡ Some text.bytes) → ReadCause (TextFails left) refused e
     → Cause (FileFails contents reasons) refused (unread file e)
 file_cause contents reasons file left refused (Line number e) opened opens h = tt

@@ -18,7 +18,7 @@ use Rattle.netset_commands.specs.Program.{AnswersRequest, by_output}
 use Rattle.netset_commands.specs.declared.commands.look.LookError.TheVariants.{Reading, Output}
 use Rattle.netset_commands.specs.declared.errors.CommandError.{CommandError}
 use Rattle.netset_commands.specs.declared.errors.CommandError.TheVariants as error
-use Rattle.netset_commands.specs.declared.errors.ReadError.{ReadError}
+use Rattle.netset_commands.specs.declared.errors.ListReadError.{ListReadError}
 use Rattle.netset_commands.specs.declared.output.answers.Verdict.{Verdict}
 use Rattle.netset_commands.proofs.Looked.{all_as, ends_as, gone, lost_as, of_file}
 use Rattle.netset_commands.proofs.ReadBy.{bytes_read}
@@ -62,7 +62,7 @@ module _ (contents : List ℕ → Option Text) (file : Bor (List ℕ)) (left : O
     refl,
   ))
 
-  pub classes_cut : (e : ReadError) → LooksAll First registry left s t (Err (Reading e)) → AnswersRequest contents (Class file.now) s t (Err (unread file e))
+  pub classes_cut : (e : ListReadError) → LooksAll First registry left s t (Err (Reading e)) → AnswersRequest contents (Class file.now) s t (Err (unread file e))
   classes_cut e (looks, written, ends) = inr (
     unread file e,
     refl,

@@ -8,7 +8,7 @@ use Rattle.cidr.specs.model.Bits.{number}
 use Rattle.cidr.specs.model.Network.{first_of}
 use Rattle.cidr_files.specs.Contents.{HasRows}
 use Rattle.cidr_files.specs.Tables.{AreOffsets, stored_networks, value_in}
-use Rattle.cidr_files.specs.declared.contents.Rows.{Rows}
+use Rattle.cidr_files.specs.declared.contents.FileRows.{FileRows}
 use Rattle.cidr_lookup.proofs.Networks.{one_fits, one_more as one_key, own_bits}
 use Rattle.cidr_lookup.specs.Keys.{key_networks, prefix_bits}
 use Rattle.cidr_lookup.specs.Rows.{numbered, numbered_rows}
@@ -162,7 +162,7 @@ module _ {C W : Type 0} (w : ℕ) (value : W → ℕ) (bits_of : C → List Bool
   said row = (bits_of row.0, value_at all row.1)
 
   module _ (numbers : List ℕ → List ℕ) (parts : List (List ℕ)) where
-    values_of : (rows : List (C × Span)) (columns : Columns W) (file : Rows W) → AreColumns w value bits_of all rows columns → file.offsets.now ≡ columns.offsets.items
+    values_of : (rows : List (C × Span)) (columns : Columns W) (file : FileRows W) → AreColumns w value bits_of all rows columns → file.offsets.now ≡ columns.offsets.items
         → file.values.now ≡ columns.values.items → HasRows numbers parts value file → (any : C × Span) (i : ℕ) → i < length rows → value_in parts i ≡ value_at all (get_or rows i any).1
     values_of rows columns file are offsets values has any i l =
         ap₂ (λ (xs os : List ℕ). slice_range xs (get_or os i 0) (get_or os (i + 1) 0)) (has.values_are ∙ values) (has.offsets_are ∙ offsets)
@@ -187,7 +187,7 @@ module _ {C W : Type 0} (w : ℕ) (value : W → ℕ) (bits_of : C → List Bool
         ∙ (own_bits w (bits_of (get_or (row ∷ rows) i row).0) (fit row i l')
         ∙ sym (ap (λ (p : List Bool × List ℕ). p.0) (get_or-map said (row ∷ rows) i row ([], []) l')))
 
-    pub has_the_rows : (rows : List (C × Span)) (columns : Columns W) (file : Rows W) → AreColumns w value bits_of all rows columns → file.keys.now ≡ columns.keys.items
+    pub has_the_rows : (rows : List (C × Span)) (columns : Columns W) (file : FileRows W) → AreColumns w value bits_of all rows columns → file.keys.now ≡ columns.keys.items
         → file.offsets.now ≡ columns.offsets.items → file.values.now ≡ columns.values.items → HasRows numbers parts value file
         → HasTheRows w numbers parts (map said rows)
     has_the_rows rows columns file are keys offsets values has =

@@ -19,7 +19,7 @@ use Rattle.cidr_lists.specs.Lists.{Text}
 use Rattle.netset_commands.specs.Rows.{kept}
 use Rattle.cidr_lists.specs.declared.changes.Sign.TheVariants.{Plus, Minus}
 use Rattle.cidr_lists.specs.declared.forms.RowForm.{RowForm}
-use Rattle.netset_commands.specs.declared.input.tables.Table.{Table}
+use Rattle.netset_commands.specs.declared.input.tables.PlainTable.{PlainTable}
 use Rattle.netset_commands.proofs.Changed.{both_empty}
 use Rattle.cidr_table.proofs.MapLaws.{contains_first}
 use Rattle.netset_commands.specs.Commands.{Same}
@@ -89,7 +89,7 @@ named_lines family numbers [] = refl
 named_lines family numbers (row ∷ rows) = ap (λ (more : List ℕ). value_lines (plain_text family row.0) (named numbers row.1) ++ more) (named_lines family numbers rows)
 
 -- ---- what is written is where the tables differ
-pub same_written : (contents : List ℕ → Option Text) (form : RowForm) (a b : List ℕ) (old new : Table) (made : Differing) (s t : State) (verdict : Verdict)
+pub same_written : (contents : List ℕ → Option Text) (form : RowForm) (a b : List ℕ) (old new : PlainTable) (made : Differing) (s t : State) (verdict : Verdict)
     (w : Result (Unit {0}) OutputFailed) (r : Result Verdict CommandError) → ReadsTable form (contents a) a (Ok old) → ReadsTable form (contents b) b (Ok new)
     → ((family : Family) → AreDifferences (kept old family) (kept new family) (HasWidth (width_of family)) (found made family)) → AreAlike (found made) verdict
     → Answered s t (flat_map (λ (row : List Bool × (Option ℕ × Option ℕ)). value_lines (plain_text Ipv4 row.0) (named made.numbers row.1)) made.v4.items

@@ -21,14 +21,14 @@ use Rattle.netset_commands.proofs.ReadBy.{bytes_read, text_same}
 use Rattle.netset_commands.proofs.Zips.{zip_behind}
 use Rattle.netset_commands.specs.declared.errors.CommandError.{CommandError}
 use Rattle.netset_commands.specs.declared.errors.CommandError.TheVariants as error
-use Rattle.netset_commands.specs.declared.errors.ReadError.{ReadError}
+use Rattle.netset_commands.specs.declared.errors.ListReadError.{ListReadError}
 use Rattle.cidr_lists.specs.declared.records.ListForm.{ListForm}
 use Rattle.netset_commands.specs.declared.input.keeping.Said.TheVariants.{Networks}
 use Rattle.cidr_lists.specs.declared.lists.Lists.{Lists}
 use Rattle.cidr_lists.specs.declared.sets.Sets.{Sets}
 
 -- the list of a file, as it is read
-pub list_read : (contents : Option Text) (left : Option (List ℕ)) (bits : ListForm) (old new : Lists) (r : Result (Unit {0}) ReadError)
+pub list_read : (contents : Option Text) (left : Option (List ℕ)) (bits : ListForm) (old new : Lists) (r : Result (Unit {0}) ListReadError)
     → ((text : Text) → contents ≡ Some text → left ≡ Some text.bytes) → ((text : Text) → contents ≡ Some text → text.form ≡ bits)
     → IfSome left (λ bytes. ReadsList (text_in bits bytes) old new r) → (text : Text) → contents ≡ Some text → ReadsList text old new r
 list_read contents left bits old new r opens by h text is =

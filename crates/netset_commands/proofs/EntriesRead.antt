@@ -15,8 +15,8 @@ use Rattle.netset_commands.specs.Unchecked.{AddsFileEntries, AreToldEntries, IsF
 use Rattle.cidr_lists.specs.declared.entries.Entry.{Entry}
 use Rattle.netset_commands.specs.declared.errors.CommandError.{CommandError}
 use Rattle.netset_commands.specs.declared.errors.CommandError.TheVariants as error
-use Rattle.netset_commands.specs.declared.errors.ReadError.{ReadError}
-use Rattle.netset_commands.specs.declared.errors.ReadError.TheVariants.{Line, Input, NoMemory}
+use Rattle.netset_commands.specs.declared.errors.ListReadError.{ListReadError}
+use Rattle.netset_commands.specs.declared.errors.ListReadError.TheVariants.{Line, Input, NoMemory}
 use Rattle.netset_commands.proofs.Arguments.{bytes_of, same_length, within_bytes}
 use Rattle.netset_commands.proofs.EachFile.{last_told, next_taken}
 use Rattle.netset_commands.proofs.LinesRead.{LineAt}
@@ -55,7 +55,7 @@ line_added file old now new number line (one, has, adds) before at (entries, are
 )
 
 -- a line in error, or an end of reading
-line_fault : (file : List ℕ) (contents : Option (List ℕ)) (old now : List Entry) (number : ℕ) (line : List ℕ) (e : ReadError)
+line_fault : (file : List ℕ) (contents : Option (List ℕ)) (old now : List Entry) (number : ℕ) (line : List ℕ) (e : ListReadError)
     → IfSome contents (λ text. LineAt (HasAdded file old) text now number line) → IsLineFault line number e → IfSome contents (λ text. IsTextFault file text e)
 line_fault file None old now number line e p h = tt
 line_fault file (Some text) old now number line Input p h = tt
@@ -73,28 +73,28 @@ line_fault file (Some text) old now number line (Line n e) p h =
       fault = h.1;
     }
 
-no_line : (file : List ℕ) (contents : Option (List ℕ)) (e : ReadError) → IsStopped e → IfSome contents (λ text. IsTextFault file text e)
+no_line : (file : List ℕ) (contents : Option (List ℕ)) (e : ListReadError) → IsStopped e → IfSome contents (λ text. IsTextFault file text e)
 no_line file None e h = tt
 no_line file (Some text) (Line number e) h = absurd h
 no_line file (Some text) Input h = tt
 no_line file (Some text) NoMemory h = tt
 
-abbrev failing : ReadError → Result (Unit {0}) ReadError
+abbrev failing : ListReadError → Result (Unit {0}) ListReadError
 failing e = Err e
 
-passed_on : (file : List ℕ) (contents : Option (List ℕ)) (old new : List Entry) (r : Result (Unit {0}) ReadError) (y e : ReadError) → r ≡ Err y → y ≡ e
+passed_on : (file : List ℕ) (contents : Option (List ℕ)) (old new : List Entry) (r : Result (Unit {0}) ListReadError) (y e : ListReadError) → r ≡ Err y → y ≡ e
     → IfSome contents (λ text. IsTextFault file text e) → IfSome contents (λ text. AddsEntries file text old new r)
 passed_on file contents old new r y e is same h =
-    let P : Result (Unit {0}) ReadError → Type 0 = λ k. IfSome contents (λ text. AddsEntries file text old new k) in
+    let P : Result (Unit {0}) ListReadError → Type 0 = λ k. IfSome contents (λ text. AddsEntries file text old new k) in
     subst P (sym (is ∙ ap failing same)) h
 
-pub line_failed : (file : List ℕ) (contents : Option (List ℕ)) (old now new : List Entry) (number : ℕ) (line : List ℕ) (r : Result (Unit {0}) ReadError) (y e : ReadError)
+pub line_failed : (file : List ℕ) (contents : Option (List ℕ)) (old now new : List Entry) (number : ℕ) (line : List ℕ) (r : Result (Unit {0}) ListReadError) (y e : ListReadError)
     → r ≡ Err y → y ≡ e → IfSome contents (λ text. LineAt (HasAdded file old) text now number line) → IsLineFault line number e
     → IfSome contents (λ text. AddsEntries file text old new r)
 line_failed file contents old now new number line r y e is same p h =
     passed_on file contents old new r y e is same (line_fault file contents old now number line e p h)
 
-pub reading_stopped : (file : List ℕ) (contents : Option (List ℕ)) (old new : List Entry) (r : Result (Unit {0}) ReadError) (y e : ReadError) → r ≡ Err y → y ≡ e
+pub reading_stopped : (file : List ℕ) (contents : Option (List ℕ)) (old new : List Entry) (r : Result (Unit {0}) ListReadError) (y e : ListReadError) → r ≡ Err y → y ≡ e
     → IsStopped e → IfSome contents (λ text. AddsEntries file text old new r)
 reading_stopped file contents old new r y e is same h = passed_on file contents old new r y e is same (no_line file contents e h)
 

@@ -15,7 +15,7 @@ use Rattle.cidr_lists.specs.Tables.{resolved, value_at}
 use Rattle.netset_commands.specs.Rows.{kept}
 use Rattle.cidr_lists.specs.declared.forms.RowForm.{RowForm}
 use Rattle.cidr_lists.specs.declared.rows.Span.{Span}
-use Rattle.netset_commands.specs.declared.input.tables.Table.{Table}
+use Rattle.netset_commands.specs.declared.input.tables.PlainTable.{PlainTable}
 use Rattle.netset_commands.specs.Causes.{Cause}
 use Rattle.netset_commands.specs.Commands.{Smallest}
 use Rattle.netset_commands.specs.Fewest.{AreFewestLines, AreFewestNumbers, TellsFewest, all_rows, with_numbers}
@@ -132,7 +132,7 @@ fewest_lines holes table fewest up have ipv4 ipv6 fine =
     )
 
 -- ---- the answer
-pub fewest_answered : (contents : List ℕ → Option Text) (holes : Bool) (form : RowForm) (name : List ℕ) (table : Table) (refused : Bool) (s t : State) (r : Result Verdict CommandError)
+pub fewest_answered : (contents : List ℕ → Option Text) (holes : Bool) (form : RowForm) (name : List ℕ) (table : PlainTable) (refused : Bool) (s t : State) (r : Result Verdict CommandError)
     → ReadsTable form (contents name) name (Ok table) → (holes ≡ true → (family : Family) → ¬ (Contains (values_of (kept table family)) (codes "-")))
     → TellsFewest holes (kept table) refused s t r → AnswersRequest contents (Smallest holes form name) s t r
 fewest_answered contents holes form name table refused s t r reads fine (inl (same, left, is)) =
@@ -147,7 +147,7 @@ fewest_cause F holes table refused s t r (inl (same, left, is)) = subst (λ (k :
 fewest_cause F holes table refused s t r (inr (answer, w, lines, written, is)) = output_cause F refused Yes w r is
 
 -- a value of the table stands for a hole
-pub hole_refused : (contents : List ℕ → Option Text) (holes : Bool) (form : RowForm) (name : Bor (List ℕ)) (table : Table) (s : State)
+pub hole_refused : (contents : List ℕ → Option Text) (holes : Bool) (form : RowForm) (name : Bor (List ℕ)) (table : PlainTable) (s : State)
     → ReadsTable form (contents name.now) name.now (Ok table) → holes ≡ true → (family : Family) × Contains (values_of (kept table family)) (codes "-")
     → AnswersRequest contents (Smallest holes form name.now) s s (Err (error.File name Hole))
 hole_refused contents true form name table s reads is there = inl (refl, inr (refl, λ text told. (kept table, reads text told, there.0, there.1)))

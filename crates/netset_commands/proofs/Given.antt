@@ -16,8 +16,8 @@ use Rattle.netset_commands.specs.LookUps.{unread}
 use Rattle.netset_commands.specs.Stored.{AreFileBytes, ChecksFile, HasUnfitRow, IsNoTable, IsNotGiven, TellsUnfit}
 use Rattle.netset_commands.specs.declared.errors.CommandError.{CommandError}
 use Rattle.netset_commands.specs.declared.errors.CommandError.TheVariants as error
-use Rattle.netset_commands.specs.declared.errors.ReadError.{ReadError}
-use Rattle.netset_commands.specs.declared.errors.ReadError.TheVariants.{Line, Input, NoMemory}
+use Rattle.netset_commands.specs.declared.errors.ListReadError.{ListReadError}
+use Rattle.netset_commands.specs.declared.errors.ListReadError.TheVariants.{Line, Input, NoMemory}
 use Rattle.netset_commands.specs.declared.input.begun.Begun.{Begun}
 use Rattle.netset_commands.proofs.Causes.{cause_weaker, whole_fails, whole_read}
 use Rattle.netset_commands.proofs.ReadBy.{bytes_read}
@@ -80,7 +80,7 @@ whole_cause contents reasons name left refused e opened opens h =
     (λ k why c. subst (λ (n : List ℕ). FileFails contents reasons n why) (sym c.0) (whole_fails contents reasons name why left opened opens c.1)) h
 
 -- a line of it is in error
-pub no_lines : (form : RowForm) (contents : Option Text) (file : Bor (List ℕ)) (e : ReadError) → ((text : Text) → contents ≡ Some text → begins_file text.bytes ≡ false)
+pub no_lines : (form : RowForm) (contents : Option Text) (file : Bor (List ℕ)) (e : ListReadError) → ((text : Text) → contents ≡ Some text → begins_file text.bytes ≡ false)
     → IsUnreadTable form contents file.now (unread file e) → IsNoTable form contents file.now (unread file e)
 no_lines form contents file (Line number e) begins h = (h, begins)
 no_lines form contents file Input begins h = h

@@ -28,8 +28,8 @@ use Rattle.netset_commands.specs.Reading.{IsNextLine}
 use Rattle.netset_commands.specs.Streaming.{IsCutBehind, IsOfFile, IsStop, IsWritten}
 use Rattle.netset_commands.specs.declared.errors.CommandError.{CommandError}
 use Rattle.netset_commands.specs.declared.errors.CommandError.TheVariants as error
-use Rattle.netset_commands.specs.declared.errors.ReadError.{ReadError}
-use Rattle.netset_commands.specs.declared.errors.ReadError.TheVariants.{Line, Input, NoMemory}
+use Rattle.netset_commands.specs.declared.errors.ListReadError.{ListReadError}
+use Rattle.netset_commands.specs.declared.errors.ListReadError.TheVariants.{Line, Input, NoMemory}
 use Rattle.netset_commands.specs.declared.output.answers.Verdict.{Verdict}
 use Rattle.netset_commands.specs.declared.output.answers.Verdict.TheVariants.{No}
 use Rattle.netset_commands.proofs.Causes.{cause_weaker, enough_bytes, known_first, longer_than, told_fails}
@@ -144,7 +144,7 @@ fails_before (Some text) next part n h =
     omega (arith, many, n.3)
 
 -- ---- what is left of a file without a header
-pub left_cause : (file : Bor (List ℕ)) (left : Option (List ℕ)) (refused : Bool) (e : ReadError) → ReadCause (TextFails left) refused e
+pub left_cause : (file : Bor (List ℕ)) (left : Option (List ℕ)) (refused : Bool) (e : ListReadError) → ReadCause (TextFails left) refused e
     → Cause (λ name _. (name ≡ file.now) × TextFails left) refused (unread file e)
 left_cause file left refused (Line number e) h = tt
 left_cause file left refused Input h = (refl, h)

@@ -10,7 +10,7 @@ use Rattle.std.specs.Map.{keys_of}
 use Rattle.cidr.specs.model.Bits.{bit_cmp}
 use Rattle.cidr_files.specs.Contents.{AreRowsUnwritten}
 use Rattle.cidr_files.specs.Tables.{AreOffsets}
-use Rattle.cidr_files.specs.declared.contents.Rows.{Rows}
+use Rattle.cidr_files.specs.declared.contents.FileRows.{FileRows}
 use Rattle.cidr_files.specs.declared.faults.WriteError.TheVariants.{Table, Values}
 use Rattle.cidr_lookup.proofs.Networks.{rows_ascend}
 use Rattle.cidr_lookup.proofs.Numbers.{length_networks}
@@ -47,7 +47,7 @@ pub long_values : (w padding : ℕ) (steps : ℕ → ℕ) (all : List ℕ) (rows
 long_values w padding steps all rows long = inr (inl (omega (arith, long, bytes_said all rows)))
 
 -- ---- why columns are not written: they are too large
-module _ {W : Type 0} (w padding : ℕ) (steps : ℕ → ℕ) (value : W → ℕ) (all : List ℕ) (rows : List (List Bool × Span)) (columns : Columns W) (file : Rows W)
+module _ {W : Type 0} (w padding : ℕ) (steps : ℕ → ℕ) (value : W → ℕ) (all : List ℕ) (rows : List (List Bool × Span)) (columns : Columns W) (file : FileRows W)
     (are : AreColumns w value (λ (p : List Bool). p) all rows columns) (keys : file.keys.now ≡ columns.keys.items) (offsets : file.offsets.now ≡ columns.offsets.items)
     (values : file.values.now ≡ columns.values.items) (sorted : IsStrictlySortedBy bit_cmp (keys_of rows)) where
   networks_are : key_networks value file.keys.now ≡ numbered_rows (λ (p : List Bool). p) w rows

@@ -14,8 +14,8 @@ use Rattle.cidr_lists.specs.declared.entries.Entry.{Entry}
 use Rattle.cidr_lists.specs.declared.entries.Place.{Place}
 use Rattle.cidr_lists.specs.declared.findings.Finding.{Finding}
 use Rattle.cidr_lists.specs.declared.findings.Finding.TheVariants.{HostBits, NotCanonical, Repeats, Inside, Mergeable}
-use Rattle.cidr_lists.specs.declared.findings.Kind.{Kind}
-use Rattle.cidr_lists.specs.declared.findings.Kind.TheVariants as kind
+use Rattle.cidr_lists.specs.declared.findings.FindingKind.{FindingKind}
+use Rattle.cidr_lists.specs.declared.findings.FindingKind.TheVariants as kind
 use Rattle.cidr_lists.specs.declared.findings.Note.{Note}
 
 rank_below : (f : Finding) → rank f < 5
@@ -126,7 +126,7 @@ all_noted entries bound i notes past is h = record {
   ordered = h.ordered;
 }
 
-pub kind_below : (k : Kind) → kind_rank k < 5
+pub kind_below : (k : FindingKind) → kind_rank k < 5
 kind_below kind.HostBits = omega arith
 kind_below kind.Form = omega arith
 kind_below kind.Same = omega arith
@@ -134,7 +134,7 @@ kind_below kind.Outer = omega arith
 kind_below kind.Half = omega arith
 
 -- each rank is that of a kind
-pub kind_at : (r : ℕ) → r < 5 → (k : Kind) × (kind_rank k ≡ r)
+pub kind_at : (r : ℕ) → r < 5 → (k : FindingKind) × (kind_rank k ≡ r)
 kind_at zero low = (kind.HostBits, omega arith)
 kind_at (suc zero) low = (kind.Form, omega arith)
 kind_at (suc (suc zero)) low = (kind.Same, omega arith)

@@ -10,7 +10,7 @@ use Rattle.cidr.specs.model.Bits.{bits}
 use Rattle.cidr_lookup.specs.Keys.{prefix_bits}
 use Rattle.cidr_files.specs.Layout.{wide_words, words}
 use Rattle.cidr_files.specs.Tables.{part_at, parts_in, stored_networks, value_in}
-use Rattle.cidr_files.specs.declared.layout.Table.{Table}
+use Rattle.cidr_files.specs.declared.layout.FileTables.{FileTables}
 use Rattle.cidr_lists.specs.Lists.{Text, text_in}
 use Rattle.cidr_lists.specs.Reading.{listed}
 use Rattle.cidr_lists.specs.Sets.{networks_of}
@@ -28,8 +28,8 @@ use Rattle.netset_commands.specs.Reading.{ReadsList}
 use Rattle.netset_commands.specs.Stored.{AreFileBytes, IsNotGiven, by_family, rows_from, file_rows}
 use Rattle.netset_commands.specs.declared.errors.CommandError.{CommandError}
 use Rattle.netset_commands.specs.declared.errors.CommandError.TheVariants as error
-use Rattle.netset_commands.specs.declared.errors.ReadError.{ReadError}
-use Rattle.netset_commands.specs.declared.errors.ReadError.TheVariants.{Line, Input, NoMemory}
+use Rattle.netset_commands.specs.declared.errors.ListReadError.{ListReadError}
+use Rattle.netset_commands.specs.declared.errors.ListReadError.TheVariants.{Line, Input, NoMemory}
 use Rattle.netset_commands.proofs.EachFile.{list_read}
 
 -- ---- why it is not read
@@ -51,7 +51,7 @@ no_list_read contents name error.Output h = absurd h
 no_list_read contents name (error.File file why) h = absurd h
 
 -- a line of it is in error
-pub no_list_lines : (contents : Option Text) (left : Option (List ℕ)) (bits : ListForm) (file : Bor (List ℕ)) (old new : Lists) (e : ReadError)
+pub no_list_lines : (contents : Option Text) (left : Option (List ℕ)) (bits : ListForm) (file : Bor (List ℕ)) (old new : Lists) (e : ListReadError)
     → ((text : Text) → contents ≡ Some text → left ≡ Some text.bytes) → ((text : Text) → contents ≡ Some text → text.form ≡ bits)
     → IfSome left (λ bytes. ReadsList (text_in bits bytes) old new (Err e)) → ((text : Text) → contents ≡ Some text → begins_file text.bytes ≡ false)
     → IsNotGiven (IsFileError contents file.now) contents file.now (unread file e)
@@ -109,7 +109,7 @@ networks_pushed bits_of w value numbers parts addresses old new rows row are is 
     omega (arith, is, end, length-zip (numbers (part_at parts 2)) (part_at parts 3), ap length are, length-map addresses value) in
     h ∙ ap (λ (ns : List (ℕ × ℕ)). map bits_of old ++ map (prefix_bits w) ns) (take_all row networks past)
 
-listed_rows : (table : Table) (old new : Lists) → old.v4.items ≡ [] → old.v6.items ≡ [] → new.v4.items ≡ old.v4.items ++ prefixes 32 words (parts_in table.ipv4)
+listed_rows : (table : FileTables) (old new : Lists) → old.v4.items ≡ [] → old.v6.items ≡ [] → new.v4.items ≡ old.v4.items ++ prefixes 32 words (parts_in table.ipv4)
     → new.v6.items ≡ old.v6.items ++ prefixes 128 wide_words (parts_in table.ipv6) → (family : Family) → listed new family ≡ keys_of (by_family (file_rows table) family)
 listed_rows table old new four six more4 more6 Ipv4 =
     more4 ∙ (ap (λ (k : List (List Bool)). k ++ prefixes 32 words (parts_in table.ipv4)) four
@@ -121,7 +121,7 @@ listed_rows table old new four six more4 more6 Ipv6 =
 same_bits : (old new more : List (List Bool)) → map (λ (p : List Bool). p) new ≡ map (λ (p : List Bool). p) old ++ more → new ≡ old ++ more
 same_bits old new more is = sym (map-id new) ∙ (is ∙ ap (λ (ps : List (List Bool)). ps ++ more) (map-id old))
 
-pub addresses_had : (table : Table) (old new : Lists) (sets : Sets) → old.v4.items ≡ [] → old.v6.items ≡ []
+pub addresses_had : (table : FileTables) (old new : Lists) (sets : Sets) → old.v4.items ≡ [] → old.v6.items ≡ []
     → map (λ (p : List Bool). p) new.v4.items ≡ map (λ (p : List Bool). p) old.v4.items ++ prefixes 32 words (parts_in table.ipv4)
     → map (λ (p : List Bool). p) new.v6.items ≡ map (λ (p : List Bool). p) old.v6.items ++ prefixes 128 wide_words (parts_in table.ipv6)
     → ((family : Family) → IsSetOf 129 (Covers (listed new family)) (networks_of sets family))

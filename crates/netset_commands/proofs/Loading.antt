@@ -12,24 +12,24 @@ use Rattle.netset_commands.specs.Matching.{is_word}
 use Rattle.netset_commands.specs.declared.errors.CommandError.{CommandError}
 use Rattle.netset_commands.specs.declared.errors.CommandError.TheVariants as error
 use Rattle.netset_commands.specs.declared.input.keeping.Kept.{Kept}
-use Rattle.cidr_lists.specs.declared.forms.Kind.{Kind}
+use Rattle.cidr_lists.specs.declared.forms.ListKind.{ListKind}
 use Rattle.netset_commands.proofs.Arguments.{bytes_of, same_length, same_text, within_bytes}
 use Rattle.netset_commands.proofs.EachFile.{last_told, next_taken}
 use Rattle.netset_commands.proofs.Telling.{none_of, tellings_behind, tells_more, tells_nothing}
 use Rattle.netset_commands.proofs.Zips.{zip_behind}
 
-nothing_to_tell : (contents : List ℕ → Option Text) (kind : Kind) (texts : List Text) → AreTold contents [] texts → AreTellings kind [] texts []
+nothing_to_tell : (contents : List ℕ → Option Text) (kind : ListKind) (texts : List Text) → AreTold contents [] texts → AreTellings kind [] texts []
 nothing_to_tell contents kind [] h = refl
 nothing_to_tell contents kind (text ∷ texts) h = absurd h
 
-pub none_told : (contents : List ℕ → Option Text) (kind : Kind) (s : State) → HasTold contents kind [] s s []
+pub none_told : (contents : List ℕ → Option Text) (kind : ListKind) (s : State) → HasTold contents kind [] s s []
 none_told contents kind s = (tells_nothing s, nothing_to_tell contents kind)
 
-pub none_begun : (contents : List ℕ → Option Text) (kind : Kind) (names : List (List ℕ)) → IsBegun contents kind names []
+pub none_begun : (contents : List ℕ → Option Text) (kind : ListKind) (names : List (List ℕ)) → IsBegun contents kind names []
 none_begun contents kind [] = refl
 none_begun contents kind (name ∷ names) = λ text is. ([], lines_of text.bytes, refl, [], refl, refl)
 
-pub none_loaded : (takes skips : Bool) (contents : List ℕ → Option Text) (kind : Kind) (s : State) (lists : List Kept) → lists ≡ []
+pub none_loaded : (takes skips : Bool) (contents : List ℕ → Option Text) (kind : ListKind) (s : State) (lists : List Kept) → lists ≡ []
     → AreListsLoaded takes skips contents kind [] s s lists false
 none_loaded takes skips contents kind s lists none = (
   [],
@@ -71,7 +71,7 @@ module _ (contents : List ℕ → Option Text) (name : List ℕ) where
   given_named lists list h is = subst (λ (k : Option Kept). IfSome k IsGiven) (sym is) (given_first lists h)
 
 -- one list more
-module _ (takes skips : Bool) (contents : List ℕ → Option Text) (kind : Kind) (names : List (List ℕ)) (name : List ℕ) (s t u : State) (lists : List Kept) (found bad : Bool)
+module _ (takes skips : Bool) (contents : List ℕ → Option Text) (kind : ListKind) (names : List (List ℕ)) (name : List ℕ) (s t u : State) (lists : List Kept) (found bad : Bool)
     (last : Kept) (loaded : AreListsLoaded takes skips contents kind names s t lists found)
     (kept : KeepsList takes (contents name) kind name skips t u (Ok (last, bad))) where
   told_behind : (texts : List Text) → AreTold (lined takes contents) (names ++ name ∷ []) texts → AreTellings kind (names ++ name ∷ []) texts (loaded.0 ++ kept.0)
@@ -96,7 +96,7 @@ module _ (takes skips : Bool) (contents : List ℕ → Option Text) (kind : Kind
   )
 
 -- the same of files by their names
-module _ (takes skips : Bool) (contents : List ℕ → Option Text) (kind : Kind) (files : List (Bor (List ℕ))) (i : ℕ) (d : Bor (List ℕ)) (s t : State) (lists : List Kept) (found : Bool)
+module _ (takes skips : Bool) (contents : List ℕ → Option Text) (kind : ListKind) (files : List (Bor (List ℕ))) (i : ℕ) (d : Bor (List ℕ)) (s t : State) (lists : List Kept) (found : Bool)
     (within : i < length files) (loaded : AreListsLoaded takes skips contents kind (take i (bytes_of files)) s t lists found) where
   abbrev names : List (List ℕ)
   names = bytes_of files
@@ -142,7 +142,7 @@ module _ (takes skips : Bool) (contents : List ℕ → Option Text) (kind : Kind
   )
 
 -- there is no memory for a list that was read
-pub not_kept : (takes skips : Bool) (contents : List ℕ → Option Text) (kind : Kind) (files : List (Bor (List ℕ))) (i : ℕ) (s t : State) (lists : List Kept) (found : Bool)
+pub not_kept : (takes skips : Bool) (contents : List ℕ → Option Text) (kind : ListKind) (files : List (Bor (List ℕ))) (i : ℕ) (s t : State) (lists : List Kept) (found : Bool)
     → AreListsLoaded takes skips contents kind (take i (bytes_of files)) s t lists found → IsUnloaded (lined takes contents) kind (bytes_of files) s t error.NoMemory
 not_kept takes skips contents kind files i s t lists found loaded = (
   take i (bytes_of files),
@@ -156,7 +156,7 @@ not_kept takes skips contents kind files i s t lists found loaded = (
   none_begun (lined takes contents) kind (drop i (bytes_of files)),
 )
 
-pub all_loaded : (takes skips : Bool) (contents : List ℕ → Option Text) (kind : Kind) (files : List (Bor (List ℕ))) (i : ℕ) (s t : State) (lists : List Kept) (found : Bool)
+pub all_loaded : (takes skips : Bool) (contents : List ℕ → Option Text) (kind : ListKind) (files : List (Bor (List ℕ))) (i : ℕ) (s t : State) (lists : List Kept) (found : Bool)
     → length files ≤ i → AreListsLoaded takes skips contents kind (take i (bytes_of files)) s t lists found
     → AreListsLoaded takes skips contents kind (bytes_of files) s t lists found
 all_loaded takes skips contents kind files i s t lists found past h =

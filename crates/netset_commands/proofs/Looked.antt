@@ -41,9 +41,9 @@ use Rattle.netset_commands.specs.declared.errors.CommandError.{CommandError}
 use Rattle.netset_commands.specs.declared.errors.CommandError.TheVariants as error
 use Rattle.netset_commands.specs.declared.output.answers.Verdict.{Verdict}
 use Rattle.netset_commands.specs.declared.errors.Reason.TheVariants.{Unknown}
-use Rattle.netset_commands.specs.declared.errors.ReadError.{ReadError}
+use Rattle.netset_commands.specs.declared.errors.ListReadError.{ListReadError}
 use Rattle.netset_commands.specs.declared.input.table.Answer.{Answer}
-use Rattle.netset_commands.specs.declared.errors.ReadError.TheVariants.{Line, Input, NoMemory}
+use Rattle.netset_commands.specs.declared.errors.ListReadError.TheVariants.{Line, Input, NoMemory}
 use Rattle.netset_commands.specs.declared.commands.look.LookError.{LookError}
 use Rattle.netset_commands.specs.declared.commands.look.LookError.TheVariants.{Reading, Output}
 use Rattle.cidr_lists.specs.declared.rows.Span.{Span}
@@ -274,7 +274,7 @@ looked_at_all place table contents left next s t u b c d found hit any number as
 )
 
 pub looking_ended : (place : Asked) (table : Family → List (List Bool × List ℕ)) (contents left next : Option (List ℕ)) (s t u : State) (b c d : List ℕ) (found hit : Bool) (number : ℕ)
-    (asked : List (Option IpAddr)) (e : ReadError) → Looking place table contents left s t b c found number → AsksLines place number left next asked (Err e)
+    (asked : List (Option IpAddr)) (e : ListReadError) → Looking place table contents left s t b c found number → AsksLines place number left next asked (Err e)
     → LooksEach table asked t u c d (Ok hit) → LooksLines place table contents s u b d (Err (Reading e))
 looking_ended place table contents left next s t u b c d found hit number asked e l asks (looks, looked, collects, tells) = (
   l.looks ++ looks,
@@ -284,7 +284,7 @@ looking_ended place table contents left next s t u b c d found hit number asked 
 
 -- a line of a group was lost
 pub looking_lost : (place : Asked) (table : Family → List (List Bool × List ℕ)) (contents left next : Option (List ℕ)) (s t u : State) (b c d : List ℕ) (found : Bool) (number : ℕ)
-    (asked : List (Option IpAddr)) (read : Result (Option ℕ) ReadError) (f : OutputFailed) (r : Result Bool LookError) → r ≡ Err Output
+    (asked : List (Option IpAddr)) (read : Result (Option ℕ) ListReadError) (f : OutputFailed) (r : Result Bool LookError) → r ≡ Err Output
     → Looking place table contents left s t b c found number → AsksLines place number left next asked read → LooksEach table asked t u c d (Err f) → LooksLines place table contents s u b d r
 looking_lost place table contents left next s t u b c d found number asked read f r is l asks (first, behind, cut, looks, looked, part) =
     subst (LooksLines place table contents s u b d) (sym is) (
@@ -299,7 +299,7 @@ first_read : (place : Asked) (table : Family → List (List Bool × List ℕ)) (
 first_read place table None left looks number p = tt
 first_read place table (Some text) left looks number p = first_passed (LineLooks place table) text left looks number p
 
-stopped_read : (place : Asked) (table : Family → List (List Bool × List ℕ)) (contents : Option (List ℕ)) (looks : List (Option LookUp)) (e : ReadError) → IsStopped e
+stopped_read : (place : Asked) (table : Family → List (List Bool × List ℕ)) (contents : Option (List ℕ)) (looks : List (Option LookUp)) (e : ListReadError) → IsStopped e
     → IfSome contents (λ text. AreFirstSaid (LineLooks place table) text looks) → IfSome contents (λ text. EndsReading place table text looks e)
 stopped_read place table None looks e stopped p = tt
 stopped_read place table (Some text) looks (Line number e) stopped p = absurd stopped
@@ -318,7 +318,7 @@ looking_unwritten place table contents left s t u b c d found number r is l part
     )
 
 pub looking_stopped : (place : Asked) (table : Family → List (List Bool × List ℕ)) (contents left : Option (List ℕ)) (s t : State) (b c : List ℕ) (found : Bool) (number : ℕ)
-    (r : Result Bool LookError) (e : ReadError) → r ≡ Err (Reading e) → IsStopped e → Looking place table contents left s t b c found number → LooksLines place table contents s t b c r
+    (r : Result Bool LookError) (e : ListReadError) → r ≡ Err (Reading e) → IsStopped e → Looking place table contents left s t b c found number → LooksLines place table contents s t b c r
 looking_stopped place table contents left s t b c found number r e is stopped l =
     subst (LooksLines place table contents s t b c) (sym is)
     (l.looks, l.collected, stopped_read place table contents l.looks e stopped (first_read place table contents left l.looks number l.passed))
@@ -336,7 +336,7 @@ pub looked_all : (place : Asked) (table : Family → List (List Bool × List ℕ
 looked_all place table contents s t u block rest found fine none (looks, collected, hit, says) wrote =
     (looks, written_rest s t u block rest (flat_map look_line looks) (Ok tt) fine none collected wrote, hit, says)
 
-pub looked_part : (place : Asked) (table : Family → List (List Bool × List ℕ)) (contents : Option (List ℕ)) (s t u : State) (block rest : List ℕ) (e : ReadError) → s.failed ≡ false → block ≡ []
+pub looked_part : (place : Asked) (table : Family → List (List Bool × List ℕ)) (contents : Option (List ℕ)) (s t u : State) (block rest : List ℕ) (e : ListReadError) → s.failed ≡ false → block ≡ []
     → LooksLines place table contents s t block rest (Err (Reading e)) → Writes t u rest (Ok tt) → LooksAll place table contents s u (Err (Reading e))
 looked_part place table contents s t u block rest e fine none (looks, collected, ends) wrote =
     (looks, written_rest s t u block rest (flat_map look_line looks) (Ok tt) fine none collected wrote, ends)
@@ -355,7 +355,7 @@ all_told : (place : Asked) (table : Family → List (List Bool × List ℕ)) (co
 all_told place table None looks h = tt
 all_told place table (Some text) looks h = all_first (LineLooks place table) text looks h
 
-part_told : (place : Asked) (table : Family → List (List Bool × List ℕ)) (contents : Option (List ℕ)) (looks : List (Option LookUp)) (e : ReadError) → IfSome contents (λ text. EndsReading place table text looks e)
+part_told : (place : Asked) (table : Family → List (List Bool × List ℕ)) (contents : Option (List ℕ)) (looks : List (Option LookUp)) (e : ListReadError) → IfSome contents (λ text. EndsReading place table text looks e)
     → IfSome contents (λ text. AreFirstSaid (LineLooks place table) text looks)
 part_told place table None looks e h = tt
 part_told place table (Some text) looks (Line number e) h = record { before = h.before; after = h.line ∷ h.after; lines = h.lines; fine = h.fine }
@@ -370,7 +370,7 @@ all_unwritten place table contents s t u block rest found f r is fine none (look
     subst (LooksAll place table contents s u) (sym is)
     (looks, f, written_rest s t u block rest (flat_map look_line looks) (Err f) fine none collected wrote, all_told place table contents looks says)
 
-pub part_unwritten : (place : Asked) (table : Family → List (List Bool × List ℕ)) (contents : Option (List ℕ)) (s t u : State) (block rest : List ℕ) (e : ReadError) (f : OutputFailed)
+pub part_unwritten : (place : Asked) (table : Family → List (List Bool × List ℕ)) (contents : Option (List ℕ)) (s t u : State) (block rest : List ℕ) (e : ListReadError) (f : OutputFailed)
     (r : Result Bool LookError) → r ≡ Err Output → s.failed ≡ false → block ≡ []
     → LooksLines place table contents s t block rest (Err (Reading e)) → Writes t u rest (Err f) → LooksAll place table contents s u r
 part_unwritten place table contents s t u block rest e f r is fine none (looks, collected, ends) wrote =
@@ -408,7 +408,7 @@ plain_cut place table lines looks e (read, left, to, stops) =
     (read, left, record { lines = to.lines; are = plain_told place table read looks to.are }, stops)
 
 module _ (place : Asked) (table : Family → List (List Bool × List ℕ)) (text : List ℕ) (looks : List (Option LookUp)) where
-  pub ends_as : (file : Bor (List ℕ)) (e : ReadError) → EndsReading place table text looks e
+  pub ends_as : (file : Bor (List ℕ)) (e : ListReadError) → EndsReading place table text looks e
       → IsCut (LinesTell Alone place table) (IsBadAsked place) (lines_of text) (flat_map look_line looks, list_any is_found looks) (unread file e)
   ends_as file (Line number e) h =
       plain_cut place table (lines_of text) looks (error.Line file number e) (cut_before (LineLooks place table) (IsBadAsked place) text looks number e file h)
@@ -425,12 +425,12 @@ module _ (place : Asked) (table : Family → List (List Bool × List ℕ)) (text
   all_as h = plain_told place table (lines_of text) looks h
 
 -- ---- a file
-pub of_file : (file : Bor (List ℕ)) (e : ReadError) → IsOfFile file.now (unread file e)
+pub of_file : (file : Bor (List ℕ)) (e : ListReadError) → IsOfFile file.now (unread file e)
 of_file file (Line number e) = refl
 of_file file Input = refl
 of_file file NoMemory = tt
 
-pub gone : (file : Bor (List ℕ)) (s t : State) (e : ReadError) (text : List ℕ) → Answered s t text (Ok tt) → IsWritten s t text (unread file e)
+pub gone : (file : Bor (List ℕ)) (s t : State) (e : ListReadError) (text : List ℕ) → Answered s t text (Ok tt) → IsWritten s t text (unread file e)
 gone file s t (Line number e) text h = h
 gone file s t Input text h = h
 gone file s t NoMemory text h = h
@@ -456,7 +456,7 @@ module _ (place : Asked) (table : Family → List (List Bool × List ℕ)) (file
   abbrev IsCutAs : List (Option LookUp) → CommandError → List ℕ → Type 0
   IsCutAs looks e text = (found : Bool) × IsCut (LinesTell Alone place table) (IsBadAsked place) (lines_of text) (flat_map look_line looks, found) e
 
-  pub ended_early : (e : ReadError) → LooksAll place table left s t (Err (Reading e)) → TellsLeft false Alone place table left file.now s t (Err (unread file e))
+  pub ended_early : (e : ListReadError) → LooksAll place table left s t (Err (Reading e)) → TellsLeft false Alone place table left file.now s t (Err (unread file e))
   ended_early e (looks, written, ends) = inr (
     unread file e,
     refl,

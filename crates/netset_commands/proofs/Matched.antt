@@ -22,7 +22,7 @@ use Rattle.netset_commands.specs.Commands.{IsInRow, HoldsOf, Match}
 use Rattle.netset_commands.specs.Gathering.{Finishes, IsCounted, IsDone, IsLost, IsNotReadFurther, NotesLong, Stops, Streams, StreamsFile, GathersPart, TakesHeader, ended_by, lines_of_part, rest_written, told_behind}
 use Rattle.cidr_lists.specs.Lists.{IsTooLong, Text, is_line_feed, kept_of, lines_of}
 use Rattle.cidr_lists.specs.Within.{AreWithin, HasOneIn, LiesIn}
-use Rattle.netset_commands.specs.Matching.{ArePicked, ArePickedBy, IsEndedBy, IsEnough, IsErrorBy, IsFirstLong, IsHeader, IsLongOrLost, IsMatch, Picks, PicksBy, PicksByField, all_written, has, line_written, written_of}
+use Rattle.netset_commands.specs.Matching.{ArePicked, ArePickedBy, IsEndedBy, IsEnough, IsErrorBy, IsFirstLong, IsHeader, IsLongOrLost, IsMatch, NeedsMore, Picks, PicksBy, PicksByField, StopsAtPicked, all_written, has, line_written, written_of}
 use Rattle.cidr_lists.specs.Lines.{AllBehind, IsBadBehind, behind_header, last_line, lines_among, lines_in}
 use Rattle.cidr_lists.specs.Fields.{FieldSays}
 use Rattle.netset_commands.specs.Picking.{Choice, IsChosen}
@@ -118,7 +118,21 @@ long_on read number part more (Some n) now at (before, line, after, split, place
       short,
     )
 
+part_few : (part : List ℕ) (more : Bool) → length (lines_of_part part more) ≤ 1
+part_few part true = omega arith
+part_few [] false = omega arith
+part_few (byte ∷ part) false = omega arith
+
 -- ---- lines that are picked
+nothing_or : (what : Written) → (what ≡ written.Nothing) ⊎ (what ≢ written.Nothing)
+nothing_or written.Lines = inr (λ e. cc e)
+nothing_or written.Count = inr (λ e. cc e)
+nothing_or written.Nothing = inl refl
+
+none_yet : (picked : List (List ℕ)) (count : ℕ) → count ≡ length picked → ¬ (0 < count) → picked ≡ []
+none_yet [] count is none = refl
+none_yet (line ∷ picked) count is none = absurd (none (omega (arith, is)))
+
 zip_both : {A B : Type 0} (P : A → B → Type 0) (xs ys : List A) (ms ns : List B) → AllZip P xs ms → AllZip P ys ns → AllZip P (xs ++ ys) (ms ++ ns)
 zip_both P [] ys [] ns h k = k
 zip_both P [] ys (m ∷ ms) ns h k = absurd h
@@ -379,6 +393,7 @@ module _ (headed : Bool) (P : List ℕ → Result Bool LineError → Type 0) (la
     pub counted : count ≡ length picked.1
     pub few : count < number
     pub passed : IfSome known (λ text. Passed text left number picked long)
+    pub quiet : NeedsMore what picked.1
 
   -- the part of this number was taken too
   pub record Reached (text : List ℕ) (next : Option (List ℕ)) (number : ℕ) (more : Bool) (picked : List (List ℕ) × List (List ℕ)) (long : Option ℕ) : Type 0 where
@@ -386,6 +401,7 @@ module _ (headed : Bool) (P : List ℕ → Result Bool LineError → Type 0) (la
     pub after : List (List ℕ)
     pub to : ReadTo (ArePicked headed P) (lines_in text) read after picked
     pub first : IsFirstLong read long
+    pub stops : StopsAtPicked headed P what read
     pub over : more ≡ false → after ≡ []
     pub on : more ≡ true → Passed text next (number + 1) picked long
 
@@ -407,14 +423,15 @@ module _ (headed : Bool) (P : List ℕ → Result Bool LineError → Type 0) (la
     counted = zero;
     few = omega (arith, zero);
     passed = nothing_passed known;
+    quiet = λ e. refl;
   }
 
   reached_by : (known left next : Option (List ℕ)) (number : ℕ) (part : List ℕ) (more : Bool) (picked one : List (List ℕ) × List (List ℕ)) (long now : Option ℕ)
       → IfSome known (λ text. Passed text left number picked long) → IfSome left (λ text. IsNextLine text part more next)
-      → ArePicked (headed && (number == 1)) P (lines_of_part part more) one → NotesLong number part long now
+      → ArePicked (headed && (number == 1)) P (lines_of_part part more) one → NotesLong number part long now → NeedsMore what picked.1
       → IfSome known (λ text. Reached text next number more (picked.0 ++ one.0, picked.1 ++ one.1) now)
-  reached_by None left next number part more picked one long now p n k notes = tt
-  reached_by (Some text) left next number part more picked one long now p n k notes =
+  reached_by None left next number part more picked one long now p n k notes quiet = tt
+  reached_by (Some text) left next number part more picked one long now p n k notes quiet =
       let (after, lines, over, on) = part_read p.rest part more next (rw p.known at n) in
       let all : lines_in text ≡ (p.read ++ lines_of_part part more) ++ after =
       p.lines ∙ (ap (λ (z : List (List ℕ)). p.read ++ z) lines ∙ sym (append_assoc p.read (lines_of_part part more) after)) in
@@ -426,6 +443,7 @@ module _ (headed : Bool) (P : List ℕ → Result Bool LineError → Type 0) (la
         after = after;
         to = record { lines = all; are = are };
         first = first;
+        stops = (p.read, lines_of_part part more, refl, part_few part more, picked, p.are, quiet);
         over = over;
         on = λ e.
             let (rest, known, is, less) = on e in
@@ -450,7 +468,7 @@ module _ (headed : Bool) (P : List ℕ → Result Bool LineError → Type 0) (la
         (held_then s t u before.block after.block (flat_map (line_written label what) st.picked.0) (flat_map (line_written label what) one.0) st.collected collects);
     counted = omega (arith, count, st.counted, length-append st.picked.1 one.1);
     few = omega (arith, count, few, st.few);
-    reached = reached_by known left next number part more st.picked one long now st.passed n are notes;
+    reached = reached_by known left next number part more st.picked one long now st.passed n are notes st.quiet;
   }
 
   passed_on : (known next : Option (List ℕ)) (number : ℕ) (more : Bool) (picked : List (List ℕ) × List (List ℕ)) (long : Option ℕ) → more ≡ true
@@ -466,6 +484,7 @@ module _ (headed : Bool) (P : List ℕ → Result Bool LineError → Type 0) (la
     counted = k.counted;
     few = k.few;
     passed = passed_on known next number true k.picked long refl k.reached;
+    quiet = λ nothing. none_yet k.picked.1 count k.counted (λ some. true≢false (sym (d.1 (inr (nothing, some))) ∙ e));
   }
   go_on known next s t number count block false done long d e k = absurd (true≢false (sym (d.1 (inl refl)) ∙ e))
 
@@ -494,7 +513,7 @@ module _ (headed : Bool) (P : List ℕ → Result Bool LineError → Type 0) (la
         | inl e ↦ inl (r.over e)
         | inr (nothing, some) ↦ inr (nothing, is_yes count verdict some h)
       ] in
-      (r.read, r.after, picked, r.to, r.first, enough, refl, by_count picked.1 count verdict is h)
+      (r.read, r.after, picked, r.to, r.first, enough, refl, by_count picked.1 count verdict is h, r.stops)
 
   match_but : (known : Option (List ℕ)) (answer : List ℕ) (n : ℕ) (verdict : Verdict) (e : CommandError) → IfSome known (λ text. IsMatch headed P label what text (Some n) answer verdict)
       → IsLongOrLost n e → IfSome known (λ text. IsEndedBy headed P label what text answer e)
@@ -528,10 +547,10 @@ module _ (headed : Bool) (P : List ℕ → Result Bool LineError → Type 0) (la
   -- ---- a file that is not read to its end
   pub cut_here : (known left : Option (List ℕ)) (number : ℕ) (picked : List (List ℕ) × List (List ℕ)) (long : Option ℕ) (e : CommandError)
       → ((read after : List (List ℕ)) → IsStop (IsBadBehind headed (IsErrorBy P)) read after e) → IfSome known (λ text. Passed text left number picked long)
-      → IfSome known (λ text. IsEndedBy headed P label what text (flat_map (line_written label what) picked.0) e)
-  cut_here None left number picked long e stops p = tt
-  cut_here (Some text) left number picked long e stops p =
-      inl (picked, (p.read, lines_in p.rest, record { lines = p.lines; are = p.are }, stops p.read (lines_in p.rest)), refl)
+      → NeedsMore what picked.1 → IfSome known (λ text. IsEndedBy headed P label what text (flat_map (line_written label what) picked.0) e)
+  cut_here None left number picked long e stops p quiet = tt
+  cut_here (Some text) left number picked long e stops p quiet =
+      inl (picked, (p.read, lines_in p.rest, record { lines = p.lines; are = p.are }, stops p.read (lines_in p.rest)), refl, quiet)
 
   -- what is not yet written is written
   stopped : (file : List ℕ) (known : Option (List ℕ)) (s t u : State) (block : List ℕ) (picked : List (List ℕ) × List (List ℕ)) (e : CommandError)
@@ -564,12 +583,12 @@ module _ (headed : Bool) (P : List ℕ → Result Bool LineError → Type 0) (la
   unread file known left s t u number count block long (error.Line name n e) r fine h st stops = absurd h
   unread file known left s t u number count block long (error.Input name why) r fine h st (w, wrote, is) =
       stopped file known s t u block st.picked (error.Input name why) w r fine h (λ text all. all) st.collected wrote is
-      (cut_here known left number st.picked long (error.Input name why) (λ _ _. tt) st.passed)
-      (cut_here known left number st.picked long error.Output (λ _ _. tt) st.passed)
+      (cut_here known left number st.picked long (error.Input name why) (λ _ _. tt) st.passed st.quiet)
+      (cut_here known left number st.picked long error.Output (λ _ _. tt) st.passed st.quiet)
   unread file known left s t u number count block long error.NoMemory r fine h st (w, wrote, is) =
       stopped file known s t u block st.picked error.NoMemory w r fine tt (λ text all. all) st.collected wrote is
-      (cut_here known left number st.picked long error.NoMemory (λ _ _. tt) st.passed)
-      (cut_here known left number st.picked long error.Output (λ _ _. tt) st.passed)
+      (cut_here known left number st.picked long error.NoMemory (λ _ _. tt) st.passed st.quiet)
+      (cut_here known left number st.picked long error.Output (λ _ _. tt) st.passed st.quiet)
   unread file known left s t u number count block long error.Output r fine h st stops = absurd h
   unread file known left s t u number count block long (error.File name why) r fine h st stops = absurd h
 
@@ -596,6 +615,7 @@ module _ (headed : Bool) (P : List ℕ → Result Bool LineError → Type 0) (la
     counted = same ∙ st.counted;
     few = omega (arith, same, st.few);
     passed = st.passed;
+    quiet = st.quiet;
   }
 
   pub unwritten : (file : List ℕ) (known left : Option (List ℕ)) (s t u : State) (number count : ℕ) (block : List ℕ) (long : Option ℕ) → s.failed ≡ false → Part t u (block ++ [])
@@ -609,19 +629,19 @@ module _ (headed : Bool) (P : List ℕ → Result Bool LineError → Type 0) (la
       subst (Part s u) (append-nil (flat_map (line_written label what) st.picked.0)) (held_lost s t u block (flat_map (line_written label what) st.picked.0) [] st.collected part),
       λ before. absurd (true≢false (sym before ∙ fine)),
     ),
-    cut_here known left number st.picked long error.Output (λ _ _. tt) st.passed,
+    cut_here known left number st.picked long error.Output (λ _ _. tt) st.passed st.quiet,
   )
 
   pub failed_before : (file : List ℕ) (known : Option (List ℕ)) (s : State) → s.failed ≡ true → Streams headed P label what file known s s (Err error.Output)
   failed_before file known s failed =
-      inr (error.Output, refl, tt, [], (part_none s [] failed, λ _. refl), cut_here known known 1 no_lines None error.Output (λ _ _. tt) (nothing_passed known))
+      inr (error.Output, refl, tt, [], (part_none s [] failed, λ _. refl), cut_here known known 1 no_lines None error.Output (λ _ _. tt) (nothing_passed known) (λ e. refl))
 
   cut_at_line : (known left next : Option (List ℕ)) (number : ℕ) (part : List ℕ) (more : Bool) (picked : List (List ℕ) × List (List ℕ)) (long : Option ℕ) (e : CommandError)
       → lines_of_part part more ≡ part ∷ [] → IfSome left (λ text. IsNextLine text part more next) → IfSome known (λ text. Passed text left number picked long)
       → ((read after : List (List ℕ)) → number ≡ length read + 1 → IsStop (IsBadBehind headed (IsErrorBy P)) read (part ∷ after) e)
-      → IfSome known (λ text. IsEndedBy headed P label what text (flat_map (line_written label what) picked.0) e)
-  cut_at_line None left next number part more picked long e one n p stops = tt
-  cut_at_line (Some text) left next number part more picked long e one n p stops =
+      → NeedsMore what picked.1 → IfSome known (λ text. IsEndedBy headed P label what text (flat_map (line_written label what) picked.0) e)
+  cut_at_line None left next number part more picked long e one n p stops quiet = tt
+  cut_at_line (Some text) left next number part more picked long e one n p stops quiet =
       let (after, lines, over, on) = part_read p.rest part more next (rw p.known at n) in
       let here : lines_in p.rest ≡ part ∷ after = lines ∙ ap (λ (z : List (List ℕ)). z ++ after) one in
       inl (
@@ -633,15 +653,16 @@ module _ (headed : Bool) (P : List ℕ → Result Bool LineError → Type 0) (la
           stops p.read after p.place,
         ),
         refl,
+        quiet,
       )
 
   cut_behind : (known left next : Option (List ℕ)) (number : ℕ) (part : List ℕ) (more : Bool) (picked : List (List ℕ) × List (List ℕ)) (long : Option ℕ) (e : CommandError)
       → (counted : List (List ℕ)) → lines_of_part part more ≡ part ∷ [] → ArePicked (headed && (number == 1)) P (part ∷ []) (part ∷ [], counted)
       → ((read after : List (List ℕ)) → IsStop (IsBadBehind headed (IsErrorBy P)) read after e)
-      → IfSome left (λ text. IsNextLine text part more next) → IfSome known (λ text. Passed text left number picked long)
+      → IfSome left (λ text. IsNextLine text part more next) → IfSome known (λ text. Passed text left number picked long) → what ≢ written.Nothing
       → IfSome known (λ text. IsEndedBy headed P label what text (flat_map (line_written label what) (picked.0 ++ part ∷ [])) e)
-  cut_behind None left next number part more picked long e counted one h stops n p = tt
-  cut_behind (Some text) left next number part more picked long e counted one h stops n p =
+  cut_behind None left next number part more picked long e counted one h stops n p tells = tt
+  cut_behind (Some text) left next number part more picked long e counted one h stops n p tells =
       let (after, lines, over, on) = part_read p.rest part more next (rw p.known at n) in
       let here : lines_in p.rest ≡ part ∷ after = lines ∙ ap (λ (z : List (List ℕ)). z ++ after) one in
       inl (
@@ -656,6 +677,43 @@ module _ (headed : Bool) (P : List ℕ → Result Bool LineError → Type 0) (la
           stops (p.read ++ part ∷ []) after,
         ),
         refl,
+        λ nothing. absurd (tells nothing),
+      )
+
+  -- the output failed at a line that is picked, of which -q writes nothing
+  lost_at : (file : List ℕ) (known left next : Option (List ℕ)) (s t u v : State) (number count : ℕ) (block part : List ℕ) (more : Bool) (long : Option ℕ)
+      (counted : List (List ℕ)) (r : Result Verdict CommandError) → s.failed ≡ false → Streamed known left s t number count block long
+      → IfSome left (λ text. IsNextLine text part more next) → lines_of_part part more ≡ part ∷ []
+      → ArePicked (headed && (number == 1)) P (part ∷ []) (part ∷ [], counted) → Part t u (block ++ line_written label what part) → v ≡ u → r ≡ Err error.Output
+      → (what ≡ written.Nothing) ⊎ (what ≢ written.Nothing) → Streams headed P label what file known s v r
+  lost_at file known left next s t u v number count block part more long counted r fine st n one picks failed still is (inl nothing) =
+      let text : List ℕ = flat_map (line_written label what) st.picked.0 in
+      let none : line_written label what part ≡ [] = ap (λ (w : Written). line_written label w part) nothing in
+      inr (
+        error.Output,
+        is,
+        tt,
+        text,
+        (
+          subst (λ (z : State). Part s z text) (sym still) (subst (Part s u) (append-nil text)
+              (held_lost s t u block text [] st.collected (subst (λ (z : List ℕ). Part t u (block ++ z)) none failed))),
+          λ before. absurd (true≢false (sym before ∙ fine)),
+        ),
+        cut_here known left number st.picked long error.Output (λ _ _. tt) st.passed st.quiet,
+      )
+  lost_at file known left next s t u v number count block part more long counted r fine st n one picks failed still is (inr tells) =
+      let text : List ℕ = flat_map (line_written label what) st.picked.0 in
+      inr (
+        error.Output,
+        is,
+        tt,
+        flat_map (line_written label what) (st.picked.0 ++ part ∷ []),
+        (
+          subst (λ (z : State). Part s z (flat_map (line_written label what) (st.picked.0 ++ part ∷ []))) (sym still)
+              (subst (Part s u) (flat_map_more (line_written label what) [] st.picked.0 part) (held_lost s t u block text (line_written label what part) st.collected failed)),
+          λ before. absurd (true≢false (sym before ∙ fine)),
+        ),
+        cut_behind known left next number part more st.picked long error.Output counted one picks (λ _ _. tt) n st.passed tells,
       )
 
   pub lost : (file : List ℕ) (known left next : Option (List ℕ)) (s t u v : State) (number count : ℕ) (block rest part : List ℕ) (more : Bool) (long : Option ℕ) (e : CommandError)
@@ -676,28 +734,25 @@ module _ (headed : Bool) (P : List ℕ → Result Bool LineError → Type 0) (la
         after,
         refl,
         bad_behind headed (headed && (number == 1)) (IsErrorBy P) read part e (headed_here headed number read at) bad,
-      )))
-      (cut_at_line known left next number part more st.picked long error.Output one n st.passed (λ _ _ _. tt))
+      )) st.quiet)
+      (cut_at_line known left next number part more st.picked long error.Output one n st.passed (λ _ _ _. tt) st.quiet)
   lost file known left next s t u v number count block rest part more long error.Output r fine st n (one, (counted, picks, failed)) (still, is) =
-      let text : List ℕ = flat_map (line_written label what) st.picked.0 in
-      inr (
-        error.Output,
-        is,
-        tt,
-        flat_map (line_written label what) (st.picked.0 ++ part ∷ []),
-        (
-          subst (λ (z : State). Part s z (flat_map (line_written label what) (st.picked.0 ++ part ∷ []))) (sym still)
-              (subst (Part s u) (flat_map_more (line_written label what) [] st.picked.0 part) (held_lost s t u block text (line_written label what part) st.collected failed)),
-          λ before. absurd (true≢false (sym before ∙ fine)),
-        ),
-        cut_behind known left next number part more st.picked long error.Output counted one picks (λ _ _. tt) n st.passed,
-      )
+      lost_at file known left next s t u v number count block part more long counted r fine st n one picks failed still is (nothing_or what)
 
 -- ---- by the bytes of the files
 pub match_same : (headed : Bool) (P Q : List ℕ → Result Bool LineError → Type 0) → ((line : List ℕ) (r : Result Bool LineError) → P line r → Q line r) → (label : List ℕ) (what : Written) (text answer : List ℕ) (long : Option ℕ)
     (verdict : Verdict) → IsMatch headed P label what text long answer verdict → IsMatch headed Q label what text long answer verdict
-match_same headed P Q f label what text answer long verdict (read, left, picked, to, first, enough, written, by) =
-    (read, left, picked, record { lines = to.lines; are = picked_same headed P Q f read picked to.are }, first, enough, written, by)
+match_same headed P Q f label what text answer long verdict (read, left, picked, to, first, enough, written, by, (before, last, parts, few, passed, are, quiet)) = (
+  read,
+  left,
+  picked,
+  record { lines = to.lines; are = picked_same headed P Q f read picked to.are },
+  first,
+  enough,
+  written,
+  by,
+  (before, last, parts, few, passed, picked_same headed P Q f before passed are, quiet),
+)
 
 known_match : (headed : Bool) (P Q : List ℕ → Result Bool LineError → Type 0) → ((line : List ℕ) (r : Result Bool LineError) → P line r → Q line r) → (label : List ℕ) (what : Written) (known : Option (List ℕ)) (text answer : List ℕ) (verdict : Verdict)
     → known ≡ Some text → IfSome known (λ k. IsMatch headed P label what k None answer verdict) → IsMatch headed Q label what text None answer verdict
@@ -720,8 +775,8 @@ stop_same headed P Q f read left (error.File name why) h = tt
 
 pub cut_same : (headed : Bool) (P Q : List ℕ → Result Bool LineError → Type 0) → ((line : List ℕ) (r : Result Bool LineError) → P line r → Q line r) → (label : List ℕ) (what : Written) (text answer : List ℕ) (e : CommandError)
     → IsEndedBy headed P label what text answer e → IsEndedBy headed Q label what text answer e
-cut_same headed P Q f label what text answer e (inl (picked, (read, left, to, stops), written)) =
-    inl (picked, (read, left, record { lines = to.lines; are = picked_same headed P Q f read picked to.are }, stop_same headed P Q f read left e stops), written)
+cut_same headed P Q f label what text answer e (inl (picked, (read, left, to, stops), written, quiet)) =
+    inl (picked, (read, left, record { lines = to.lines; are = picked_same headed P Q f read picked to.are }, stop_same headed P Q f read left e stops), written, quiet)
 cut_same headed P Q f label what text answer e (inr (n, verdict, match, of)) = inr (n, verdict, match_same headed P Q f label what text answer (Some n) verdict match, of)
 
 known_cut : (headed : Bool) (P Q : List ℕ → Result Bool LineError → Type 0) → ((line : List ℕ) (r : Result Bool LineError) → P line r → Q line r) → (label : List ℕ) (what : Written) (known : Option (List ℕ)) (text answer : List ℕ) (e : CommandError)
@@ -785,3 +840,14 @@ pub matched_file : (contents : List ℕ → Option Text) (choice : Choice) (colu
 matched_file contents choice column options list file sets s t r chosen reads (inl (same, e, is, of)) = rw (same, is) (unopened contents choice column options list file sets s e chosen reads of)
 matched_file contents choice column options list file sets s t r chosen reads (inr (known, opens, streams)) =
     matched contents choice column options list file sets known s t r chosen reads opens streams
+
+-- what is so of a matcher's fields is so of what they are
+pub of_matcher : (P : Bool → Bool → Column → Sets → Bool → Written → Type 0) (h g a b : Bool) (m n : Column) (s t : Sets) (i j : Bool) (w v : Written)
+    → h ≡ g → a ≡ b → m ≡ n → s ≡ t → i ≡ j → w ≡ v → P h a m s i w → P g b n t j v
+of_matcher P h g a b m n s t i j w v headed anywhere column sets inverted written p =
+    subst (λ (x : Written). P g b n t j x) written
+    (subst (λ (x : Bool). P g b n t x w) inverted
+    (subst (λ (x : Sets). P g b n x i w) sets
+    (subst (λ (x : Column). P g b x s i w) column
+    (subst (λ (x : Bool). P g x m s i w) anywhere
+    (subst (λ (x : Bool). P x a m s i w) headed p)))))

@@ -1,5 +1,6 @@
 -- Lines that are picked of several files, one after another.
 use Rattle.std.proofs.Common.{◌≡◌, ◌⊎◌, refl, sym, ◌∙◌, ap, subst, inl, inr, ℕ, ◌+◌, ◌<◌, ◌≤◌, Bool, true, false, List, [], ◌∷◌, ◌++◌, Bor, append_assoc, arith, codes, drop, get_or, length, take, Option, Some, None, Result, Ok, Err}
+use Rattle.std.specs.Bool.{Decides}
 use Rattle.std.proofs.lemmas.Bool.{true≢false}
 use Rattle.std.proofs.lemmas.List.{append-nil, at_drop_more, get_or-map, take-append-drop, take_all}
 use Rattle.cidr_io.specs.Writing.{State, Whole, Answered}
@@ -90,9 +91,9 @@ module _ (contents : List ℕ → Option Text) (headed : Bool) (P : List ℕ →
   never_read file text (error.Argument name e) h = absurd h
   never_read file text (error.Line name number e) h = absurd h
   never_read file text (error.Input name why) h =
-      cut_here headed P (file_label file) what (Some text.bytes) (Some text.bytes) 1 ([], []) None (error.Input name why) (λ _ _. tt) (nothing_passed headed P (file_label file) what (Some text.bytes))
+      cut_here headed P (file_label file) what (Some text.bytes) (Some text.bytes) 1 ([], []) None (error.Input name why) (λ _ _. tt) (nothing_passed headed P (file_label file) what (Some text.bytes)) (λ e. refl)
   never_read file text error.NoMemory h =
-      cut_here headed P (file_label file) what (Some text.bytes) (Some text.bytes) 1 ([], []) None error.NoMemory (λ _ _. tt) (nothing_passed headed P (file_label file) what (Some text.bytes))
+      cut_here headed P (file_label file) what (Some text.bytes) (Some text.bytes) 1 ([], []) None error.NoMemory (λ _ _. tt) (nothing_passed headed P (file_label file) what (Some text.bytes)) (λ e. refl)
   never_read file text error.Output h = absurd h
   never_read file text (error.File name e) h = absurd h
 
@@ -118,11 +119,11 @@ module _ (contents : List ℕ → Option Text) (headed : Bool) (P : List ℕ →
 
   -- the output failed at what is written of a file
   output_lost : (before after : List (List ℕ)) (file : List ℕ) (s t u : State) (answer more : List ℕ) (verdict v : Verdict) (w : Result (Unit {0}) OutputFailed) (e : CommandError)
-      → s.failed ≡ false → AreMatched contents headed P what before answer verdict → Whole s t answer
+      → s.failed ≡ false → (what ≡ written.Nothing → verdict ≡ No) → AreMatched contents headed P what before answer verdict → Whole s t answer
       → ((text : Text) → contents file ≡ Some text → IsMatch headed P (file_label file) what text.bytes None more v) → Answered t u more w → Err e ≡ by_output v w
       → StreamsEach contents headed P what (before ++ file ∷ after) s u (Err e)
-  output_lost before after file s t u answer more verdict v (Ok a) e fine are whole match wrote by = cc
-  output_lost before after file s t u answer more verdict v (Err f) e fine are whole match (part, before_failed) by =
+  output_lost before after file s t u answer more verdict v (Ok a) e fine quiet are whole match wrote by = cc
+  output_lost before after file s t u answer more verdict v (Err f) e fine quiet are whole match (part, before_failed) by =
       let is : e ≡ error.Output = cc in
       rw is (inr (
         before,
@@ -135,14 +136,14 @@ module _ (contents : List ℕ → Option Text) (headed : Bool) (P : List ℕ →
           tt,
           answer ++ more,
           (whole_part s t u answer more whole part, λ failed. absurd (true≢false (sym failed ∙ fine))),
-          (answer, more, verdict, are, refl, λ text told. inr (v, match text told, refl)),
+          (answer, more, verdict, are, refl, quiet, λ text told. inr (v, match text told, refl)),
         ),
       ))
 
   one_failed : (before after : List (List ℕ)) (file : List ℕ) (s t u : State) (verdict : Verdict) (e : CommandError) → s.failed ≡ false
-      → AreStreamed contents headed P what before s t verdict → StreamsFile headed P (file_label file) what file (contents file) t u (Err e)
+      → (what ≡ written.Nothing → verdict ≡ No) → AreStreamed contents headed P what before s t verdict → StreamsFile headed P (file_label file) what file (contents file) t u (Err e)
       → StreamsEach contents headed P what (before ++ file ∷ after) s u (Err e)
-  one_failed before after file s t u verdict e fine (answer, are, whole) (inl (same, why, is, of)) =
+  one_failed before after file s t u verdict e fine quiet (answer, are, whole) (inl (same, why, is, of)) =
       let this : e ≡ why = cc in
       let (of_file, wrote) = unopened_written s t answer file why fine whole of in
       rw (this, same) (inr (
@@ -150,11 +151,11 @@ module _ (contents : List ℕ → Option Text) (headed : Bool) (P : List ℕ →
         after,
         file,
         refl,
-        (why, refl, of_file, answer, wrote, (answer, [], verdict, are, sym (append-nil answer), λ text told. inl (never_read file text why of))),
+        (why, refl, of_file, answer, wrote, (answer, [], verdict, are, sym (append-nil answer), quiet, λ text told. inl (never_read file text why of))),
       ))
-  one_failed before after file s t u verdict e fine (answer, are, whole) (inr (known, opens, inl (more, v, w, match, wrote, by))) =
-      output_lost before after file s t u answer more verdict v w e fine are whole (λ text told. rw (opens text told) at match) wrote by
-  one_failed before after file s t u verdict e fine (answer, are, whole) (inr (known, opens, inr (why, is, of, more, begun, cut))) =
+  one_failed before after file s t u verdict e fine quiet (answer, are, whole) (inr (known, opens, inl (more, v, w, match, wrote, by))) =
+      output_lost before after file s t u answer more verdict v w e fine quiet are whole (λ text told. rw (opens text told) at match) wrote by
+  one_failed before after file s t u verdict e fine quiet (answer, are, whole) (inr (known, opens, inr (why, is, of, more, begun, cut))) =
       let this : e ≡ why = cc in
       rw this (inr (
         before,
@@ -167,7 +168,7 @@ module _ (contents : List ℕ → Option Text) (headed : Bool) (P : List ℕ →
           of,
           answer ++ more,
           written_on s t u answer more why fine whole begun,
-          (answer, more, verdict, are, refl, λ text told. inl (rw (opens text told) at cut)),
+          (answer, more, verdict, are, refl, quiet, λ text told. inl (rw (opens text told) at cut)),
         ),
       ))
 
@@ -191,11 +192,18 @@ module _ (contents : List ℕ → Option Text) (headed : Bool) (P : List ℕ →
         No,
         (refl, refl),
         refl,
+        λ e. refl,
         λ text told. inl (cut_here headed P (file_label file) what (Some text.bytes) (Some text.bytes) 1 ([], []) None error.Output (λ _ _. tt)
-            (nothing_passed headed P (file_label file) what (Some text.bytes))),
+            (nothing_passed headed P (file_label file) what (Some text.bytes)) (λ e. refl)),
       ),
     ),
   )
+
+  -- -q needs a further file only where no line of one before was picked
+  pub not_yet : (done : Bool) (verdict : Verdict) → Decides done ((what ≡ written.Nothing) × (verdict ≡ Yes)) → done ≡ false → what ≡ written.Nothing
+      → verdict ≡ No
+  not_yet done Yes d e nothing = absurd (true≢false (sym (d.1 (nothing, refl)) ∙ e))
+  not_yet done No d e nothing = refl
 
   -- ---- the same of files by their names
   module _ (files : List (Bor (List ℕ))) (i : ℕ) (d : Bor (List ℕ)) (s t u : State) (verdict : Verdict) (within : i < length files)
@@ -219,12 +227,12 @@ module _ (contents : List ℕ → Option Text) (headed : Bool) (P : List ℕ →
         (sym (next_taken (bytes_of files) i name_of (within_bytes files i within) named))
         (more_streamed (take i (bytes_of files)) name_of s t u verdict one before streams)
 
-    pub file_failed : (e : CommandError) → s.failed ≡ false
+    pub file_failed : (e : CommandError) → s.failed ≡ false → (what ≡ written.Nothing → verdict ≡ No)
         → StreamsFile headed P (file_label (get_or files i d).now) what (get_or files i d).now (contents (get_or files i d).now) t u (Err e)
         → StreamsEach contents headed P what (bytes_of files) s u (Err e)
-    file_failed e fine streams =
+    file_failed e fine quiet streams =
         subst (λ (k : List (List ℕ)). StreamsEach contents headed P what k s u (Err e)) (sym split)
-        (one_failed (take i (bytes_of files)) (drop (i + 1) (bytes_of files)) name_of s t u verdict e fine before streams)
+        (one_failed (take i (bytes_of files)) (drop (i + 1) (bytes_of files)) name_of s t u verdict e fine quiet before streams)
 
   pub enough_streamed : (files : List (List ℕ)) (i : ℕ) (s t : State) (verdict : Verdict) → s.failed ≡ false → AreStreamed contents headed P what (take i files) s t verdict
       → (what ≡ written.Nothing) × (verdict ≡ Yes) → StreamsEach contents headed P what files s t (Ok verdict)
@@ -261,12 +269,13 @@ each_same headed P Q f contents what files answer verdict (read, left, split, ar
 
 ended_same : (headed : Bool) (P Q : List ℕ → Result Bool LineError → Type 0) → ((line : List ℕ) (r : Result Bool LineError) → P line r → Q line r) → (contents : List ℕ → Option Text)
     (what : Written) (before : List (List ℕ)) (file answer : List ℕ) (e : CommandError) → IsEndedIn contents headed P what before file answer e → IsEndedIn contents headed Q what before file answer e
-ended_same headed P Q f contents what before file answer e (first, rest, verdict, are, is, ends) = (
+ended_same headed P Q f contents what before file answer e (first, rest, verdict, are, is, quiet, ends) = (
   first,
   rest,
   verdict,
   matched_same headed P Q f contents what before first verdict are,
   is,
+  quiet,
   λ text told. elim (ends text told) [
     | inl cut ↦ inl (cut_same headed P Q f (file_label file) what text.bytes rest e cut)
     | inr (v, match, lost) ↦ inr (v, match_same headed P Q f (file_label file) what text.bytes rest None v match, lost)

@@ -10,8 +10,8 @@ use Rattle.netset_commands.specs.Reading.{IsNextLine, IsStopped, IsReadError, Is
 use Rattle.cidr_lists.specs.Reading.{listed, Grows}
 use Rattle.netset_commands.proofs.Causes.{KnownOf, too_many}
 use Rattle.netset_commands.proofs.Zips.{zip_behind}
-use Rattle.netset_commands.specs.declared.errors.ReadError.{ReadError}
-use Rattle.netset_commands.specs.declared.errors.ReadError.TheVariants.{Line, Input, NoMemory}
+use Rattle.netset_commands.specs.declared.errors.ListReadError.{ListReadError}
+use Rattle.netset_commands.specs.declared.errors.ListReadError.TheVariants.{Line, Input, NoMemory}
 use Rattle.cidr_lists.specs.declared.records.ListForm.{ListForm}
 use Rattle.cidr_lists.specs.declared.lists.Lists.{Lists}
 
@@ -82,7 +82,7 @@ module _ (bits : ListForm) where
       (p.said ++ one ∷ [], rw lines (zip_behind (SaysBy bits) p.before p.said line one p.fine s), grown_more old now new p.said one p.grown g)
 
   -- a line in error, or an end of reading
-  failed_by : (contents left next : Option (List ℕ)) (old now : Lists) (number : ℕ) (line : List ℕ) (more : Bool) (e : ReadError)
+  failed_by : (contents left next : Option (List ℕ)) (old now : Lists) (number : ℕ) (line : List ℕ) (more : Bool) (e : ListReadError)
       → IfSome contents (λ text. Progress text left old now number) → IfSome left (λ text. IsNextLine text line more next) → IsLineError bits line number e
       → IfSome contents (λ text. IsReadError (text_in bits text) e)
   failed_by None left next old now number line more e p n h = tt
@@ -101,29 +101,29 @@ module _ (bits : ListForm) where
         fault = h.1;
       }
 
-  stopped_by : (contents : Option (List ℕ)) (e : ReadError) → IsStopped e → IfSome contents (λ text. IsReadError (text_in bits text) e)
+  stopped_by : (contents : Option (List ℕ)) (e : ListReadError) → IsStopped e → IfSome contents (λ text. IsReadError (text_in bits text) e)
   stopped_by None e h = tt
   stopped_by (Some text) (Line number e) h = absurd h
   stopped_by (Some text) Input h = tt
   stopped_by (Some text) NoMemory h = tt
 
-  abbrev failing : ReadError → Result (Unit {0}) ReadError
+  abbrev failing : ListReadError → Result (Unit {0}) ListReadError
   failing e = Err e
 
-  passed_on : (contents : Option (List ℕ)) (old new : Lists) (r : Result (Unit {0}) ReadError) (y e : ReadError) → r ≡ Err y → y ≡ e
+  passed_on : (contents : Option (List ℕ)) (old new : Lists) (r : Result (Unit {0}) ListReadError) (y e : ListReadError) → r ≡ Err y → y ≡ e
       → IfSome contents (λ text. IsReadError (text_in bits text) e) → IfSome contents (λ text. ReadsList (text_in bits text) old new r)
   passed_on contents old new r y e is same h =
-      let P : Result (Unit {0}) ReadError → Type 0 = λ k. IfSome contents (λ text. ReadsList (text_in bits text) old new k) in
+      let P : Result (Unit {0}) ListReadError → Type 0 = λ k. IfSome contents (λ text. ReadsList (text_in bits text) old new k) in
       subst P (sym (is ∙ ap failing same)) h
 
-  pub failed : (contents left next : Option (List ℕ)) (old now new : Lists) (number : ℕ) (line : List ℕ) (more : Bool) (r : Result (Unit {0}) ReadError) (y e : ReadError)
+  pub failed : (contents left next : Option (List ℕ)) (old now new : Lists) (number : ℕ) (line : List ℕ) (more : Bool) (r : Result (Unit {0}) ListReadError) (y e : ListReadError)
       → r ≡ Err y → y ≡ e
       → IfSome contents (λ text. Progress text left old now number) → IfSome left (λ text. IsNextLine text line more next) → IsLineError bits line number e
       → IfSome contents (λ text. ReadsList (text_in bits text) old new r)
   failed contents left next old now new number line more r y e is same p n h =
       passed_on contents old new r y e is same (failed_by contents left next old now number line more e p n h)
 
-  pub stopped : (contents : Option (List ℕ)) (old new : Lists) (r : Result (Unit {0}) ReadError) (y e : ReadError) → r ≡ Err y → y ≡ e → IsStopped e
+  pub stopped : (contents : Option (List ℕ)) (old new : Lists) (r : Result (Unit {0}) ListReadError) (y e : ListReadError) → r ≡ Err y → y ≡ e → IsStopped e
       → IfSome contents (λ text. ReadsList (text_in bits text) old new r)
   stopped contents old new r y e is same h = passed_on contents old new r y e is same (stopped_by contents e h)
 

@@ -24,7 +24,7 @@ use Rattle.netset_commands.specs.declared.errors.Unsaved.{Unsaved}
 use Rattle.netset_commands.specs.declared.errors.Unsaved.TheVariants.{Denied}
 use Rattle.netset_commands.specs.declared.input.keeping.Kept.{Kept}
 use Rattle.cidr_lists.specs.declared.records.ListForm.{ListForm}
-use Rattle.cidr_lists.specs.declared.forms.Kind.{Kind}
+use Rattle.cidr_lists.specs.declared.forms.ListKind.{ListKind}
 use Rattle.netset_commands.proofs.Arguments.{same_text}
 use Rattle.netset_commands.proofs.ReadBy.{text_same}
 
@@ -62,7 +62,7 @@ module _ (contents : List ℕ → Option Text) (request : Request) (bits : ListF
         (λ is. held_first first list good (same_text first name (sym is))) (good_named names lists zip))
 
 -- ---- why a file is not opened, where no list of its name is read
-module _ (takes : Bool) (contents : List ℕ → Option Text) (kind : Kind) (reasons : List ℕ → Option Reason) (name : List ℕ) where
+module _ (takes : Bool) (contents : List ℕ → Option Text) (kind : ListKind) (reasons : List ℕ → Option Reason) (name : List ℕ) where
   reason_or_later : (here listed : Bool) (list : Kept) (later : Option Kept) → IsSameReason listed (reasons name) (none_of_kept later (reasons name))
       → IsSameReason (here || listed) (reasons name) (none_of_kept (cond here (Some list) later) (reasons name))
   reason_or_later true listed list later others = tt
@@ -78,18 +78,18 @@ module _ (takes : Bool) (contents : List ℕ → Option Text) (kind : Kind) (rea
       (reason_or_later (is_word name first) (has name names) list (list_named name lists) (reason_named names lists zip))
 
 -- ---- with lists whose lines in error are told
-module _ (contents : List ℕ → Option Text) (request : Request) (kind : Kind) (takes : Bool) (names : List (List ℕ)) (skips : Bool) (refused : Refusals) (closed : Bool) (out s t : State)
+module _ (contents : List ℕ → Option Text) (request : Request) (kind : ListKind) (takes : Bool) (names : List (List ℕ)) (skips : Bool) (refused : Refusals) (closed : Bool) (out s t : State)
     (is_kind : kind ≡ kind_of request) (is_taken : takes ≡ takes_file request) (are : AreLists request names) where
   loaded_of : (lists : List Kept) (found : Bool) → AreListsLoaded takes skips contents kind names s t lists found
       → AreListsLoaded (takes_file request) skips contents (kind_of request) names s t lists found
   loaded_of lists found h =
-      subst (λ (k : Kind). AreListsLoaded (takes_file request) skips contents k names s t lists found) is_kind
+      subst (λ (k : ListKind). AreListsLoaded (takes_file request) skips contents k names s t lists found) is_kind
       (subst (λ (k : Bool). AreListsLoaded k skips contents kind names s t lists found) is_taken h)
 
   unloaded_of : (e : CommandError) → IsUnloaded (lined takes contents) kind names s t e
       → IsUnloaded (lined (takes_file request) contents) (kind_of request) names s t e
   unloaded_of e h =
-      subst (λ (k : Kind). IsUnloaded (lined (takes_file request) contents) k names s t e) is_kind
+      subst (λ (k : ListKind). IsUnloaded (lined (takes_file request) contents) k names s t e) is_kind
       (subst (λ (k : Bool). IsUnloaded (lined k contents) kind names s t e) is_taken h)
 
   pub lines_in_error : (lists : List Kept) → skips ≡ false → AreListsLoaded takes skips contents kind names s t lists true

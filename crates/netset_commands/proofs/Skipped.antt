@@ -5,7 +5,7 @@ use Rattle.cidr_io.specs.Writing.{State, Answered, Tells, Whole}
 use Rattle.cidr_io.specs.declared.sink.OutputFailed.{OutputFailed}
 use Rattle.cidr_lists.specs.Faults.{AreTellings}
 use Rattle.cidr_lists.specs.Lists.{Text}
-use Rattle.cidr_lists.specs.declared.forms.Kind.TheVariants.{Networks}
+use Rattle.cidr_lists.specs.declared.forms.ListKind.TheVariants.{Networks}
 use Rattle.netset_commands.specs.Arguments.{Line, line_request}
 use Rattle.netset_commands.specs.Causes.{Refusals}
 use Rattle.netset_commands.specs.Commands.{AreLists, AreTold, IsMadeOf, Lists, read_files}

@@ -17,14 +17,14 @@ use Rattle.cidr_lists.specs.Tables.{row_in, rows_in, said_in, AreCopies, AreSpan
 use Rattle.netset_commands.specs.Keeping.{AllSaid}
 use Rattle.netset_commands.specs.LookUps.{Adds, IsErrorAt, ReadsFileRows, ReadsRows, unread}
 use Rattle.netset_commands.specs.Reading.{IsNextLine, IsStopped}
-use Rattle.netset_commands.specs.declared.errors.ReadError.{ReadError}
-use Rattle.netset_commands.specs.declared.errors.ReadError.TheVariants.{Line, Input, NoMemory}
+use Rattle.netset_commands.specs.declared.errors.ListReadError.{ListReadError}
+use Rattle.netset_commands.specs.declared.errors.ListReadError.TheVariants.{Line, Input, NoMemory}
 use Rattle.netset_commands.specs.declared.input.keeping.Said.TheVariants.{Rows as AsRows}
 use Rattle.cidr_lists.specs.declared.formats.LineFormat.{LineFormat}
 use Rattle.cidr_lists.specs.declared.forms.RowForm.{RowForm}
 use Rattle.cidr_lists.specs.declared.forms.RowLayout.{RowLayout}
 use Rattle.cidr_lists.specs.declared.records.ListForm.{ListForm}
-use Rattle.cidr_lists.specs.declared.rows.Rows.{Rows}
+use Rattle.cidr_lists.specs.declared.rows.RowList.{RowList}
 use Rattle.cidr_lists.specs.declared.rows.Span.{Span}
 use Rattle.netset_commands.proofs.Causes.{KnownOf, too_many}
 use Rattle.netset_commands.proofs.ReadBy.{bytes_read, text_same}
@@ -85,7 +85,7 @@ row_stored_within values value rows family network h =
     (row_within family network (span_of values value) (values ++ value) (omega (arith, length-append values value)))
 
 -- ---- the rows that lines say
-pub none_stored : (rows : Rows) → rows.v4.items ≡ [] → rows.v6.items ≡ [] → Stores rows []
+pub none_stored : (rows : RowList) → rows.v4.items ≡ [] → rows.v6.items ≡ [] → Stores rows []
 none_stored rows four six =
     let none : (family : Family) → stored rows family ≡ [] = elim [ Ipv4 ↦ four | Ipv6 ↦ six ] in
     record {
@@ -93,9 +93,9 @@ none_stored rows four six =
       within = λ family. subst (AreSpansWithin rows.values.items) (sym (none family)) tt;
     }
 
-pub stored_more : (old new : Rows) (said : List (Option (IpCidr × List ℕ))) (one : Option (IpCidr × List ℕ)) → Stores old said → Adds old new one
+pub stored_more : (old new : RowList) (said : List (Option (IpCidr × List ℕ))) (one : Option (IpCidr × List ℕ)) → Stores old said → Adds old new one
     → Stores new (said ++ one ∷ [])
-stored_more old new said None s same = subst (λ (k : Rows). Stores k (said ++ None ∷ [])) (sym same) (record {
+stored_more old new said None s same = subst (λ (k : RowList). Stores k (said ++ None ∷ [])) (sym same) (record {
   same = λ family. s.same family ∙ (sym (append-nil (rows_in family said)) ∙ flat_map_more (said_in family) [] said None);
   within = s.within;
 })
@@ -112,31 +112,31 @@ stored_more old new said (Some (network, value)) s p = record {
 
 -- ---- one line after the other
 module _ (form : RowForm) (bits : ListForm) where
-  abbrev pub Reads : List ℕ → Option (List ℕ) → Rows → ℕ → Type 0
+  abbrev pub Reads : List ℕ → Option (List ℕ) → RowList → ℕ → Type 0
   Reads text left rows number = (said : List (Option (IpCidr × List ℕ))) × Passed (RowSays form (bits_in bits)) text left said number × Stores rows said
 
-  pub rows_started : (contents : Option (List ℕ)) (rows : Rows) → Stores rows [] → IfSome contents (λ text. Reads text contents rows 1)
+  pub rows_started : (contents : Option (List ℕ)) (rows : RowList) → Stores rows [] → IfSome contents (λ text. Reads text contents rows 1)
   rows_started None rows h = tt
   rows_started (Some text) rows h = ([], none_passed (RowSays form (bits_in bits)) text, h)
 
-  pub rows_stepped : (contents left next : Option (List ℕ)) (old new : Rows) (number : ℕ) (line : List ℕ) (more : Bool) (one : Option (IpCidr × List ℕ)) → more ≡ true
+  pub rows_stepped : (contents left next : Option (List ℕ)) (old new : RowList) (number : ℕ) (line : List ℕ) (more : Bool) (one : Option (IpCidr × List ℕ)) → more ≡ true
       → IfSome contents (λ text. Reads text left old number) → IfSome left (λ text. IsNextLine text line more next) → RowSays form (bits_in bits) line one → Adds old new one
       → IfSome contents (λ text. Reads text next new (number + 1))
   rows_stepped None left next old new number line more one is h n says adds = tt
   rows_stepped (Some text) left next old new number line more one is (said, p, s) n says adds =
       (said ++ one ∷ [], one_passed (RowSays form (bits_in bits)) text left next said number line more one is p n says, stored_more old new said one s adds)
 
-  pub rows_finished : (contents left next : Option (List ℕ)) (old new : Rows) (number : ℕ) (line : List ℕ) (more : Bool) (one : Option (IpCidr × List ℕ)) → more ≡ false
+  pub rows_finished : (contents left next : Option (List ℕ)) (old new : RowList) (number : ℕ) (line : List ℕ) (more : Bool) (one : Option (IpCidr × List ℕ)) → more ≡ false
       → IfSome contents (λ text. Reads text left old number) → IfSome left (λ text. IsNextLine text line more next) → RowSays form (bits_in bits) line one → Adds old new one
       → IfSome contents (λ text. ReadsRows form (text_in bits text) (Ok new))
   rows_finished None left next old new number line more one is h n says adds = tt
   rows_finished (Some text) left next old new number line more one is (said, p, s) n says adds =
       (said ++ one ∷ [], all_passed (RowSays form (bits_in bits)) text left next said number line more one is p n says, stored_more old new said one s adds)
 
-  abbrev failing : ReadError → Result Rows ReadError
+  abbrev failing : ListReadError → Result RowList ListReadError
   failing e = Err e
 
-  rows_in_error : (contents left next : Option (List ℕ)) (old : Rows) (number : ℕ) (line : List ℕ) (more : Bool) (e : ReadError)
+  rows_in_error : (contents left next : Option (List ℕ)) (old : RowList) (number : ℕ) (line : List ℕ) (more : Bool) (e : ListReadError)
       → IfSome contents (λ text. Reads text left old number) → IfSome left (λ text. IsNextLine text line more next) → IsErrorAt (IsBadRow form (bits_in bits)) line number e
       → IfSome contents (λ text. ReadsRows form (text_in bits text) (Err e))
   rows_in_error None left next old number line more e h n bad = tt
@@ -145,42 +145,42 @@ module _ (form : RowForm) (bits : ListForm) where
   rows_in_error (Some text) left next old number line more (Line m e) (said, p, s) n bad =
       (said, error_passed (RowSays form (bits_in bits)) (IsBadRow form (bits_in bits)) text left next said number line more m e p n bad.0 bad.1)
 
-  pub rows_failed : (contents left next : Option (List ℕ)) (old : Rows) (number : ℕ) (line : List ℕ) (more : Bool) (r : Result Rows ReadError) (y e : ReadError)
+  pub rows_failed : (contents left next : Option (List ℕ)) (old : RowList) (number : ℕ) (line : List ℕ) (more : Bool) (r : Result RowList ListReadError) (y e : ListReadError)
       → r ≡ Err y → y ≡ e → IfSome contents (λ text. Reads text left old number) → IfSome left (λ text. IsNextLine text line more next)
       → IsErrorAt (IsBadRow form (bits_in bits)) line number e → IfSome contents (λ text. ReadsRows form (text_in bits text) r)
   rows_failed contents left next old number line more r y e is same h n bad =
-      subst (λ (k : Result Rows ReadError). IfSome contents (λ text. ReadsRows form (text_in bits text) k)) (sym (is ∙ ap failing same))
+      subst (λ (k : Result RowList ListReadError). IfSome contents (λ text. ReadsRows form (text_in bits text) k)) (sym (is ∙ ap failing same))
       (rows_in_error contents left next old number line more e h n bad)
 
-  no_more_rows : (contents : Option (List ℕ)) (e : ReadError) → IsStopped e → IfSome contents (λ text. ReadsRows form (text_in bits text) (Err e))
+  no_more_rows : (contents : Option (List ℕ)) (e : ListReadError) → IsStopped e → IfSome contents (λ text. ReadsRows form (text_in bits text) (Err e))
   no_more_rows None e h = tt
   no_more_rows (Some text) (Line number e) h = absurd h
   no_more_rows (Some text) Input h = tt
   no_more_rows (Some text) NoMemory h = tt
 
-  pub rows_stopped : (contents : Option (List ℕ)) (r : Result Rows ReadError) (y e : ReadError) → r ≡ Err y → y ≡ e → IsStopped e
+  pub rows_stopped : (contents : Option (List ℕ)) (r : Result RowList ListReadError) (y e : ListReadError) → r ≡ Err y → y ≡ e → IsStopped e
       → IfSome contents (λ text. ReadsRows form (text_in bits text) r)
   rows_stopped contents r y e is same h =
-      subst (λ (k : Result Rows ReadError). IfSome contents (λ text. ReadsRows form (text_in bits text) k)) (sym (is ∙ ap failing same)) (no_more_rows contents e h)
+      subst (λ (k : Result RowList ListReadError). IfSome contents (λ text. ReadsRows form (text_in bits text) k)) (sym (is ∙ ap failing same)) (no_more_rows contents e h)
 
   -- what is left is told too
-  pub rows_known : (contents left : Option (List ℕ)) (rows : Rows) (number : ℕ) → IfSome contents (λ text. Reads text left rows number) → KnownOf contents left
+  pub rows_known : (contents left : Option (List ℕ)) (rows : RowList) (number : ℕ) → IfSome contents (λ text. Reads text left rows number) → KnownOf contents left
   rows_known None left rows number p = tt
   rows_known (Some text) left rows number (said, p, s) = (p.rest, p.known, p.size)
 
   -- there are more lines than numbers
-  pub rows_used : (contents left : Option (List ℕ)) (rows : Rows) (number : ℕ) → IfSome contents (λ text. Reads text left rows number)
+  pub rows_used : (contents left : Option (List ℕ)) (rows : RowList) (number : ℕ) → IfSome contents (λ text. Reads text left rows number)
       → 18446744073709551615 ≤ number → TextFails contents
   rows_used None left rows number p most = tt
   rows_used (Some text) left rows number (said, p, s) most = too_many text p.before (lines_of p.rest) number p.lines p.place most
 
 -- ---- the table of the rows
 -- what is read of a reader whose bytes are told
-told_rows : (form : RowForm) (bits : ListForm) (left : Option (List ℕ)) (text : Text) (r : Result Rows ReadError) → left ≡ Some text.bytes → text.form ≡ bits
+told_rows : (form : RowForm) (bits : ListForm) (left : Option (List ℕ)) (text : Text) (r : Result RowList ListReadError) → left ≡ Some text.bytes → text.form ≡ bits
     → IfSome left (λ bytes. ReadsRows form (text_in bits bytes) r) → ReadsRows form text r
 told_rows form bits left text r is by h = rw (text_same bits text by) at (bytes_read (λ bytes. ReadsRows form (text_in bits bytes) r) left text.bytes is h)
 
-pub rows_read : (form : RowForm) (contents : Option Text) (left : Option (List ℕ)) (bits : ListForm) (name : List ℕ) (rows : Rows)
+pub rows_read : (form : RowForm) (contents : Option Text) (left : Option (List ℕ)) (bits : ListForm) (name : List ℕ) (rows : RowList)
     → ((text : Text) → contents ≡ Some text → left ≡ Some text.bytes) → ((text : Text) → contents ≡ Some text → text.form ≡ bits)
     → IfSome left (λ bytes. ReadsRows form (text_in bits bytes) (Ok rows)) → ReadsFileRows form contents name (Ok rows)
 rows_read form contents left bits name rows opens by reads text is = told_rows form bits left text (Ok rows) (opens text is) (by text is) reads
@@ -190,11 +190,11 @@ pub same_form : (one other : RowForm) → one.layout ≡ other.layout → one.va
 same_form one other same told = ap₂ (λ (l : RowLayout) (f : LineFormat). record { layout = l; values = f }) same told
 
 -- the rows of a file, as they were kept
-same_rows : (rows others : Rows) → AreCopies rows others → (family : Family) → stored others family ≡ stored rows family
+same_rows : (rows others : RowList) → AreCopies rows others → (family : Family) → stored others family ≡ stored rows family
 same_rows rows others same Ipv4 = same.v4
 same_rows rows others same Ipv6 = same.v6
 
-stored_same : (rows others : Rows) (said : List (Option (IpCidr × List ℕ))) → AreCopies rows others → Stores rows said → Stores others said
+stored_same : (rows others : RowList) (said : List (Option (IpCidr × List ℕ))) → AreCopies rows others → Stores rows said → Stores others said
 stored_same rows others said same s = record {
   same = λ family.
       ap₂ (λ (vs : List ℕ) (rs : List (List Bool × Span)). map (resolved vs) rs) same.values (same_rows rows others same family) ∙ s.same family;
@@ -203,7 +203,7 @@ stored_same rows others said same s = record {
       (subst (AreSpansWithin rows.values.items) (sym (same_rows rows others same family)) (s.within family));
 }
 
-pub rows_copied : (form said : RowForm) (contents : Option Text) (name : List ℕ) (kept rows : Rows)
+pub rows_copied : (form said : RowForm) (contents : Option Text) (name : List ℕ) (kept rows : RowList)
     → ((text : Text) → contents ≡ Some text → AllSaid text.form (lines_of text.bytes) (AsRows said kept)) → said ≡ form → AreCopies kept rows
     → ReadsFileRows form contents name (Ok rows)
 rows_copied form said contents name kept rows is read same text at =
@@ -215,13 +215,13 @@ bytes_copied contents kept bytes are copies = λ text is.
     let (begins, same) = are text is in
     (begins, each_same kept bytes copies ∙ same)
 
-pub table_read : (form : RowForm) (contents : Option Text) (name : List ℕ) (rows : Rows) (table : Family → List (List Bool × List ℕ)) → ReadsFileRows form contents name (Ok rows)
+pub table_read : (form : RowForm) (contents : Option Text) (name : List ℕ) (rows : RowList) (table : Family → List (List Bool × List ℕ)) → ReadsFileRows form contents name (Ok rows)
     → ((family : Family) → AreLastRows (map (resolved rows.values.items) (stored rows family)) (table family)) → (text : Text) → contents ≡ Some text → IsTable form text table
 table_read form contents name rows table reads last = λ text is.
     let (said, says, s) = reads text is in
     (said, says, λ family. subst (λ (k : List (List Bool × List ℕ)). AreLastRows k (table family)) (s.same family) (last family))
 
-pub table_unread : (form : RowForm) (contents : Option Text) (left : Option (List ℕ)) (bits : ListForm) (file : Bor (List ℕ)) (e : ReadError)
+pub table_unread : (form : RowForm) (contents : Option Text) (left : Option (List ℕ)) (bits : ListForm) (file : Bor (List ℕ)) (e : ListReadError)
     → ((text : Text) → contents ≡ Some text → left ≡ Some text.bytes) → ((text : Text) → contents ≡ Some text → text.form ≡ bits)
     → IfSome left (λ bytes. ReadsRows form (text_in bits bytes) (Err e)) → IsUnreadTable form contents file.now (unread file e)
 table_unread form contents left bits file (Line number e) opens by reads = (

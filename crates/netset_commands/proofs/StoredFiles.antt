@@ -11,7 +11,7 @@ use Rattle.cidr.specs.model.Bits.{bits}
 use Rattle.cidr.specs.model.Network.{BeginsWith}
 use Rattle.cidr_files.specs.Layout.{wide_words, words}
 use Rattle.cidr_files.specs.Tables.{IsFile, IsStoredTable, IsTableCutFrom, part_at, parts_in, stored_networks, value_in}
-use Rattle.cidr_files.specs.declared.layout.Table.{Table}
+use Rattle.cidr_files.specs.declared.layout.FileTables.{FileTables}
 use Rattle.cidr_lookup.specs.Keys.{prefix_bits}
 use Rattle.cidr_lists.specs.Forms.{AreFit, Fits, IsUnfit, IsUnfitAt}
 use Rattle.cidr_lists.specs.declared.errors.LineError.{LineError}
@@ -158,7 +158,7 @@ rows_had w numbers parts =
       values = λ i l. ap (value_in parts) (omega arith) ∙ sym (ap (λ (r : List Bool × List ℕ). r.1) (at i l));
     }
 
-pub table_had : (bytes : List ℕ) (table : Table) → IsFile bytes → IsTableCutFrom bytes table → HasTable (by_family (file_rows table)) bytes
+pub table_had : (bytes : List ℕ) (table : FileTables) → IsFile bytes → IsTableCutFrom bytes table → HasTable (by_family (file_rows table)) bytes
 table_had bytes table file cut = record {
   file = file;
   ipv4 = subst (λ (parts : List (List ℕ)). HasTheRows 32 words parts (stored_rows 32 words (parts_in table.ipv4))) cut.ipv4 (rows_had 32 words (parts_in table.ipv4));
@@ -171,7 +171,7 @@ pub rows_counted : {W : Type 0} (value : W → ℕ) (numbers : List ℕ → List
 rows_counted value numbers parts addresses rows are is =
     omega (arith, is, length-zip (numbers (part_at parts 2)) (part_at parts 3), ap length are, length-map addresses value)
 
-pub tables_cut : (bytes : List ℕ) (table : Table) → IsFile bytes → IsTableCutFrom bytes table → AreTables table
+pub tables_cut : (bytes : List ℕ) (table : FileTables) → IsFile bytes → IsTableCutFrom bytes table → AreTables table
 tables_cut bytes table file cut = record {
   ipv4 = rw (cut.ipv4, cut.ipv4_steps) file.ipv4;
   ipv6 = rw (cut.ipv6, cut.ipv6_steps) file.ipv6;

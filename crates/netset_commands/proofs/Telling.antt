@@ -31,12 +31,12 @@ use Rattle.netset_commands.proofs.Zips.{zip_behind}
 use Rattle.netset_commands.specs.declared.errors.CommandError.{CommandError}
 use Rattle.netset_commands.specs.declared.errors.CommandError.TheVariants as error
 use Rattle.cidr_lists.specs.declared.errors.LineError.{LineError}
-use Rattle.netset_commands.specs.declared.errors.ReadError.{ReadError}
-use Rattle.netset_commands.specs.declared.errors.ReadError.TheVariants.{Line, Input, NoMemory}
-use Rattle.cidr_lists.specs.declared.forms.Kind.{Kind}
-use Rattle.cidr_lists.specs.declared.forms.Kind.TheVariants as kinds
+use Rattle.netset_commands.specs.declared.errors.ListReadError.{ListReadError}
+use Rattle.netset_commands.specs.declared.errors.ListReadError.TheVariants.{Line, Input, NoMemory}
+use Rattle.cidr_lists.specs.declared.forms.ListKind.{ListKind}
+use Rattle.cidr_lists.specs.declared.forms.ListKind.TheVariants as kinds
 use Rattle.cidr_lists.specs.declared.forms.RowForm.{RowForm}
-use Rattle.netset_commands.specs.declared.input.begun.Given.TheVariants.{Lines, Stored}
+use Rattle.netset_commands.specs.declared.input.begun.FileContent.TheVariants.{Lines, Stored}
 use Rattle.netset_commands.specs.declared.input.keeping.Heard.{Heard}
 use Rattle.netset_commands.specs.declared.input.keeping.Said.{Said}
 use Rattle.netset_commands.specs.declared.input.keeping.Said.TheVariants.{Networks, Hosts, Rows}
@@ -61,7 +61,7 @@ tells_more s t u xs ys (Err f, (part, kept)) (Err g, (more, still)) =
     (Err f, (subst (λ (k : State). Part s k (xs ++ ys)) (sym same) (part_more s t xs ys part), λ failed. same ∙ kept failed))
 
 -- ---- the errors of lines
-sound_behind : (kind : Kind) (bits : ListForm) (first : ℕ) (lines : List (List ℕ)) (line : List ℕ) (errors : List (ℕ × LineError))
+sound_behind : (kind : ListKind) (bits : ListForm) (first : ℕ) (lines : List (List ℕ)) (line : List ℕ) (errors : List (ℕ × LineError))
     → AreErrors kind bits first lines errors → IsSound kind bits line → AreErrors kind bits first (lines ++ line ∷ []) errors
 sound_behind kind bits first [] line errors are sound = inl (sound, are)
 sound_behind kind bits first (other ∷ lines) line errors (inl (here, are)) sound =
@@ -69,7 +69,7 @@ sound_behind kind bits first (other ∷ lines) line errors (inl (here, are)) sou
 sound_behind kind bits first (other ∷ lines) line errors (inr (e, rest, bad, are, is)) sound =
     inr (e, rest, bad, sound_behind kind bits (first + 1) lines line rest are sound, is)
 
-faulty_behind : (kind : Kind) (bits : ListForm) (first n : ℕ) (lines : List (List ℕ)) (line : List ℕ) (errors : List (ℕ × LineError)) (e : LineError)
+faulty_behind : (kind : ListKind) (bits : ListForm) (first n : ℕ) (lines : List (List ℕ)) (line : List ℕ) (errors : List (ℕ × LineError)) (e : LineError)
     → n ≡ first + length lines → AreErrors kind bits first lines errors → IsFaulty kind bits line e
     → AreErrors kind bits first (lines ++ line ∷ []) (errors ++ (n, e) ∷ [])
 faulty_behind kind bits first n [] line errors e at are bad =
@@ -87,7 +87,7 @@ faulty_behind kind bits first n (other ∷ lines) line errors e at (inr (d, rest
 
 -- ---- what a line says
 module _ (bits : ListForm) (line : List ℕ) (number : ℕ) where
-  pub same_kind : (was now : Said) (r : Result (Unit {0}) ReadError) → AddsBy bits line number was now r → kind_in now ≡ kind_in was
+  pub same_kind : (was now : Said) (r : Result (Unit {0}) ListReadError) → AddsBy bits line number was now r → kind_in now ≡ kind_in was
   same_kind (Networks old) (Networks new) r h = refl
   same_kind (Hosts old) (Hosts new) r h = refl
   same_kind (Rows form old) (Rows same new) r h = ap (λ (k : RowForm). kinds.Rows k) h.0
@@ -167,7 +167,7 @@ module _ (old mid new line : List ℕ) (len : ℕ) (added : mid ≡ old ++ 10 �
       ap (take len) (added ∙ sym (append_assoc old (10 ∷ []) line))
       ∙ (ap (λ (n : ℕ). take n (front ++ line)) (omega (arith, at, length-append old (10 ∷ []))) ∙ take-append_seam front line)
 
-  good_line : (kind : Kind) (bits : ListForm) (before : List (List ℕ)) → IsSound kind bits line → new ≡ mid → AreGoodLines kind bits before old
+  good_line : (kind : ListKind) (bits : ListForm) (before : List (List ℕ)) → IsSound kind bits line → new ≡ mid → AreGoodLines kind bits before old
       → AreGoodLines kind bits (before ++ line ∷ []) new
   good_line kind bits before sound whole (goods, zip, all) = (
     goods ++ line ∷ [],
@@ -175,7 +175,7 @@ module _ (old mid new line : List ℕ) (len : ℕ) (added : mid ≡ old ++ 10 �
     whole ∙ (added ∙ (ap (λ (k : List ℕ). k ++ 10 ∷ line) all ∙ flat_map_more (λ (l : List ℕ). 10 ∷ l) [] goods line)),
   )
 
-  left_empty : (kind : Kind) (bits : ListForm) (before : List (List ℕ)) (e : LineError) → IsFaulty kind bits line e → new ≡ take len mid
+  left_empty : (kind : ListKind) (bits : ListForm) (before : List (List ℕ)) (e : LineError) → IsFaulty kind bits line e → new ≡ take len mid
       → AreGoodLines kind bits before old → AreGoodLines kind bits (before ++ line ∷ []) new
   left_empty kind bits before e bad cut (goods, zip, all) = (
     goods ++ [] ∷ [],
@@ -196,7 +196,7 @@ same_says old t u block now rest lines same kept says start text h =
     subst (λ (k : State). HasSaid start k rest (text ++ lines)) (sym same)
     (subst (λ (k : List ℕ). HasSaid start t k (text ++ lines)) (sym kept) (says start text h))
 
-module _ (kind : Kind) (bits : ListForm) (file : List ℕ) (skips : Bool) (s : State) (b : List ℕ) where
+module _ (kind : ListKind) (bits : ListForm) (file : List ℕ) (skips : Bool) (s : State) (b : List ℕ) where
   -- how far the lines of a list were told and kept
   abbrev pub IsKeeping : Option (List ℕ) → Option (List ℕ) → State → List ℕ → Bool → Said → List ℕ → ℕ → Type 0
   IsKeeping contents left t block found said good number = (lines : List ℕ) × SaysMore s b t block lines × IsAny found lines × (kind_in said ≡ kind)
@@ -220,7 +220,7 @@ module _ (kind : Kind) (bits : ListForm) (file : List ℕ) (skips : Bool) (s : S
       → IsEnded bad len mid new → SaysMore s b t block lines → IsAny found lines → kind_in was ≡ kind → KeepsLine bits file number line was now t block u rest (Ok bad)
       → Adds line number u rest (found || bad) now new (lines, found, was, old)
   line_kept was now t u block rest found false number line lines old mid new len added ended says any is (adds, same, kept) =
-      let sound : IsSound kind bits line = subst (λ (k : Kind). IsSound k bits line) is (line_sound bits line number was now adds) in (
+      let sound : IsSound kind bits line = subst (λ (k : ListKind). IsSound k bits line) is (line_sound bits line number was now adds) in (
         lines,
         same_says s t u b block rest lines same kept says,
         any_same found lines any,
@@ -235,7 +235,7 @@ module _ (kind : Kind) (bits : ListForm) (file : List ℕ) (skips : Bool) (s : S
       )
   line_kept was now t u block rest found true number line lines old mid new len added ended says any is (e, same, bad, more) =
       let fault : ℕ × LineError = (number, e) in
-      let faulty : IsFaulty kind bits line e = subst (λ (k : Kind). IsFaulty k bits line e) is bad in (
+      let faulty : IsFaulty kind bits line e = subst (λ (k : ListKind). IsFaulty k bits line e) is bad in (
         lines ++ fault_line file fault,
         λ start text h. subst (HasSaid start u rest) (append_assoc text lines (fault_line file fault)) (more start (text ++ lines) (says start text h)),
         any_true found (lines ++ fault_line file fault) (some_text lines (shown file) _ 58),
@@ -284,13 +284,13 @@ module _ (kind : Kind) (bits : ListForm) (file : List ℕ) (skips : Bool) (s : S
       let (errors, are, is, fine, read) = p.done in
       (p.before, lines_of p.rest, p.lines, errors, are, is)
 
-  pub keeping_stopped : (contents left : Option (List ℕ)) (t u : State) (block rest : List ℕ) (found : Bool) (said : Said) (good : List ℕ) (number : ℕ) (e : ReadError)
+  pub keeping_stopped : (contents left : Option (List ℕ)) (t u : State) (block rest : List ℕ) (found : Bool) (said : Said) (good : List ℕ) (number : ℕ) (e : ListReadError)
       → IsKeeping contents left t block found said good number → IsStopped e → u ≡ t → rest ≡ block → KeepsListLines kind bits file skips contents s b u rest (Err e)
   keeping_stopped contents left t u block rest found said good number e (lines, says, any, is, p) stopped same kept =
       (lines, same_says s t u b block rest lines same kept says, stopped, part_told contents left lines found said good number p)
 
 -- ---- the list of a file
-pub nothing_kept : (takes : Bool) (contents : Option Text) (kind : Kind) (file : List ℕ) (skips : Bool) (s : State) (e : CommandError) → IsLoadError (file ∷ []) e
+pub nothing_kept : (takes : Bool) (contents : Option Text) (kind : ListKind) (file : List ℕ) (skips : Bool) (s : State) (e : CommandError) → IsLoadError (file ∷ []) e
     → KeepsList takes contents kind file skips s s (Err e)
 nothing_kept takes contents kind file skips s e why = ([], tells_nothing s, why, λ text is. ([], lines_of text.bytes, refl, [], refl, refl))
 
@@ -322,7 +322,7 @@ no_file : (takes stored : Bool) → (takes ≡ true → stored ≡ false) → (t
 no_file false stored h = refl
 no_file true stored h = h refl
 
-module _ (takes : Bool) (contents : Option Text) (left : Option (List ℕ)) (kind : Kind) (bits : ListForm) (skips : Bool) (s t u : State) (block rest : List ℕ)
+module _ (takes : Bool) (contents : Option Text) (left : Option (List ℕ)) (kind : ListKind) (bits : ListForm) (skips : Bool) (s t u : State) (block rest : List ℕ)
     (lines_are : (text : Text) → contents ≡ Some text → takes ≡ true → begins_file text.bytes ≡ false)
     (opens : (text : Text) → contents ≡ Some text → left ≡ Some text.bytes) (by : (text : Text) → contents ≡ Some text → text.form ≡ bits)
     (none : block ≡ []) (ends : EndsSaying t rest u) where
@@ -352,12 +352,12 @@ module _ (takes : Bool) (contents : Option Text) (left : Option (List ℕ)) (kin
     refl,
   )
 
-  load_error : (file : Bor (List ℕ)) (e : ReadError) → IsStopped e → IsLoadError (file.now ∷ []) (unread file e)
+  load_error : (file : Bor (List ℕ)) (e : ListReadError) → IsStopped e → IsLoadError (file.now ∷ []) (unread file e)
   load_error file (Line number e) h = absurd h
   load_error file Input h = ([], refl)
   load_error file NoMemory h = tt
 
-  pub list_cut : (file : Bor (List ℕ)) (e : ReadError) → KeepsListLines kind bits file.now skips left s block t rest (Err e)
+  pub list_cut : (file : Bor (List ℕ)) (e : ListReadError) → KeepsListLines kind bits file.now skips left s block t rest (Err e)
       → KeepsList takes contents kind file.now skips s u (Err (unread file e))
   list_cut file e (lines, says, stopped, is) = (
     lines,
@@ -376,13 +376,13 @@ blank_short long = absurd (omega (arith, long))
 blank_field : IsTrimAscii [] []
 blank_field = (0, refl, λ i l. absurd (omega (arith, l)), λ l. absurd (omega (arith, l)), λ i l m. absurd (omega (arith, l, m)), λ l. absurd (omega (arith, l)))
 
-blank_sound : (kind : Kind) (bits : ListForm) → IsSound kind bits []
+blank_sound : (kind : ListKind) (bits : ListForm) → IsSound kind bits []
 blank_sound kinds.Networks (OfNetworks bits) = ([], (blank_short, [], Blank, blank_field, refl, refl))
 blank_sound kinds.Networks Rir = ([], (blank_short, Blank, inl ([], blank_field, refl), refl))
 blank_sound kinds.Hosts bits = ([], 1, None, (blank_short, blank_field))
 blank_sound (kinds.Rows form) bits = (None, (blank_short, ([], blank_field, refl)))
 
-blank_told : (kind : Kind) (file : List ℕ) (bits : ListForm) → AreErrorsTold kind file (text_in bits []) []
+blank_told : (kind : ListKind) (file : List ℕ) (bits : ListForm) → AreErrorsTold kind file (text_in bits []) []
 blank_told kind file bits = ([], inl (blank_sound kind bits, refl), refl)
 
 file_lined : (contents : Option Text) → ((text : Text) → contents ≡ Some text → begins_file text.bytes ≡ true)
@@ -394,7 +394,7 @@ file_lined (Some known) is text at =
     let bare : text_in known.form [] ≡ text = sym none ∙ same in
     ap (λ (b : ListForm). text_in b []) (sym (ap (λ (t : Text). t.form) bare)) ∙ bare
 
-pub file_kept : (contents : Option Text) (kind : Kind) (file : Bor (List ℕ)) (skips : Bool) (s : State) (bytes text : Vec ℕ Global) → AreFileBytes contents bytes.items
+pub file_kept : (contents : Option Text) (kind : ListKind) (file : Bor (List ℕ)) (skips : Bool) (s : State) (bytes text : Vec ℕ Global) → AreFileBytes contents bytes.items
     → KeepsList true contents kind file.now skips s s (Ok (record { name = file; given = Stored bytes; text = text }, false))
 file_kept contents kind file skips s bytes lines are = (
   [],
@@ -409,7 +409,7 @@ file_kept contents kind file skips s bytes lines are = (
 )
 
 -- ---- one list after another
-pub tellings_behind : (kind : Kind) (names : List (List ℕ)) (texts : List Text) (name : List ℕ) (text : Text) (lines : List ℕ) (errors : List (ℕ × LineError))
+pub tellings_behind : (kind : ListKind) (names : List (List ℕ)) (texts : List Text) (name : List ℕ) (text : Text) (lines : List ℕ) (errors : List (ℕ × LineError))
     → AreTellings kind names texts lines → AreErrors kind text.form 1 (lines_of text.bytes) errors
     → AreTellings kind (names ++ name ∷ []) (texts ++ text ∷ []) (lines ++ flat_map (fault_line name) errors)
 tellings_behind kind [] [] name text lines errors none are = (

@@ -15,13 +15,13 @@ use Rattle.cidr_lists.specs.declared.forms.RowLayout.{RowLayout}
 use Rattle.cidr_lists.specs.declared.records.ListForm.{ListForm}
 use Rattle.cidr_lists.specs.declared.records.ListForm.TheVariants.{Networks}
 use Rattle.cidr_lists.specs.declared.forms.RowLayout.TheVariants.{Fields, Columns, Pfx2as, Routes}
-use Rattle.netset_commands.specs.Arguments.{Parts, and_then, question_by, asks_help, choice_by, choice_in, counted_request, extent_by, extra_operand, form_in, is_option, joined_arguments, line_request, list_form_by, list_form_in, lists_request, look_by, match_by, may_keep, named_verb, only_operand, only_options, only_value, operand_or, part_request, parts_from, read_request, reading_in, reads_tables, style_in_values, takes, target_by, value_behind, value_of, verb_request, word_parts}
+use Rattle.netset_commands.specs.Arguments.{Parts, and_then, question_by, asks_help, choice_by, choice_in, counted_request, extent_by, extra_operand, form_in, is_option, joined_arguments, line_request, list_form_by, list_form_in, lists_request, look_by, match_by, may_keep, named_verb, only_operand, only_options, only_value, operand_or, part_request, parts_from, read_request, reading_in, reads_tables, style_in_values, takes, target_by, value_behind, option_value, verb_request, word_parts}
 use Rattle.netset_commands.specs.Commands.{Request, Lists, Styled, NotIn, Diff, Same, Free, Acl, Split, Check, Which, Match, MatchEach, Look, Compile, Smallest, Describe, Class, Single, Help, Version, bits_of, input_name, reading_of}
 use Rattle.netset_commands.specs.Free.{Extent, First, Count, All}
 use Rattle.netset_commands.specs.Matching.{has, is_word}
 use Rattle.netset_commands.specs.Picking.{Choice, FirstField, FieldOf}
 use Rattle.netset_commands.specs.Single.{Show, Nth}
-use Rattle.netset_commands.specs.Table.{commands, name_of, row_of, takes_value}
+use Rattle.netset_commands.specs.Table.{commands, name_of, command_row, takes_value}
 use Rattle.netset_commands.specs.Typed.{AreTyped, GoesWith, IsTyped, choice_words, layout_words, separator_words, style_words}
 use Rattle.netset_commands.specs.declared.commands.arguments.Next.{Next}
 use Rattle.netset_commands.specs.declared.commands.arguments.Next.TheVariants.{Any, Value}
@@ -169,7 +169,7 @@ among command [] word each is = absurd (true≢false (sym is))
 among command (name ∷ names) word (first, each) is =
     here_or_later command name word (is_word word name) (has word names) refl first (λ later. among command names word each later) is
 
-its_options : (command : Verb) → HasEach command (row_of command).options
+its_options : (command : Verb) → HasEach command (command_row command).options
 its_options (verb.Lists Merge) = (refl, (refl, (refl, (refl, (refl, (refl, tt))))))
 its_options (verb.Lists Nets) = (refl, (refl, (refl, (refl, (refl, (refl, tt))))))
 its_options (verb.Lists Minus) = (refl, (refl, (refl, (refl, (refl, (refl, tt))))))
@@ -200,7 +200,7 @@ options_first : (command : Verb) (options words values operands : List (List ℕ
 options_first command [] words values operands all is = is
 options_first command (option ∷ options) words values operands all is =
     one_more command option (options ++ words) (only_options (option ∷ [])) (parts_with options values operands)
-    (among command (row_of command).options option (its_options command) (and_first (takes command option) (list_all (takes command) options) all))
+    (among command (command_row command).options option (its_options command) (and_first (takes command option) (list_all (takes command) options) all))
     (options_first command options words values operands (and_second (takes command option) (list_all (takes command) options) all) is)
 
 -- ---- the command
@@ -248,14 +248,14 @@ style_told command (Some style) plain = style_found command style plain
 
 -- no file is named by these values, and no form of lists
 abbrev IsUnset : Verb → List (List ℕ) → Type 0
-IsUnset command values = (value_of command (codes "-o") values ≡ Ok None)
-    × ((reads_tables command ≡ true) ⊎ (value_of command (codes "--form") values ≡ Ok None))
+IsUnset command values = (option_value command (codes "-o") values ≡ Ok None)
+    × ((reads_tables command ≡ true) ⊎ (option_value command (codes "--form") values ≡ Ok None))
 
 no_file_told : (command : Verb) (style : Option Style) → IsUnset command (style_words style)
 no_file_told command None = (refl, inr refl)
 no_file_told command (Some style) = (refl, inr refl)
 
-no_count_told : (style : Option Style) → value_of verb.Free (codes "--count") (style_words style) ≡ Ok None
+no_count_told : (style : Option Style) → option_value verb.Free (codes "--count") (style_words style) ≡ Ok None
 no_count_told None = refl
 no_count_told (Some style) = refl
 
@@ -272,13 +272,13 @@ module _ (count : List ℕ) where
   counted_file None = (refl, inr refl)
   counted_file (Some style) = (refl, inr refl)
 
-  count_told : (style : Option Style) → value_of verb.Free (codes "--count") (counted_words style) ≡ Ok (Some count)
+  count_told : (style : Option Style) → option_value verb.Free (codes "--count") (counted_words style) ≡ Ok (Some count)
   count_told None = refl
   count_told (Some style) = refl
 
 -- as many networks as the options say, in the style that they say
 extent_asks : (every : Bool) (values : List (List ℕ)) (found : Option (List ℕ)) (extent : Extent) (style : Option Style) (options : List (List ℕ)) (pool len : List ℕ)
-    (used : List (List ℕ)) → has (codes "--all") options ≡ every → value_of verb.Free (codes "--count") values ≡ Ok found → extent_by every found ≡ Ok extent
+    (used : List (List ℕ)) → has (codes "--all") options ≡ every → option_value verb.Free (codes "--count") values ≡ Ok found → extent_by every found ≡ Ok extent
     → style_in_values verb.Free values ≡ Ok style
     → verb_request verb.Free (parts_with options values (pool ∷ len ∷ used)) ≡ Ok (Free style extent pool len used)
 extent_asks every values found extent style options pool len used is given by told =
@@ -291,12 +291,12 @@ extent_asks every values found extent style options pool len used is given by to
 abbrev json_words : List (List ℕ)
 json_words = codes "--format" ∷ codes "json" ∷ []
 
-no_list_told : (style : Option Style) → value_of verb.Acl (codes "--diff") (style_words style) ≡ Ok None
+no_list_told : (style : Option Style) → option_value verb.Acl (codes "--diff") (style_words style) ≡ Ok None
 no_list_told None = refl
 no_list_told (Some style) = refl
 
 question_asks : (shadowed : Bool) (values : List (List ℕ)) (found : Option (List ℕ)) (asked : Question) (options : List (List ℕ)) (file : List ℕ)
-    → has (codes "--shadowed") options ≡ shadowed → value_of verb.Acl (codes "--diff") values ≡ Ok found → question_by shadowed found values ≡ Ok asked
+    → has (codes "--shadowed") options ≡ shadowed → option_value verb.Acl (codes "--diff") values ≡ Ok found → question_by shadowed found values ≡ Ok asked
     → verb_request verb.Acl (parts_with options values (file ∷ [])) ≡ Ok (Acl asked file)
 question_asks shadowed values found asked options file is given by =
     let behind : Question → Result Request (List ℕ) = λ one. Ok (Acl one file) in
@@ -354,14 +354,14 @@ layout_told command layout numbers = ap (form_in command) (sym (append-nil (layo
 
 -- no other value is told by it
 no_file_in_at : (command : Verb) (separator : Separator) (numbers : List ℕ) (format : LineFormat)
-    → value_of command (codes "-o") (columns_words separator numbers ++ style_words (line_style format)) ≡ Ok None
+    → option_value command (codes "-o") (columns_words separator numbers ++ style_words (line_style format)) ≡ Ok None
 no_file_in_at command WhiteSpace numbers by_line.Plain = refl
 no_file_in_at command WhiteSpace numbers by_line.Json = refl
 no_file_in_at command (Byte c) numbers by_line.Plain = refl
 no_file_in_at command (Byte c) numbers by_line.Json = refl
 
 no_file_in : (command : Verb) (layout : RowLayout) (format : LineFormat)
-    → value_of command (codes "-o") (form_values layout format) ≡ Ok None
+    → option_value command (codes "-o") (form_values layout format) ≡ Ok None
 no_file_in command (Fields WhiteSpace) by_line.Plain = refl
 no_file_in command (Fields WhiteSpace) by_line.Json = refl
 no_file_in command (Fields (Byte c)) by_line.Plain = refl
@@ -375,8 +375,8 @@ no_file_in command (Routes Ipv6) by_line.Json = refl
 no_file_in command (Columns columns) format =
     no_file_in_at command columns.separator (decimal (columns.network + 1) ++ 44 ∷ decimal (columns.value + 1)) format
 
-no_file_of : (command : Verb) (layout : RowLayout) → value_of command (codes "-o") (layout_words layout) ≡ Ok None
-no_file_of command layout = ap (value_of command (codes "-o")) (sym (append-nil (layout_words layout))) ∙ no_file_in command layout by_line.Plain
+no_file_of : (command : Verb) (layout : RowLayout) → option_value command (codes "-o") (layout_words layout) ≡ Ok None
+no_file_of command layout = ap (option_value command (codes "-o")) (sym (append-nil (layout_words layout))) ∙ no_file_in command layout by_line.Plain
 
 no_field_in_at : (command : Verb) (separator : Separator) (numbers : List ℕ) (format : LineFormat) (found : Option (List ℕ))
     → value_behind command (codes "--field") found (columns_words separator numbers ++ style_words (line_style format)) ≡ Ok found
@@ -431,7 +431,7 @@ look_form FirstField form numbers = form_told verb.Look form.layout form.values 
 look_form (FieldOf number None) form numbers = form_told verb.Look form.layout form.values numbers
 look_form (FieldOf number (Some separator)) form numbers = form_told verb.Look form.layout form.values numbers
 
-look_file : (choice : Choice) (form : RowForm) → value_of verb.Look (codes "-o") (look_values choice form) ≡ Ok None
+look_file : (choice : Choice) (form : RowForm) → option_value verb.Look (codes "-o") (look_values choice form) ≡ Ok None
 look_file FirstField form = no_file_in verb.Look form.layout form.values
 look_file (FieldOf number None) form = no_file_in verb.Look form.layout form.values
 look_file (FieldOf number (Some separator)) form = no_file_in verb.Look form.layout form.values
@@ -442,12 +442,12 @@ keeps_told by_line.Plain keeps goes = refl
 keeps_told by_line.Json false goes = refl
 keeps_told by_line.Json true goes = absurd (true≢false (goes refl))
 
-choice_found : (choice : Choice) (options values operands : List (List ℕ)) (number separator : Option (List ℕ)) → value_of verb.Look (codes "--field") values ≡ Ok number
-    → value_of verb.Look (codes "--separator") values ≡ Ok separator → choice_by verb.Look number (has (codes "--any") options) separator ≡ Ok choice
+choice_found : (choice : Choice) (options values operands : List (List ℕ)) (number separator : Option (List ℕ)) → option_value verb.Look (codes "--field") values ≡ Ok number
+    → option_value verb.Look (codes "--separator") values ≡ Ok separator → choice_by verb.Look number (has (codes "--any") options) separator ≡ Ok choice
     → choice_in verb.Look (parts_with options values operands) ≡ Ok choice
 choice_found choice options values operands number separator first second is =
     let behind : Option (List ℕ) → Option (List ℕ) → Result Choice (List ℕ) = λ n s. choice_by verb.Look n (has (codes "--any") options) s in
-    ap (λ (r : Result (Option (List ℕ)) (List ℕ)). and_then r (λ n. and_then (value_of verb.Look (codes "--separator") values) (behind n))) first
+    ap (λ (r : Result (Option (List ℕ)) (List ℕ)). and_then r (λ n. and_then (option_value verb.Look (codes "--separator") values) (behind n))) first
     ∙ (ap (λ (r : Result (Option (List ℕ)) (List ℕ)). and_then r (behind number)) second ∙ is)
 
 look_choice : (choice : Choice) (form : RowForm) (options operands : List (List ℕ)) → GoesWith choice options
@@ -468,8 +468,8 @@ none_by command keeps false fine = refl
 none_by command false true fine = refl
 none_by command true true fine = absurd (true≢false fine)
 
-no_target : (command : Verb) (options values : List (List ℕ)) → (has (codes "-k") options && has (codes "--skip-bad") options) ≡ false → value_of command (codes "-o") values ≡ Ok None
-    → and_then (value_of command (codes "-o") values) (target_by command (has (codes "-k") options) (has (codes "--skip-bad") options)) ≡ Ok None
+no_target : (command : Verb) (options values : List (List ℕ)) → (has (codes "-k") options && has (codes "--skip-bad") options) ≡ false → option_value command (codes "-o") values ≡ Ok None
+    → and_then (option_value command (codes "-o") values) (target_by command (has (codes "-k") options) (has (codes "--skip-bad") options)) ≡ Ok None
 no_target command options values fine none =
     ap (λ (r : Result (Option (List ℕ)) (List ℕ)). and_then r (target_by command (has (codes "-k") options) (has (codes "--skip-bad") options))) none
     ∙ none_by command (has (codes "-k") options) (has (codes "--skip-bad") options) fine
@@ -480,9 +480,9 @@ either_way true x y is = refl
 either_way false x y is = is
 
 networks_told : (command : Verb) (parts : Parts) → asks_help parts.options ≡ false
-    → (reads_tables command ≡ true) ⊎ (value_of command (codes "--form") parts.values ≡ Ok None) → list_form_in command parts ≡ Ok (Networks (bits_of parts.options))
+    → (reads_tables command ≡ true) ⊎ (option_value command (codes "--form") parts.values ≡ Ok None) → list_form_in command parts ≡ Ok (Networks (bits_of parts.options))
 networks_told command parts no_page (inl tables) =
-    let found = and_then (value_of command (codes "--form") parts.values) (λ name. list_form_by command parts.options name) in
+    let found = and_then (option_value command (codes "--form") parts.values) (λ name. list_form_by command parts.options name) in
     let lists : Result ListForm (List ℕ) = Ok (Networks (bits_of parts.options)) in
     ap (λ (b : Bool). if b || reads_tables command then lists else found) no_page ∙ ap (λ (b : Bool). if false || b then lists else found) tables
 networks_told command parts no_page (inr none) =
@@ -490,7 +490,7 @@ networks_told command parts no_page (inr none) =
     (ap (λ (r : Result (Option (List ℕ)) (List ℕ)). and_then r (λ name. list_form_by command parts.options name)) none)
 
 networks_read : (command : Verb) (parts : Parts) → asks_help parts.options ≡ false
-    → (reads_tables command ≡ true) ⊎ (value_of command (codes "--form") parts.values ≡ Ok None)
+    → (reads_tables command ≡ true) ⊎ (option_value command (codes "--form") parts.values ≡ Ok None)
     → reading_in command parts ≡ Ok (reading_of (Networks (bits_of parts.options)) parts.options)
 networks_read command parts no_page unformed =
     ap (λ (r : Result ListForm (List ℕ)). and_then r (λ form. Ok (reading_of form parts.options))) (networks_told command parts no_page unformed)

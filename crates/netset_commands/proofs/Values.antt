@@ -4,7 +4,7 @@ use Rattle.std.proofs.lemmas.List.{drop_more, length-drop}
 use Rattle.cidr_lists.specs.Formats.{Style, bare, format_name, format_of, formats}
 use Rattle.cidr_lists.specs.declared.formats.Format.{Format}
 use Rattle.cidr_lists.specs.declared.formats.Format.TheVariants as format
-use Rattle.netset_commands.specs.Arguments.{and_then, chosen_style, lists_request, made_request, misuse_text, style_of, taken_value, value_behind, value_of}
+use Rattle.netset_commands.specs.Arguments.{and_then, chosen_style, lists_request, made_request, misuse_text, style_of, taken_value, value_behind, option_value}
 use Rattle.netset_commands.specs.Commands.{Styled, NotIn}
 use Rattle.netset_commands.specs.Table.{name_of, texts}
 use Rattle.netset_commands.specs.declared.commands.operations.Operation.{Operation}
@@ -15,21 +15,21 @@ use Rattle.netset_commands.specs.declared.errors.Misfit.TheVariants.{NoFormat}
 
 -- ---- the value of an option
 module _ (command : Verb) (name : List ℕ) (all left : List (Bor (List ℕ))) (found : Option (List ℕ))
-    (h : value_of command name (texts all) ≡ value_behind command name found (texts left)) where
+    (h : option_value command name (texts all) ≡ value_behind command name found (texts left)) where
   module _ (option : Bor (List ℕ)) (behind : List (Bor (List ℕ))) (is : left ≡ option ∷ behind) where
     module _ (value : Bor (List ℕ)) (rest : List (Bor (List ℕ))) (more : behind ≡ value ∷ rest) where
-      step : value_of command name (texts all)
+      step : option_value command name (texts all)
           ≡ and_then (taken_value command name found option.now value.now) (λ now. value_behind command name now (texts rest))
       step =
           h ∙ (ap (λ (k : List (Bor (List ℕ))). value_behind command name found (texts k)) is
           ∙ ap (λ (k : List (Bor (List ℕ))). value_behind command name found (texts (option ∷ k))) more)
 
       step_taken : (now : Option (List ℕ)) → taken_value command name found option.now value.now ≡ Ok now
-          → value_of command name (texts all) ≡ value_behind command name now (texts rest)
+          → option_value command name (texts all) ≡ value_behind command name now (texts rest)
       step_taken now made =
           step ∙ ap (λ (r : Result (Option (List ℕ)) (List ℕ)). and_then r (λ now. value_behind command name now (texts rest))) made
 
-      step_refused : (line : List ℕ) → taken_value command name found option.now value.now ≡ Err line → value_of command name (texts all) ≡ Err line
+      step_refused : (line : List ℕ) → taken_value command name found option.now value.now ≡ Err line → option_value command name (texts all) ≡ Err line
       step_refused line made =
           step ∙ ap (λ (r : Result (Option (List ℕ)) (List ℕ)). and_then r (λ now. value_behind command name now (texts rest))) made
 
@@ -42,8 +42,8 @@ ending command name found (option ∷ value ∷ rest) few = absurd (omega (arith
 
 -- the same by indices
 module _ (command : Verb) (name : List ℕ) (all : List (Bor (List ℕ))) (at : ℕ) (found : Option (List ℕ))
-    (h : value_of command name (texts all) ≡ value_behind command name found (texts (drop at all))) where
-  pub at_end : length all ≤ at + 1 → value_of command name (texts all) ≡ Ok found
+    (h : option_value command name (texts all) ≡ value_behind command name found (texts (drop at all))) where
+  pub at_end : length all ≤ at + 1 → option_value command name (texts all) ≡ Ok found
   at_end past = h ∙ ending command name found (drop at all) (omega (arith, length-drop at all, past))
 
   module _ (within : at + 1 < length all) (d e : Bor (List ℕ)) where
@@ -51,14 +51,14 @@ module _ (command : Verb) (name : List ℕ) (all : List (Bor (List ℕ))) (at : 
     later now = ap (λ (i : ℕ). value_behind command name now (texts (drop i all))) (omega arith)
 
     pub at_taken : (now : Option (List ℕ)) → taken_value command name found (get_or all at d).now (get_or all (at + 1) e).now ≡ Ok now
-        → value_of command name (texts all) ≡ value_behind command name now (texts (drop (at + 2) all))
+        → option_value command name (texts all) ≡ value_behind command name now (texts (drop (at + 2) all))
     at_taken now made =
         step_taken command name all (drop at all) found h (get_or all at d) (drop (at + 1) all) (drop_more all at d (omega (arith, within)))
         (get_or all (at + 1) e) (drop (at + 1 + 1) all) (drop_more all (at + 1) e within) now made
         ∙ later now
 
     pub at_refused : (line : List ℕ) → taken_value command name found (get_or all at d).now (get_or all (at + 1) e).now ≡ Err line
-        → value_of command name (texts all) ≡ Err line
+        → option_value command name (texts all) ≡ Err line
     at_refused line made =
         step_refused command name all (drop at all) found h (get_or all at d) (drop (at + 1) all) (drop_more all at d (omega (arith, within)))
         (get_or all (at + 1) e) (drop (at + 1 + 1) all) (drop_more all (at + 1) e within) line made

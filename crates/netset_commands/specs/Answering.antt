@@ -31,8 +31,8 @@ use Rattle.netset_commands.specs.declared.errors.CommandError.TheVariants as err
 use Rattle.std.specs.Borrow.{Bor}
 use Rattle.cidr_lists.specs.declared.lists.Lists.{Lists}
 use Rattle.cidr_lists.specs.declared.sets.Sets.{Sets}
-use Rattle.netset_commands.specs.declared.input.begun.Given.{Given}
-use Rattle.netset_commands.specs.declared.input.begun.Given.TheVariants.{Lines, Stored}
+use Rattle.netset_commands.specs.declared.input.begun.FileContent.{FileContent}
+use Rattle.netset_commands.specs.declared.input.begun.FileContent.TheVariants.{Lines, Stored}
 use Rattle.netset_commands.specs.declared.input.several.Several.{Several}
 
 -- why the file of this name is not read
@@ -61,7 +61,7 @@ ReadsFile contents name (Err e) = IsFileError contents name e
 
 -- what a file has in the place of a list: lines, by the addresses that they say, or the bytes of a file of look-ups; or why it is
 -- not read
-abbrev pub GivesList : Option Text → List ℕ → Result (Given Sets) CommandError → Type 0
+abbrev pub GivesList : Option Text → List ℕ → Result (FileContent Sets) CommandError → Type 0
 GivesList contents name (Ok (Lines sets)) = ReadsFile contents name (Ok sets)
 GivesList contents name (Ok (Stored bytes)) = AreFileBytes contents bytes.items
 GivesList contents name (Err e) = IsNotGiven (IsFileError contents name) contents name e

@@ -24,7 +24,7 @@ use Rattle.netset_commands.specs.Free.{Extent, First, Count, All}
 use Rattle.netset_commands.specs.Matching.{has, is_word}
 use Rattle.netset_commands.specs.Picking.{Choice, FirstField, FieldOf}
 use Rattle.netset_commands.specs.Single.{Show, Nth}
-use Rattle.netset_commands.specs.Table.{commands, name_of, row_of, takes_value}
+use Rattle.netset_commands.specs.Table.{commands, name_of, command_row, takes_value}
 use Rattle.netset_commands.specs.declared.commands.Reading.{Reading}
 use Rattle.netset_commands.specs.declared.commands.arguments.Next.{Next}
 use Rattle.netset_commands.specs.declared.commands.arguments.Next.TheVariants.{Any, Value, Operand}
@@ -101,7 +101,7 @@ short_option letter = 45 ∷ letter ∷ []
 
 -- the command has the option
 abbrev pub takes : Verb → List ℕ → Bool
-takes command option = has option (row_of command).options
+takes command option = has option (command_row command).options
 
 -- = parts a long option from its value
 abbrev pub is_equals : ℕ → Bool
@@ -176,7 +176,7 @@ line_parts [] = Err (misuse_text (codes "COMMAND") Unnamed [])
 line_parts (word ∷ words) = and_then (named_verb word) (λ command. and_then (parts_from command words Any) (λ parts. Ok (command, parts)))
 
 -- ---- the request
--- the operand at a place, from 0 on, or what stands for it
+-- the operand at an index, counted from 0, or what stands for it
 abbrev pub operand_or : List (List ℕ) → ℕ → List ℕ → List ℕ
 operand_or operands place otherwise = unwrap_or (slice_get operands place) otherwise
 
@@ -196,8 +196,8 @@ value_behind command name found (option ∷ value ∷ rest) =
 value_behind command name found words = Ok found
 
 -- the value of an option, if it is given; it may be given once
-abbrev pub value_of : Verb → List ℕ → List (List ℕ) → Result (Option (List ℕ)) (List ℕ)
-value_of command name values = value_behind command name None values
+abbrev pub option_value : Verb → List ℕ → List (List ℕ) → Result (Option (List ℕ)) (List ℕ)
+option_value command name values = value_behind command name None values
 
 -- the format of a name
 abbrev pub named_format : Verb → List ℕ → Result Format (List ℕ)
@@ -227,9 +227,9 @@ chosen_style command None prefix suffix = some_style command format.Plain prefix
 chosen_style command (Some name) prefix suffix = and_then (named_format command name) (λ format. some_style command format prefix suffix)
 
 abbrev pub style_in_values : Verb → List (List ℕ) → Result (Option Style) (List ℕ)
-style_in_values command values = and_then (value_of command (codes "--format") values)
-    (λ name. and_then (value_of command (codes "--prefix") values)
-    (λ prefix. and_then (value_of command (codes "--suffix") values) (λ suffix. chosen_style command name prefix suffix)))
+style_in_values command values = and_then (option_value command (codes "--format") values)
+    (λ name. and_then (option_value command (codes "--prefix") values)
+    (λ prefix. and_then (option_value command (codes "--suffix") values) (λ suffix. chosen_style command name prefix suffix)))
 
 -- how lines are written: as text, unless the option says otherwise
 abbrev pub named_line_format : Verb → List ℕ → Result LineFormat (List ℕ)
@@ -242,7 +242,7 @@ chosen_line_format command None = Ok by_line.Plain
 chosen_line_format command (Some name) = named_line_format command name
 
 abbrev pub line_format_in : Verb → List (List ℕ) → Result LineFormat (List ℕ)
-line_format_in command values = and_then (value_of command (codes "--format") values) (λ name. chosen_line_format command name)
+line_format_in command values = and_then (option_value command (codes "--format") values) (λ name. chosen_line_format command name)
 
 -- an operation on lists; not may be inside a network
 abbrev pub made_request : Operation → Option (List ℕ) → Option Style → List (List ℕ) → Request
@@ -251,7 +251,7 @@ made_request operation None (Some style) files = Styled style operation files
 made_request operation (Some net) style files = NotIn style net files
 
 abbrev pub lists_request : Operation → List (List ℕ) → List (List ℕ) → Result Request (List ℕ)
-lists_request operation values files = and_then (value_of (verb.Lists operation) (codes "--in") values)
+lists_request operation values files = and_then (option_value (verb.Lists operation) (codes "--in") values)
     (λ net. and_then (style_in_values (verb.Lists operation) values) (λ style. Ok (made_request operation net style files)))
 
 -- how many networks free is to tell: by the value of --count, or by --all, or the first
@@ -262,7 +262,7 @@ extent_by false (Some count) = Ok (Count count)
 extent_by true (Some count) = Err (misuse_text (codes "--all") Extra (codes "free"))
 
 abbrev pub extent_in : Parts → Result Extent (List ℕ)
-extent_in parts = and_then (value_of verb.Free (codes "--count") parts.values) (λ count. extent_by (has (codes "--all") parts.options) count)
+extent_in parts = and_then (option_value verb.Free (codes "--count") parts.values) (λ count. extent_by (has (codes "--all") parts.options) count)
 
 abbrev pub free_request : Parts → Result Request (List ℕ)
 free_request parts = and_then (extent_in parts) (λ extent. and_then (style_in_values verb.Free parts.values)
@@ -282,7 +282,7 @@ not_given command option why None = Ok tt
 not_given command option why (Some value) = Err (misuse_text option why (name_of command))
 
 abbrev pub without_value : Verb → List ℕ → Misfit → List (List ℕ) → Result (Unit {0}) (List ℕ)
-without_value command option why values = and_then (value_of command option values) (λ found. not_given command option why found)
+without_value command option why values = and_then (option_value command option values) (λ found. not_given command option why found)
 
 -- of an access list which addresses are permitted, in a style
 abbrev pub permitted_in : List (List ℕ) → Result Question (List ℕ)
@@ -307,7 +307,7 @@ question_by false (Some old) values = compared_in old values
 question_by true (Some old) values = Err (misuse_text (codes "--shadowed") Extra (codes "acl"))
 
 abbrev pub acl_request : Parts → Result Request (List ℕ)
-acl_request parts = and_then (value_of verb.Acl (codes "--diff") parts.values) (λ old. and_then (question_by (has (codes "--shadowed") parts.options) old parts.values)
+acl_request parts = and_then (option_value verb.Acl (codes "--diff") parts.values) (λ old. and_then (question_by (has (codes "--shadowed") parts.options) old parts.values)
     (λ asked. Ok (Acl asked (operand_or parts.operands 0 []))))
 
 -- the command help, of a command or of all
@@ -328,7 +328,7 @@ choice_by command (Some number) false separator = Ok (FieldOf number separator)
 choice_by command (Some number) true separator = Err (misuse_text (codes "--field") Anywhere (name_of command))
 
 abbrev pub choice_in : Verb → Parts → Result Choice (List ℕ)
-choice_in command parts = and_then (value_of command (codes "--field") parts.values) (λ number. and_then (value_of command (codes "--separator") parts.values)
+choice_in command parts = and_then (option_value command (codes "--field") parts.values) (λ number. and_then (option_value command (codes "--separator") parts.values)
     (λ separator. choice_by command number (has (codes "--any") parts.options) separator))
 
 abbrev pub match_request : Parts → Result Request (List ℕ)
@@ -347,7 +347,7 @@ separator_by command None = Ok WhiteSpace
 separator_by command (Some (byte ∷ [])) = Ok (Byte byte)
 separator_by command (Some text) = Err (misuse_text text NotOneByte (name_of command))
 
--- the place of a field, from 0 on, by its number, from 1 on
+-- the index of a field, counted from 0, by its number, from 1 on
 abbrev pub numbered : List ℕ → Option ℕ
 numbered digits = if list_all (λ c. nat_lt (digit_value c) 10) digits && nat_lt 0 (digits_value 10 digits) && nat_lt (digits_value 10 digits) (2 ^ 64)
     then Some (digits_value 10 digits - 1) else None
@@ -377,9 +377,9 @@ layout_by command (Some name) (Some separator) numbers = Err (misuse_text (codes
 layout_by command (Some name) None (Some numbers) = Err (misuse_text (codes "--table-fields") WithForm (name_of command))
 
 abbrev pub layout_in : Verb → List (List ℕ) → Result RowLayout (List ℕ)
-layout_in command values = and_then (value_of command (codes "--form") values)
-    (λ name. and_then (value_of command (codes "--table-separator") values)
-    (λ separator. and_then (value_of command (codes "--table-fields") values) (λ numbers. layout_by command name separator numbers)))
+layout_in command values = and_then (option_value command (codes "--form") values)
+    (λ name. and_then (option_value command (codes "--table-separator") values)
+    (λ separator. and_then (option_value command (codes "--table-fields") values) (λ numbers. layout_by command name separator numbers)))
 
 -- how they are read, whose values are told in the format that is asked for
 abbrev pub form_in : Verb → List (List ℕ) → Result RowForm (List ℕ)
@@ -435,10 +435,10 @@ verb_request verb.Version parts = Ok Version
 
 -- the first operand that is missing, by its name on the page, and the first one too many
 abbrev pub missing_operand : Verb → List (List ℕ) → Option (List ℕ)
-missing_operand command operands = slice_get (row_of command).needed (length operands)
+missing_operand command operands = slice_get (command_row command).needed (length operands)
 
 abbrev pub extra_operand : Verb → List (List ℕ) → Option (List ℕ)
-extra_operand command operands = option_and_then (λ (most : ℕ). slice_get operands most) (row_of command).most
+extra_operand command operands = option_and_then (λ (most : ℕ). slice_get operands most) (command_row command).most
 
 -- a command, where this operand is missing or too many
 abbrev pub counted_request : Verb → Parts → Option (List ℕ) → Option (List ℕ) → Result Request (List ℕ)
@@ -464,7 +464,7 @@ target_by command false true None = Ok None
 
 -- the same of these options; a page is written to standard output
 abbrev pub target_in : Verb → Parts → Result (Option (List ℕ)) (List ℕ)
-target_in command parts = if asks_help parts.options then Ok None else and_then (value_of command (codes "-o") parts.values)
+target_in command parts = if asks_help parts.options then Ok None else and_then (option_value command (codes "-o") parts.values)
     (λ target. target_by command (has (codes "-k") parts.options) (has (codes "--skip-bad") parts.options) target)
 
 -- the form of lists, by the value of --form: networks, read as other options say, which go with no other form
@@ -484,7 +484,7 @@ reads_tables command = takes_value command (codes "--table-separator")
 
 abbrev pub list_form_in : Verb → Parts → Result ListForm (List ℕ)
 list_form_in command parts = if asks_help parts.options || reads_tables command then Ok (Networks (bits_of parts.options))
-    else and_then (value_of command (codes "--form") parts.values) (λ name. list_form_by command parts.options name)
+    else and_then (option_value command (codes "--form") parts.values) (λ name. list_form_by command parts.options name)
 
 -- how they are read
 abbrev pub reading_in : Verb → Parts → Result Reading (List ℕ)

@@ -5,8 +5,8 @@ use Rattle.netset_commands.specs.declared.errors.CommandError.{CommandError}
 use Rattle.netset_commands.specs.declared.errors.CommandError.TheVariants as error
 use Rattle.netset_commands.specs.declared.errors.Unsaved.{Unsaved}
 use Rattle.netset_commands.specs.declared.errors.Reason.{Reason}
-use Rattle.netset_commands.specs.declared.errors.ReadError.{ReadError}
-use Rattle.netset_commands.specs.declared.errors.ReadError.TheVariants.{Line, Input, NoMemory}
+use Rattle.netset_commands.specs.declared.errors.ListReadError.{ListReadError}
+use Rattle.netset_commands.specs.declared.errors.ListReadError.TheVariants.{Line, Input, NoMemory}
 use Rattle.netset_commands.specs.declared.commands.look.LookError.{LookError}
 use Rattle.netset_commands.specs.declared.commands.look.LookError.TheVariants.{Reading, Output}
 
@@ -41,7 +41,7 @@ Cause Fails refused e = Unit {0}
 
 -- ---- what private functions promise
 -- the same where one text is read
-abbrev pub ReadCause : Type 0 → Bool → ReadError → Type 0
+abbrev pub ReadCause : Type 0 → Bool → ListReadError → Type 0
 ReadCause Fails refused (Line number e) = Unit {0}
 ReadCause Fails refused Input = Fails
 ReadCause Fails refused NoMemory = refused ≡ true

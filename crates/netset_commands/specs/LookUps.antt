@@ -23,21 +23,21 @@ use Rattle.netset_commands.specs.declared.errors.CommandError.{CommandError}
 use Rattle.netset_commands.specs.declared.errors.CommandError.TheVariants as error
 use Rattle.cidr_lists.specs.declared.errors.LineError.{LineError}
 use Rattle.cidr_lists.specs.declared.records.ListForm.{ListForm}
-use Rattle.netset_commands.specs.declared.errors.ReadError.{ReadError}
+use Rattle.netset_commands.specs.declared.errors.ListReadError.{ListReadError}
 use Rattle.netset_commands.specs.declared.errors.Reason.TheVariants.{Unknown}
-use Rattle.netset_commands.specs.declared.errors.ReadError.TheVariants.{Line, Input, NoMemory}
-use Rattle.netset_commands.specs.declared.input.begun.Given.{Given}
+use Rattle.netset_commands.specs.declared.errors.ListReadError.TheVariants.{Line, Input, NoMemory}
+use Rattle.netset_commands.specs.declared.input.begun.FileContent.{FileContent}
 use Rattle.netset_commands.specs.declared.input.table.Answer.{Answer}
-use Rattle.netset_commands.specs.declared.input.begun.Given.TheVariants.{Lines, Stored}
+use Rattle.netset_commands.specs.declared.input.begun.FileContent.TheVariants.{Lines, Stored}
 use Rattle.netset_commands.specs.declared.commands.look.LookError.{LookError}
 use Rattle.netset_commands.specs.declared.commands.look.LookError.TheVariants.{Reading, Output}
-use Rattle.cidr_lists.specs.declared.rows.Rows.{Rows}
+use Rattle.cidr_lists.specs.declared.rows.RowList.{RowList}
 use Rattle.cidr_lists.specs.declared.rows.Span.{Span}
 use Rattle.netset_commands.specs.declared.input.tables.SearchedTable.{SearchedTable}
-use Rattle.netset_commands.specs.declared.input.tables.Table.{Table}
+use Rattle.netset_commands.specs.declared.input.tables.PlainTable.{PlainTable}
 
 -- the row of a line, if it says one
-abbrev pub Adds : Rows → Rows → Option (IpCidr × List ℕ) → Type 0
+abbrev pub Adds : RowList → RowList → Option (IpCidr × List ℕ) → Type 0
 Adds old new None = new ≡ old
 Adds old new (Some (network, value)) = Pushes old new network value
 
@@ -60,18 +60,18 @@ pub record AreBeforeError {S : Type 0} (Says : List ℕ → S → Type 0) (IsBad
   pub fault : IsBad line e
 
 -- the error is that of this line, or the line is not known to have one
-abbrev pub IsErrorAt : (List ℕ → LineError → Type 0) → List ℕ → ℕ → ReadError → Type 0
+abbrev pub IsErrorAt : (List ℕ → LineError → Type 0) → List ℕ → ℕ → ListReadError → Type 0
 IsErrorAt IsBad line number (Line n e) = (n ≡ number) × IsBad line e
 IsErrorAt IsBad line number Input = ⊥
 IsErrorAt IsBad line number NoMemory = Unit {0}
 
 -- the row that a line says, if it says one, comes behind those before
-abbrev pub AddsRow : RowForm → ListForm → List ℕ → ℕ → Rows → Rows → Result (Unit {0}) ReadError → Type 0
+abbrev pub AddsRow : RowForm → ListForm → List ℕ → ℕ → RowList → RowList → Result (Unit {0}) ListReadError → Type 0
 AddsRow form bits line number old new (Ok _) = (said : Option (IpCidr × List ℕ)) × RowSays form (bits_in bits) line said × Adds old new said
 AddsRow form bits line number old new (Err e) = IsErrorAt (IsBadRow form (bits_in bits)) line number e
 
 -- the rows that a text says, or its first line in error, or nothing of the text where reading has stopped
-abbrev pub ReadsRows : RowForm → Text → Result Rows ReadError → Type 0
+abbrev pub ReadsRows : RowForm → Text → Result RowList ListReadError → Type 0
 ReadsRows form text (Ok rows) = (said : List (Option (IpCidr × List ℕ)))
     × AllZip (RowSays form (bits_in text.form)) (lines_of text.bytes) said × Stores rows said
 ReadsRows form text (Err (Line number e)) = (said : List (Option (IpCidr × List ℕ)))
@@ -80,30 +80,30 @@ ReadsRows form text (Err Input) = Unit {0}
 ReadsRows form text (Err NoMemory) = Unit {0}
 
 -- the rows of a file, or why it is not read
-abbrev pub ReadsFileRows : RowForm → Option Text → List ℕ → Result Rows CommandError → Type 0
+abbrev pub ReadsFileRows : RowForm → Option Text → List ℕ → Result RowList CommandError → Type 0
 ReadsFileRows form contents name (Ok rows) = (text : Text) → contents ≡ Some text → ReadsRows form text (Ok rows)
 ReadsFileRows form contents name (Err e) = IsUnreadTable form contents name e
 
 -- the table of a file, or why it is not read
-abbrev pub ReadsTable : RowForm → Option Text → List ℕ → Result Table CommandError → Type 0
+abbrev pub ReadsTable : RowForm → Option Text → List ℕ → Result PlainTable CommandError → Type 0
 ReadsTable form contents name (Ok table) = (text : Text) → contents ≡ Some text → IsTable form text (kept table)
 ReadsTable form contents name (Err e) = IsUnreadTable form contents name e
 
 -- what a file has in the place of a table: lines, by the rows that they say, or the bytes of a file of look-ups; or why it is
 -- not read
-abbrev pub GivesRows : RowForm → Option Text → List ℕ → Result (Given Rows) CommandError → Type 0
+abbrev pub GivesRows : RowForm → Option Text → List ℕ → Result (FileContent RowList) CommandError → Type 0
 GivesRows form contents name (Ok (Lines rows)) = ReadsFileRows form contents name (Ok rows)
 GivesRows form contents name (Ok (Stored bytes)) = AreFileBytes contents bytes.items
 GivesRows form contents name (Err e) = IsNoTable form contents name e
 
 -- the same with the table of these rows
-abbrev pub GivesTable : RowForm → Option Text → List ℕ → Result (Given SearchedTable) CommandError → Type 0
+abbrev pub GivesTable : RowForm → Option Text → List ℕ → Result (FileContent SearchedTable) CommandError → Type 0
 GivesTable form contents name (Ok (Lines table)) = (text : Text) → contents ≡ Some text → IsTable form text (searched table)
 GivesTable form contents name (Ok (Stored bytes)) = AreFileBytes contents bytes.items
 GivesTable form contents name (Err e) = IsNoTable form contents name e
 
 -- an error of reading a file
-abbrev pub unread : Bor (List ℕ) → ReadError → CommandError
+abbrev pub unread : Bor (List ℕ) → ListReadError → CommandError
 unread file (Line number e) = error.Line file number e
 unread file Input = error.Input file Unknown
 unread file NoMemory = error.NoMemory
@@ -158,19 +158,19 @@ pub record AreReadBefore {S : Type 0} (Says : List ℕ → S → Type 0) (text :
   pub fine : AllZip Says before said
 
 -- why a text is not read further behind the lines that have these
-abbrev pub EndsAsking : Asked → List ℕ → List (Option IpAddr) → ReadError → Type 0
+abbrev pub EndsAsking : Asked → List ℕ → List (Option IpAddr) → ListReadError → Type 0
 EndsAsking place text asked (Line number e) = AreBeforeError (LineAsks place) (IsBadAsked place) text asked (length asked + 1) e
 EndsAsking place text asked Input = AreFirstSaid (LineAsks place) text asked
 EndsAsking place text asked NoMemory = AreFirstSaid (LineAsks place) text asked
 
 -- the line in error is the one behind these, the first of which has this number
-abbrev pub IsErrorBehind : ℕ → List (Option IpAddr) → ReadError → Type 0
+abbrev pub IsErrorBehind : ℕ → List (Option IpAddr) → ListReadError → Type 0
 IsErrorBehind first asked (Line number e) = number ≡ first + length asked
 IsErrorBehind first asked Input = Unit {0}
 IsErrorBehind first asked NoMemory = Unit {0}
 
 -- lines from the one of a number on have these addresses, up to the line of another number, to the end, or to an error
-abbrev pub AsksLines : Asked → ℕ → Option (List ℕ) → Option (List ℕ) → List (Option IpAddr) → Result (Option ℕ) ReadError → Type 0
+abbrev pub AsksLines : Asked → ℕ → Option (List ℕ) → Option (List ℕ) → List (Option IpAddr) → Result (Option ℕ) ListReadError → Type 0
 AsksLines place first old new asked (Ok (Some number)) =
     (number ≡ first + length asked) × IfSome old (λ text. AreReadBefore (LineAsks place) text new asked)
 AsksLines place first old new asked (Ok None) = IfSome old (λ text. AllZip (LineAsks place) (lines_of text) asked)
@@ -209,7 +209,7 @@ LooksEach table asked old new block rest (Err e) = (first : List (Option IpAddr)
     × (looks : List (Option LookUp)) × AllZip (AskLooks table) first looks × Part old new (block ++ flat_map look_line looks)
 
 -- why no more lines are read
-abbrev pub EndsReading : Asked → (Family → List (List Bool × List ℕ)) → List ℕ → List (Option LookUp) → ReadError → Type 0
+abbrev pub EndsReading : Asked → (Family → List (List Bool × List ℕ)) → List ℕ → List (Option LookUp) → ListReadError → Type 0
 EndsReading place table text looks (Line number e) = AreBeforeError (LineLooks place table) (IsBadAsked place) text looks number e
 EndsReading place table text looks Input = AreFirstSaid (LineLooks place table) text looks
 EndsReading place table text looks NoMemory = AreFirstSaid (LineLooks place table) text looks

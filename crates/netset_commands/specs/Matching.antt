@@ -1,5 +1,5 @@
 -- The lines of a file of which a field lies in a list, or that have an address of it.
-use Rattle.std.specs.Prelude.{◌≡◌, ◌≢◌, ◌⊎◌, ℕ, Bool, true, false, if◌then◌else◌, List, [], ◌∷◌, ◌++◌, length, codes, decimal, Option, Some, None, Result, Ok, Err, ◌+◌}
+use Rattle.std.specs.Prelude.{◌≡◌, ◌≢◌, ◌⊎◌, ℕ, ◌≤◌, Bool, true, false, if◌then◌else◌, List, [], ◌∷◌, ◌++◌, length, codes, decimal, Option, Some, None, Result, Ok, Err, ◌+◌}
 use Rattle.std.specs.Bool.{Decides}
 use Rattle.std.specs.List.{AllByRecursion, flat_map, items_where_true, list_any}
 use Rattle.std.specs.Str.{bytes_eq}
@@ -93,6 +93,15 @@ all_written label written.Nothing picked = []
 abbrev pub IsEnough : Written → List (List ℕ) → Verdict → Type 0
 IsEnough what left verdict = (left ≡ []) ⊎ ((what ≡ written.Nothing) × (verdict ≡ Yes))
 
+-- with -q nothing was picked of these lines
+abbrev pub NeedsMore : Written → List (List ℕ) → Type 0
+NeedsMore what picked = what ≡ written.Nothing → picked ≡ []
+
+-- and the first line that is picked is the last one that is read
+abbrev pub StopsAtPicked : Bool → (List ℕ → Result Bool LineError → Type 0) → Written → List (List ℕ) → Type 0
+StopsAtPicked headed PicksLine what read = (before last : List (List ℕ)) × (read ≡ before ++ last) × (length last ≤ 1)
+    × (picked : List (List ℕ) × List (List ℕ)) × ArePicked headed PicksLine before picked × NeedsMore what picked.1
+
 -- yes if a line was picked
 abbrev pub ArePickedBy : List (List ℕ) → Verdict → Type 0
 ArePickedBy picked Yes = picked ≢ []
@@ -108,13 +117,13 @@ IsFirstLong lines (Some n) = (before : List (List ℕ)) × (line : List ℕ) × 
 abbrev pub IsMatch : Bool → (List ℕ → Result Bool LineError → Type 0) → List ℕ → Written → List ℕ → Option ℕ → List ℕ → Verdict → Type 0
 IsMatch headed PicksLine label what text long answer verdict = (read left : List (List ℕ)) × (picked : List (List ℕ) × List (List ℕ))
     × ReadTo (ArePicked headed PicksLine) (lines_in text) read left picked × IsFirstLong read long
-    × IsEnough what left verdict × (answer ≡ all_written label what picked) × ArePickedBy picked.1 verdict
+    × IsEnough what left verdict × (answer ≡ all_written label what picked) × ArePickedBy picked.1 verdict × StopsAtPicked headed PicksLine what read
 
 -- the text was not read to its end, for this reason, and this belongs to the lines that were picked
 abbrev pub IsCutAt : Bool → (List ℕ → Result Bool LineError → Type 0) → List ℕ → Written → List ℕ → List ℕ → CommandError → Type 0
 IsCutAt headed PicksLine label what text answer e = (picked : List (List ℕ) × List (List ℕ))
     × IsCutBehind (ArePicked headed PicksLine) (IsBadBehind headed (IsErrorBy PicksLine)) (lines_in text) picked e
-    × (answer ≡ flat_map (line_written label what) picked.0)
+    × (answer ≡ flat_map (line_written label what) picked.0) × NeedsMore what picked.1
 
 -- the error is that this line is too long, or that the output has failed
 abbrev pub IsLongOrLost : ℕ → CommandError → Type 0
@@ -150,10 +159,10 @@ abbrev pub IsMatchOfEach : (List ℕ → Option Text) → Bool → (List ℕ →
 IsMatchOfEach contents headed PicksLine what files answer verdict = (read left : List (List ℕ))
     × (files ≡ read ++ left) × AreMatched contents headed PicksLine what read answer verdict × IsEnough what left verdict
 
--- behind these files one was not read to its end, for this reason, or has lines that are too long, or the output failed at
--- what is written of it; and this belongs to all of them
+-- behind these files, in which -q has found no line, one was not read to its end, for this reason, or has lines that are too long,
+-- or the output failed at what is written of it; and this belongs to all of them
 abbrev pub IsEndedIn : (List ℕ → Option Text) → Bool → (List ℕ → Result Bool LineError → Type 0) → Written → List (List ℕ) → List ℕ → List ℕ → CommandError → Type 0
 IsEndedIn contents headed PicksLine what before file answer e = (first rest : List ℕ) × (verdict : Verdict)
-    × AreMatched contents headed PicksLine what before first verdict × (answer ≡ first ++ rest)
+    × AreMatched contents headed PicksLine what before first verdict × (answer ≡ first ++ rest) × (what ≡ written.Nothing → verdict ≡ No)
     × ((text : Text) → contents file ≡ Some text → IsEndedBy headed PicksLine (file_label file) what text.bytes rest e
     ⊎ ((one : Verdict) × IsMatch headed PicksLine (file_label file) what text.bytes None rest one × (e ≡ error.Output)))

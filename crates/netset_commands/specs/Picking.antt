@@ -19,7 +19,7 @@ abbrev pub IsSeparator : Option (List ℕ) → Separator → Type 0
 IsSeparator None separator = separator ≡ WhiteSpace
 IsSeparator (Some text) separator = (byte : ℕ) × (text ≡ byte ∷ []) × (separator ≡ Byte byte)
 
--- the field that is read of each line: that of a number stands at a place from 0 on
+-- the field that is read of each line: that of a number stands at an index, counted from 0
 abbrev pub IsChosen : Choice → Column → Type 0
 IsChosen FirstField column = (column.place ≡ 0) × (column.separator ≡ WhiteSpace)
 IsChosen (FieldOf number separator) column = (IsNumber number (column.place + 1) × (column.place + 1 < 2 ^ 64)) × IsSeparator separator column.separator
@@ -29,7 +29,7 @@ abbrev pub IsAsked : Choice → Bool → Asked → Type 0
 IsAsked FirstField any asked = asked ≡ (if any then Anywhere else First)
 IsAsked (FieldOf number separator) any asked = (column : Column) × IsChosen (FieldOf number separator) column × (asked ≡ Field column)
 
--- the number is the one of the field at this place, from 0 on
+-- the number is the one of the field at this index, counted from 0
 abbrev pub IsFieldPlace : List ℕ → ℕ → Type 0
 IsFieldPlace number place = IsNumber number (place + 1) × (place + 1 < 2 ^ 64)
 

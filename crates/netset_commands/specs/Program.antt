@@ -91,6 +91,7 @@ IsSameFile table name e = (table ≡ name) × IsNotSaved name unsaved.Same e
 abbrev pub IsWrong : Request → CommandError → Type 0
 IsWrong (NotIn style net files) e = IsBadArgument (λ text bad. (text ≡ net) × IsNoNetwork net bad) e
 IsWrong (Free style extent pool len used) e = IsBadArgument (IsBadFree extent len) e
+IsWrong (Split style operand len) e = IsBadArgument (IsBadLength len) e
 IsWrong (Which text files) e = IsBadArgument (IsNoAddressArgument text) e
 IsWrong (Match choice options list file) e = IsBadArgument (IsBadChoice choice) e
 IsWrong (MatchEach choice options list files) e = IsBadArgument (IsBadChoice choice) e

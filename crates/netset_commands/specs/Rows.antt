@@ -8,10 +8,10 @@ use Rattle.cidr_table.specs.model.FiniteMap.{StoredRows}
 use Rattle.netset_commands.specs.declared.input.tables.Searched.{Searched}
 use Rattle.netset_commands.specs.declared.input.tables.Searched.TheVariants.{Ready, Plain}
 use Rattle.netset_commands.specs.declared.input.tables.SearchedTable.{SearchedTable}
-use Rattle.netset_commands.specs.declared.input.tables.Table.{Table}
+use Rattle.netset_commands.specs.declared.input.tables.PlainTable.{PlainTable}
 
 -- the rows of a table, of each key one
-abbrev pub kept : Table → Family → List (List Bool × List ℕ)
+abbrev pub kept : PlainTable → Family → List (List Bool × List ℕ)
 kept table Ipv4 = map (resolved table.values.items) table.v4.rows
 kept table Ipv6 = map (resolved table.values.items) table.v6.rows
 

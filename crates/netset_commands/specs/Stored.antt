@@ -6,13 +6,13 @@ use Rattle.cidr_lookup.specs.Keys.{prefix_bits}
 use Rattle.cidr_files.specs.Faults.{IsFaultOfBytes}
 use Rattle.cidr_files.specs.Layout.{wide_words, words}
 use Rattle.cidr_files.specs.Tables.{IsStoredTable, parts_in, stored_networks, value_in}
-use Rattle.cidr_files.specs.declared.faults.Fault.{Fault}
-use Rattle.cidr_files.specs.declared.faults.Fault.TheVariants as fault
+use Rattle.cidr_files.specs.declared.faults.FileFault.{FileFault}
+use Rattle.cidr_files.specs.declared.faults.FileFault.TheVariants as fault
 use Rattle.cidr_files.specs.declared.faults.TableFault.{TableFault}
 use Rattle.cidr_files.specs.declared.faults.TableFault.TheVariants as in_table
-use Rattle.cidr_files.specs.declared.layout.Table.{Table}
-use Rattle.cidr_lookup.specs.declared.checking.Fault.{Fault as WordsFault}
-use Rattle.cidr_lookup.specs.declared.checking.Fault.TheVariants as in_words
+use Rattle.cidr_files.specs.declared.layout.FileTables.{FileTables}
+use Rattle.cidr_lookup.specs.declared.checking.WordsFault.{WordsFault}
+use Rattle.cidr_lookup.specs.declared.checking.WordsFault.TheVariants as in_words
 use Rattle.cidr_lookup.specs.declared.table.TableError.{TableError}
 use Rattle.cidr_lookup.specs.declared.table.TableError.TheVariants as keys
 use Rattle.cidr_lists.specs.declared.errors.LineError.{LineError}
@@ -43,7 +43,7 @@ table_error_of (in_table.Words f) = words_error_of f
 table_error_of in_table.Offsets = Some Changed
 
 -- the same of a file
-abbrev pub file_error_of : Fault → Option FileError
+abbrev pub file_error_of : FileFault → Option FileError
 file_error_of fault.Magic = Some Unlike
 file_error_of fault.Old = Some Old
 file_error_of (fault.Version other) = Some Version
@@ -55,7 +55,7 @@ file_error_of (fault.Ipv6 f) = table_error_of f
 -- why a file is not read that may be one of look-ups: it begins as one and has a fault; or this says why, where a line is in
 -- error only in a file that does not begin as one
 abbrev pub IsNotGiven : (CommandError → Type 0) → Option Text → List ℕ → CommandError → Type 0
-IsNotGiven IsOther contents name (error.File file why) = (file.now ≡ name) × (f : Fault) × (file_error_of f ≡ Some why)
+IsNotGiven IsOther contents name (error.File file why) = (file.now ≡ name) × (f : FileFault) × (file_error_of f ≡ Some why)
     × ((text : Text) → contents ≡ Some text → (begins_file text.bytes ≡ true) × IsFaultOfBytes text.bytes f)
 IsNotGiven IsOther contents name (error.Line file number e) = IsOther (error.Line file number e)
     × ((text : Text) → contents ≡ Some text → begins_file text.bytes ≡ false)
@@ -88,7 +88,7 @@ abbrev pub stored_rows : ℕ → (List ℕ → List ℕ) → List (List ℕ) →
 stored_rows w numbers parts = rows_from w (value_in parts) (stored_networks numbers parts) 0
 
 -- those of IPv4 and those of IPv6
-abbrev pub file_rows : Table → List (List Bool × List ℕ) × List (List Bool × List ℕ)
+abbrev pub file_rows : FileTables → List (List Bool × List ℕ) × List (List Bool × List ℕ)
 file_rows table = (stored_rows 32 words (parts_in table.ipv4), stored_rows 128 wide_words (parts_in table.ipv6))
 
 -- the same by the family
@@ -97,7 +97,7 @@ by_family rows Ipv4 = rows.0
 by_family rows Ipv6 = rows.1
 
 -- the parts of a file are tables
-pub record AreTables (table : Table) : Type 0 where
+pub record AreTables (table : FileTables) : Type 0 where
   pub ipv4 : IsStoredTable 32 4 words (parts_in table.ipv4) table.ipv4.steps
   pub ipv6 : IsStoredTable 128 0 wide_words (parts_in table.ipv6) table.ipv6.steps
 
@@ -107,7 +107,7 @@ AreFileBytes contents bytes = (text : Text) → contents ≡ Some text → (begi
 
 -- this is told of bytes that are no file of look-ups
 abbrev pub IsFaultTold : List ℕ → FileError → Type 0
-IsFaultTold bytes why = (f : Fault) × IsFaultOfBytes bytes f × (file_error_of f ≡ Some why)
+IsFaultTold bytes why = (f : FileFault) × IsFaultOfBytes bytes f × (file_error_of f ≡ Some why)
 
 -- the tables of a file of these bytes; or why it is none, or memory
 abbrev pub ChecksFile : List ℕ → List ℕ → Result (List (List Bool × List ℕ) × List (List Bool × List ℕ)) CommandError → Type 0

@@ -73,39 +73,39 @@ abbrev pub told_row : Description → List ℕ × (List (List ℕ) × List ℕ)
 told_row Zones = (codes "reverse", (codes "NET|FILE" ∷ [], REVERSE.now))
 told_row Masks = (codes "mask", (codes "NET|LEN|MASK|FILE" ∷ [], MASK.now))
 
-abbrev pub row_of : Verb → Row
-row_of (Lists op) = row (lists_row op).0 list_options (lists_row op).1.0 (lists_row op).1.1.0 None (lists_row op).1.1.1
-row_of (Describe what) = row (told_row what).0 list_options (codes "--form" ∷ output_values) (told_row what).1.0 (Some 1) (told_row what).1.1
-row_of Diff = row (codes "diff") list_options (codes "--form" ∷ codes "--format" ∷ output_values) two_lists (Some 2) DIFF.now
-row_of Same = row (codes "same") (codes "--table-header" ∷ list_options) (codes "--form" ∷ codes "--table-separator" ∷ codes "--table-fields" ∷ output_values) two_lists (Some 2) SAME.now
-row_of Free = row (codes "free") (codes "--all" ∷ list_options) (codes "--count" ∷ list_values) (codes "POOL" ∷ codes "LEN" ∷ []) None FREE.now
-row_of Acl = row (codes "acl") (codes "--shadowed" ∷ codes "--host-bits" ∷ codes "--masks" ∷ help_options) (codes "--diff" ∷ style_values) (codes "RULES" ∷ []) (Some 1) ACL.now
-row_of Check = row (codes "check") keep_options [] [] None CHECK.now
-row_of Which = row (codes "which") keep_options [] (codes "ADDR" ∷ []) None WHICH.now
-row_of Match = row (codes "match") (codes "--any" ∷ codes "--header" ∷ codes "-v" ∷ codes "-c" ∷ codes "-q" ∷ list_options) (codes "--field" ∷ codes "--separator" ∷ codes "--form" ∷ []) (codes "LIST" ∷ []) None MATCH.now
-row_of Look = row (codes "look") (codes "--any" ∷ codes "--header" ∷ codes "--keep" ∷ codes "--table-header" ∷ list_options) (codes "--field" ∷ codes "--separator" ∷ codes "--form" ∷ codes "--table-separator" ∷ codes "--table-fields" ∷ codes "--format" ∷ []) (codes "TABLE" ∷ []) (Some 2) LOOK.now
-row_of Compile = row (codes "compile") (codes "--table-header" ∷ codes "--host-bits" ∷ codes "--masks" ∷ codes "-k" ∷ help_options) (codes "--form" ∷ codes "--table-separator" ∷ codes "--table-fields" ∷ []) (codes "TABLE" ∷ codes "OUT" ∷ []) (Some 2) COMPILE.now
-row_of Smallest = row (codes "smallest") (codes "--holes" ∷ codes "--table-header" ∷ list_options) (codes "--form" ∷ codes "--table-separator" ∷ codes "--table-fields" ∷ output_values) (codes "TABLE" ∷ []) (Some 1) SMALLEST.now
-row_of Class = row (codes "class") help_options [] (codes "ADDR|FILE" ∷ []) (Some 1) CLASS.now
-row_of Show = row (codes "show") help_options [] (codes "HOST" ∷ []) (Some 1) SHOW.now
-row_of Split = row (codes "split") list_options list_values (codes "NET|FILE" ∷ codes "LEN" ∷ []) (Some 2) SPLIT.now
-row_of Nth = row (codes "nth") help_options [] (codes "NET" ∷ codes "INDEX" ∷ []) (Some 2) NTH.now
-row_of Help = row (codes "help") help_options [] [] (Some 1) HELP.now
-row_of Version = row (codes "--version") help_options [] [] (Some 0) VERSION.now
+abbrev pub command_row : Verb → Row
+command_row (Lists op) = row (lists_row op).0 list_options (lists_row op).1.0 (lists_row op).1.1.0 None (lists_row op).1.1.1
+command_row (Describe what) = row (told_row what).0 list_options (codes "--form" ∷ output_values) (told_row what).1.0 (Some 1) (told_row what).1.1
+command_row Diff = row (codes "diff") list_options (codes "--form" ∷ codes "--format" ∷ output_values) two_lists (Some 2) DIFF.now
+command_row Same = row (codes "same") (codes "--table-header" ∷ list_options) (codes "--form" ∷ codes "--table-separator" ∷ codes "--table-fields" ∷ output_values) two_lists (Some 2) SAME.now
+command_row Free = row (codes "free") (codes "--all" ∷ list_options) (codes "--count" ∷ list_values) (codes "POOL" ∷ codes "LEN" ∷ []) None FREE.now
+command_row Acl = row (codes "acl") (codes "--shadowed" ∷ codes "--host-bits" ∷ codes "--masks" ∷ help_options) (codes "--diff" ∷ style_values) (codes "RULES" ∷ []) (Some 1) ACL.now
+command_row Check = row (codes "check") keep_options [] [] None CHECK.now
+command_row Which = row (codes "which") keep_options [] (codes "ADDR" ∷ []) None WHICH.now
+command_row Match = row (codes "match") (codes "--any" ∷ codes "--header" ∷ codes "-v" ∷ codes "-c" ∷ codes "-q" ∷ list_options) (codes "--field" ∷ codes "--separator" ∷ codes "--form" ∷ []) (codes "LIST" ∷ []) None MATCH.now
+command_row Look = row (codes "look") (codes "--any" ∷ codes "--header" ∷ codes "--keep" ∷ codes "--table-header" ∷ list_options) (codes "--field" ∷ codes "--separator" ∷ codes "--form" ∷ codes "--table-separator" ∷ codes "--table-fields" ∷ codes "--format" ∷ []) (codes "TABLE" ∷ []) (Some 2) LOOK.now
+command_row Compile = row (codes "compile") (codes "--table-header" ∷ codes "--host-bits" ∷ codes "--masks" ∷ codes "-k" ∷ help_options) (codes "--form" ∷ codes "--table-separator" ∷ codes "--table-fields" ∷ []) (codes "TABLE" ∷ codes "OUT" ∷ []) (Some 2) COMPILE.now
+command_row Smallest = row (codes "smallest") (codes "--holes" ∷ codes "--table-header" ∷ list_options) (codes "--form" ∷ codes "--table-separator" ∷ codes "--table-fields" ∷ output_values) (codes "TABLE" ∷ []) (Some 1) SMALLEST.now
+command_row Class = row (codes "class") help_options [] (codes "ADDR|FILE" ∷ []) (Some 1) CLASS.now
+command_row Show = row (codes "show") help_options [] (codes "HOST" ∷ []) (Some 1) SHOW.now
+command_row Split = row (codes "split") list_options list_values (codes "NET|FILE" ∷ codes "LEN" ∷ []) (Some 2) SPLIT.now
+command_row Nth = row (codes "nth") help_options [] (codes "NET" ∷ codes "INDEX" ∷ []) (Some 2) NTH.now
+command_row Help = row (codes "help") help_options [] [] (Some 1) HELP.now
+command_row Version = row (codes "--version") help_options [] [] (Some 0) VERSION.now
 
 abbrev pub name_of : Verb → List ℕ
-name_of command = (row_of command).name
+name_of command = (command_row command).name
 
 abbrev pub about_of : Verb → List ℕ
-about_of command = (row_of command).about
+about_of command = (command_row command).about
 
 -- it has this option with a value
 abbrev pub takes_value : Verb → List ℕ → Bool
-takes_value command option = has option (row_of command).values
+takes_value command option = has option (command_row command).values
 
 -- a note on an option, if the command has the option
 abbrev pub note_of : Verb → List ℕ → List ℕ → List ℕ
-note_of command option note = if has option (row_of command).options || takes_value command option then note else []
+note_of command option note = if has option (command_row command).options || takes_value command option then note else []
 
 -- the page of a command, or of all
 abbrev pub help_text : Option Verb → List ℕ

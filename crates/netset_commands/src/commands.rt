@@ -43,7 +43,7 @@ use crate::commands::table::Verb;
 use cidr::IpCidr;
 use cidr_io::memory::Memory;
 use cidr_lists::formats::{LineFormat, Style};
-use cidr_lists::forms::{Kind, RowForm};
+use cidr_lists::forms::{ListKind, RowForm};
 use cidr_lists::lines::HostBits;
 use cidr_lists::records::ListForm;
 use std::alloc::{AllocError, Global};
@@ -312,16 +312,16 @@ impl<'a> Command<'a> {
     }
 
     /// What the lines of the lists are.
-    pub fn kind(&self) -> Kind
+    pub fn kind(&self) -> ListKind
         ensures { result ≡ kind_of (request_of self.now) }
     {
         match self {
-            Command::Check(_) | Command::Which(_, _) => Kind::Hosts,
+            Command::Check(_) | Command::Which(_, _) => ListKind::Hosts,
             Command::Look(_, form, _, _, _)
             | Command::Compile(form, _, _)
             | Command::Same(form, _, _)
-            | Command::Smallest(_, form, _) => Kind::Rows(*form),
-            _ => Kind::Networks,
+            | Command::Smallest(_, form, _) => ListKind::Rows(*form),
+            _ => ListKind::Networks,
         }
     }
 }

@@ -8,7 +8,7 @@ use std::alloc::AllocError;
 
 /// Why a list can't be read.
 #[derive(Drop)]
-pub enum ReadError {
+pub enum ListReadError {
     /// The first line in error, counted from 1.
     Line(u64, LineError),
     /// The file or the standard input can't be read.
@@ -201,27 +201,27 @@ impl From<AllocError> for CommandError<'_> {
     }
 }
 
-impl From<lines::ReadError> for ReadError {
+impl From<lines::LineReadError> for ListReadError {
     ghost use Rattle.netset_commands.specs.Reading.{read_error};
     ghost use Rattle.std.specs.Prelude.{◌≡◌};
 
     ghost from_gives = { λ e read. read ≡ read_error e };
 
-    fn from(error: lines::ReadError) -> ReadError {
+    fn from(error: lines::LineReadError) -> ListReadError {
         match error {
-            lines::ReadError::Failed => ReadError::Input,
-            lines::ReadError::NoMemory => ReadError::NoMemory,
+            lines::LineReadError::Failed => ListReadError::Input,
+            lines::LineReadError::NoMemory => ListReadError::NoMemory,
         }
     }
 }
 
-impl From<AllocError> for ReadError {
+impl From<AllocError> for ListReadError {
     ghost use Rattle.std.specs.Prelude.{◌≡◌};
-    ghost use Rattle.netset_commands.specs.declared.errors.ReadError.TheVariants.{NoMemory};
+    ghost use Rattle.netset_commands.specs.declared.errors.ListReadError.TheVariants.{NoMemory};
 
     ghost from_gives = { λ _ e. e ≡ NoMemory };
 
-    fn from(_error: AllocError) -> ReadError {
-        ReadError::NoMemory
+    fn from(_error: AllocError) -> ListReadError {
+        ListReadError::NoMemory
     }
 }

@@ -32,7 +32,7 @@ use crate::commands::matching::{match_each, matching};
 use crate::commands::operations::{Operation, form_of};
 use crate::commands::picking::column_of;
 use crate::commands::same::same;
-use crate::commands::single::{answer_single, network_of};
+use crate::commands::single::{answer_single, network_operand};
 use crate::commands::smallest::smallest;
 use crate::commands::split::split;
 use crate::commands::table::Verb;
@@ -50,7 +50,7 @@ use crate::output::held::Held;
 use crate::output::ranges::write_ranges;
 use crate::output::report::{report, report_misuse, report_not_text};
 use crate::output::sets::{write_bytes, write_counts, write_sets};
-use cidr_io::arguments::{Arguments, ReadError as Unreadable, borrowed, texts_of};
+use cidr_io::arguments::{ArgumentReadError, Arguments, borrowed, texts_of};
 use cidr_io::memory::Memory;
 use cidr_io::sink::{Output, OutputFailed, Sink};
 use cidr_io::writing::write_text;
@@ -165,7 +165,7 @@ fn wrong_argument<'a>(command: Command<'a>) -> Option<CommandError<'a>>
         (IsWrong (request_of command.entry)) }
 {
     match command {
-        Command::NotIn(_, net, _) => match network_of(net) {
+        Command::NotIn(_, net, _) => match network_operand(net) {
             Ok(_) => None,
             Err(e) => Some(e),
         },
@@ -178,6 +178,10 @@ fn wrong_argument<'a>(command: Command<'a>) -> Option<CommandError<'a>>
                 Ok(_) => None,
                 Err(e) => Some(e),
             },
+            None => Some(CommandError::Argument(len, ArgumentError::Length)),
+        },
+        Command::Split(_, _, len) => match length_of(len) {
+            Some(_) => None,
             None => Some(CommandError::Argument(len, ArgumentError::Length)),
         },
         Command::Match(choice, _, _, _)
@@ -195,7 +199,6 @@ fn wrong_argument<'a>(command: Command<'a>) -> Option<CommandError<'a>>
         | Command::Same(_, _, _)
         | Command::Acl(_, _)
         | Command::Check(_)
-        | Command::Split(_, _, _)
         | Command::Smallest(_, _, _)
         | Command::Describe(_, _)
         | Command::Class(_)
@@ -452,13 +455,13 @@ fn answer_texts<M: Memory, F: Files, D: Folder, O: Output, E: Sink>(
 }
 
 /// An argument that is not UTF-8, as it is shown, where that is why the arguments can't be read; else there was no memory.
-fn not_text(error: &Unreadable) -> Option<&str>
+fn not_text(error: &ArgumentReadError) -> Option<&str>
     ensures { MatchOption result ((words : Option (List (List ℕ))) → (refused : Bool) → AreUnread words refused error.now → refused ≡ true)
         (λ shown. (words : Option (List (List ℕ))) → (refused : Bool) → AreUnread words refused error.now → IsNotText words shown.now) }
 {
     match error {
-        Unreadable::NotText(shown) => Some(shown.as_str()),
-        Unreadable::NoMemory => None,
+        ArgumentReadError::NotText(shown) => Some(shown.as_str()),
+        ArgumentReadError::NoMemory => None,
     }
 }
 

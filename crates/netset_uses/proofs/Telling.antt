@@ -30,7 +30,7 @@ use Rattle.cidr_lists.specs.declared.formats.Format.TheVariants.{Nft}
 use Rattle.cidr_lists.specs.declared.forms.RowForm.{RowForm}
 use Rattle.cidr_lists.specs.declared.formats.LineFormat.TheVariants.{Json, Plain}
 use Rattle.cidr_lists.specs.declared.lines.HostBits.{HostBits}
-use Rattle.cidr_lists.specs.declared.forms.Kind.TheVariants.{Networks}
+use Rattle.cidr_lists.specs.declared.forms.ListKind.TheVariants.{Networks}
 use Rattle.cidr_lists.specs.declared.lines.HostBits.TheVariants.{Refused}
 use Rattle.cidr_lists.specs.declared.records.ListForm.TheVariants.{Networks as OfNetworks}
 use Rattle.netset_commands.specs.Causes.{Refusals}
@@ -337,12 +337,12 @@ is_second column ((number, small), (byte, is, by)) =
 -- all lines were read
 all_picked : (P : List ℕ → Result Bool LineError → Type 0) (text answer : List ℕ) (verdict : Verdict) → IsMatch false P [] written.Lines text None answer verdict
     → (picked : List (List ℕ) × List (List ℕ)) × ArePicked false P (lines_in text) picked × (answer ≡ flat_map line picked.0)
-all_picked P text answer verdict (read, left, picked, to, long, inl none, is, by) = (
+all_picked P text answer verdict (read, left, picked, to, long, inl none, is, by, stops) = (
   picked,
   subst (λ (k : List (List ℕ)). ArePicked false P k picked) (sym (to.lines ∙ (ap (λ (k : List (List ℕ)). read ++ k) none ∙ append-nil read))) to.are,
   is,
 )
-all_picked P text answer verdict (read, left, picked, to, long, inr (nothing, some), is, by) = cc
+all_picked P text answer verdict (read, left, picked, to, long, inr (nothing, some), is, by, stops) = cc
 
 pub match_printed : (contents : List ℕ → Option (List ℕ)) (list file : List ℕ) (run : Finished) → contents (codes "list") ≡ Some list
     → contents (codes "file") ≡ Some file → HasRun match_words contents run → run.status ≡ 0

@@ -15,7 +15,7 @@ use Rattle.cidr_lists.specs.Tables.{IsTable}
 use Rattle.cidr_lists.specs.declared.columns.Column.{Column}
 use Rattle.cidr_lists.specs.declared.columns.Separator.TheVariants.{WhiteSpace, Byte}
 use Rattle.cidr_lists.specs.declared.errors.LineError.{LineError}
-use Rattle.cidr_lists.specs.declared.forms.Kind.TheVariants.{Networks}
+use Rattle.cidr_lists.specs.declared.forms.ListKind.TheVariants.{Networks}
 use Rattle.cidr_lists.specs.declared.forms.RowForm.{RowForm}
 use Rattle.cidr_lists.specs.declared.forms.RowLayout.TheVariants.{Fields, Columns}
 use Rattle.cidr_lists.specs.declared.formats.LineFormat.{LineFormat}

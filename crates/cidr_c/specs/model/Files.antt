@@ -8,8 +8,8 @@ use Rattle.cidr_lookup.specs.Keys.{prefix_bits}
 use Rattle.cidr_files.specs.Faults.{IsFaultOfBytes}
 use Rattle.cidr_files.specs.Layout.{IsLaidOut, header, ipv4_counts, ipv4_parts, ipv4_sizes, ipv6_counts, ipv6_parts, padded, padded_room, sizes_of, wide_words, words}
 use Rattle.cidr_files.specs.Tables.{IsFile, IsStoredTable, stored_networks, value_in}
-use Rattle.cidr_files.specs.declared.faults.Fault.{Fault}
-use Rattle.cidr_files.specs.declared.faults.Fault.TheVariants.{Magic, Old, Version, Short, Long, Ipv4, Ipv6}
+use Rattle.cidr_files.specs.declared.faults.FileFault.{FileFault}
+use Rattle.cidr_files.specs.declared.faults.FileFault.TheVariants.{Magic, Old, Version, Short, Long, Ipv4, Ipv6}
 use Rattle.cidr_files.specs.declared.faults.TableFault.{TableFault}
 use Rattle.cidr_files.specs.declared.faults.TableFault.TheVariants.{Words, Offsets}
 use Rattle.cidr_files.specs.declared.layout.Counts.{Counts}
@@ -59,7 +59,7 @@ table_fault_code (Words fault) = words_fault_code fault
 table_fault_code Offsets = wrong_values
 
 -- and with a file
-abbrev pub file_fault_code : Fault → ℕ
+abbrev pub file_fault_code : FileFault → ℕ
 file_fault_code Magic = no_file
 file_fault_code Old = other_version
 file_fault_code (Version other) = other_version
@@ -70,7 +70,7 @@ file_fault_code (Ipv6 fault) = table_fault_code fault
 
 -- the number of what is wrong with the bytes first
 abbrev pub IsFaultCode : List ℕ → ℕ → Type 0
-IsFaultCode bytes code = (fault : Fault) × (code ≡ file_fault_code fault) × IsFaultOfBytes bytes fault
+IsFaultCode bytes code = (fault : FileFault) × (code ≡ file_fault_code fault) × IsFaultOfBytes bytes fault
 
 -- opening: 0, and where the tables lie in bytes that are as long as their header says; or the number of what is wrong, and all
 -- is as it was

@@ -7,7 +7,7 @@ use Rattle.cidr.specs.either.IpNetwork.{network_family, network_prefix}
 use Rattle.cidr.specs.declared.addr.ip.IpAddr.{IpAddr}
 use Rattle.cidr.specs.declared.cidr.combined.IpCidr.{IpCidr}
 use Rattle.cidr.specs.declared.family.Family.{Family}
-use Rattle.cidr_lookup.specs.declared.halves.Halves.{Halves}
+use Rattle.cidr_lookup.specs.declared.halves.Ipv6Halves.{Ipv6Halves}
 use Rattle.cidr_ext.specs.model.Inside.{usable_of}
 use Rattle.cidr_ext.specs.texts.Reverse.{IsReverseName}
 use Rattle.cidr_ext.specs.model.Subnets.{IsSubnetAt, NoSubnetAt}
@@ -42,7 +42,7 @@ IsAddressSought host IsNone Holds =
     IsSought (IsHostValue host) IsNone IsAddressValue address_in (λ a. (address_family a ≡ family_in host) × Holds (plain_bits a))
 
 -- a number in two halves, or none
-abbrev pub IsNumberSought : Type 0 → Type 0 → (ℕ → Type 0) → Halves → Halves → ℕ → Type 0
+abbrev pub IsNumberSought : Type 0 → Type 0 → (ℕ → Type 0) → Ipv6Halves → Ipv6Halves → ℕ → Type 0
 IsNumberSought IsTaken IsNone Holds = IsSought IsTaken IsNone IsAnyValue ipv6_number Holds
 
 -- a number in a room of its own, or none

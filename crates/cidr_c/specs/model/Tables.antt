@@ -5,11 +5,11 @@ use Rattle.cidr_table.specs.model.Prefixes.{IsLongestMatch}
 use Rattle.cidr_lookup.specs.Faults.{IsFault}
 use Rattle.cidr_lookup.specs.Keys.{IsFirstRefused, prefix_bits}
 use Rattle.cidr_lookup.specs.Tables.{IsLookupTable, IsTableRefused}
-use Rattle.cidr_lookup.specs.declared.checking.Fault.{Fault}
-use Rattle.cidr_lookup.specs.declared.checking.Fault.TheVariants.{Keys}
+use Rattle.cidr_lookup.specs.declared.checking.WordsFault.{WordsFault}
+use Rattle.cidr_lookup.specs.declared.checking.WordsFault.TheVariants.{Keys}
 use Rattle.cidr_lookup.specs.declared.table.TableError.{TableError}
 use Rattle.cidr_lookup.specs.declared.table.TableError.TheVariants.{TooMany, Refused, TooLarge, NoMemory}
-use Rattle.cidr_lookup.specs.declared.halves.Halves.{Halves}
+use Rattle.cidr_lookup.specs.declared.halves.Ipv6Halves.{Ipv6Halves}
 use Rattle.cidr_c.specs.model.Codes.{no_memory, no_room, no_table, no_value, too_many}
 use Rattle.cidr_c.specs.model.Values.{number_in}
 use Rattle.cidr_c.specs.declared.tables.CTableSizes.{CTableSizes}
@@ -24,7 +24,7 @@ abbrev pub ipv6_pair : CValue → ℕ × ℕ
 ipv6_pair v = (number_in v, if nat_lt v.tag 64 then 255 else v.tag - 64)
 
 -- the number of two halves
-abbrev pub ipv6_number : Halves → ℕ
+abbrev pub ipv6_number : Ipv6Halves → ℕ
 ipv6_number halves = halves.high * 2 ^ 64 + halves.low
 
 -- the number of why keys have no table
@@ -35,7 +35,7 @@ table_error_code TooLarge = too_many
 table_error_code NoMemory = no_memory
 
 -- of what is wrong with words
-abbrev pub words_fault_code : Fault → ℕ
+abbrev pub words_fault_code : WordsFault → ℕ
 words_fault_code (Keys error) = table_error_code error
 words_fault_code other = no_table
 
@@ -72,7 +72,7 @@ pub record IsBuilt (w padding : ℕ) (steps_of : ℕ → ℕ) (networks : List (
 pub record IsChecked (w padding steps : ℕ) (networks : List (ℕ × ℕ)) (first words : List ℕ) (code : ℕ) : Type 0 where
   pub table : code ≡ 0 → IsLookupTable w padding steps networks first words
   pub fault : code ≢ 0 → code ≢ no_memory
-      → (fault : Fault) × (code ≡ words_fault_code fault) × IsFault w padding steps networks first words fault
+      → (fault : WordsFault) × (code ≡ words_fault_code fault) × IsFault w padding steps networks first words fault
 
 -- the row that stands for none
 abbrev pub no_row : ℕ

@@ -14,10 +14,10 @@ ghost use Rattle.cidr_sets.specs.model.Sets.{IsUnion, IsIntersection, IsDifferen
 use crate::lookup::{covers, upto};
 use crate::merging::{next_of, next_shared};
 use crate::rests::{half, skip};
-use crate::search::known;
 use crate::set::{NetworkSet, joined};
 use cidr::NetworkBits;
 use cidr_table::is_inside;
+use cidr_table::laws::keys::has_at_most_129_bits;
 use std::alloc::{AllocError, Global};
 
 impl<C: NetworkBits + Copy> NetworkSet<C> {
@@ -147,7 +147,7 @@ impl<C: NetworkBits + Copy> NetworkSet<C> {
         ensures fits { IfOk result (λ set. (w : ℕ) → AreNetworks w (map C.bits self.now)
             → length set ≤ w * length self.now + 1) }
     {
-        known(network);
+        has_at_most_129_bits(network);
         let mut rest = Vec::new(self.networks.allocator().clone()?);
         push_rest(&mut rest, network, self.as_slice())?;
         Ok(NetworkSet { networks: rest })
@@ -300,6 +300,6 @@ fn meets<C: NetworkBits + Copy>(networks: &[C], network: &C) -> bool
     requires { IsReduced 129 (map C.bits networks.now) }
     ensures { Decides result (Meets 129 (map C.bits networks.now) (C.bits network.now)) }
 {
-    known(network);
+    has_at_most_129_bits(network);
     covers(networks, network) || first_inside(networks, network).is_some()
 }

@@ -6,10 +6,10 @@ ghost use Rattle.cidr_sets.specs.model.Sets.{IsUnion, IsDifference};
 use crate::lookup::{covers, upto};
 use crate::neighbours::{inside_of, joined_with};
 use crate::replacing::{cut, put, replace};
-use crate::search::known;
 use crate::set::NetworkSet;
 use crate::set::algebra::push_rest;
 use cidr::NetworkBits;
+use cidr_table::laws::keys::has_at_most_129_bits;
 use std::alloc::AllocError;
 
 impl<C: NetworkBits + Copy> NetworkSet<C> {
@@ -32,7 +32,7 @@ impl<C: NetworkBits + Copy> NetworkSet<C> {
         ensures grows { OnErr result ((set : List (List Bool))
             → IsUnion 129 (map C.bits self.old) (C.bits network ∷ []) set → length self.old < length set) }
     {
-        known(&network);
+        has_at_most_129_bits(&network);
         if covers(self.as_slice(), &network) {
             return Ok(());
         }
@@ -57,7 +57,7 @@ impl<C: NetworkBits + Copy> NetworkSet<C> {
         ensures err { OnErr result (self.new ≡ self.old) }
         ensures apart { ¬ (Covers (map C.bits self.old) (C.bits network.now)) → IsOk result }
     {
-        known(network);
+        has_at_most_129_bits(network);
         if covers(self.as_slice(), network) {
             return split(&mut self.networks, network);
         }
@@ -75,7 +75,7 @@ fn split<C: NetworkBits + Copy>(networks: &mut Vec<C>, network: &C) -> Result<()
         (IsDifference 129 (map C.bits networks.old.items) (C.bits network.now ∷ []) (map C.bits networks.new.items)) }
     ensures err { OnErr result (networks.new.items ≡ networks.old.items) }
 {
-    known(network);
+    has_at_most_129_bits(network);
     let end = upto(networks.as_slice(), network);
     let outer = networks[end - 1];
     let alloc = networks.allocator().clone()?;

@@ -8,6 +8,7 @@ ghost use Rattle.cidr.specs.model.Bits.{bit_cmp};
 ghost use Rattle.cidr_table.specs.model.Cover.{Covers, IsLeastCover};
 ghost use Rattle.cidr_table.specs.internal.CoverStack.{AreHalvesInOrder, AreBefore, IsReduced, IsPushed};
 
+use crate::laws::keys::has_at_most_129_bits;
 use crate::search::is_inside;
 use crate::table::LpmTable;
 use cidr::{BitString, NetworkBits};
@@ -61,7 +62,7 @@ pub fn least_cover_in_place<C: NetworkBits + Copy>(networks: &mut [C]) -> usize
     let mut n = 0;
     for i in 0..networks.len() {
         let key = networks[i];
-        known(&key);
+        has_at_most_129_bits(&key);
         if !is_covered(networks, n, &key) {
             networks[n] = key;
             n = merge(networks, n + 1);
@@ -83,20 +84,13 @@ fn least_cover<C: NetworkBits + Copy, V>(rows: &[(C, V)], out: &mut [C]) -> usiz
     let mut n = 0;
     for row in rows {
         let key = &row.0;
-        known(key);
+        has_at_most_129_bits(key);
         if !is_covered(out, n, key) {
             out[n] = *key;
             n = merge(out, n + 1);
         }
     }
     n
-}
-
-/// Has no more than 129 bits, which a proof gets from the call.
-fn known<C: BitString>(key: &C)
-    ensures { length (C.bits key.now) ≤ 129 }
-{
-    key.len();
 }
 
 /// Whether one of the first `count` networks holds a key that is behind them all: if any, it is the last.

@@ -1,7 +1,7 @@
 //! The words of a command line as options and operands, and the command that they are.
 ghost use Rattle.std.specs.Prelude.{◌≡◌, ◌<◌, [], Ok, Err, Bool, true, false, length, drop, MatchOption, MatchResult, option_map, slice_get, unwrap_or};
 ghost use Rattle.std.specs.List.{after_first, before_first};
-ghost use Rattle.netset_commands.specs.Arguments.{asks_help, choice_by, choice_in, chosen_style, compile_request, extent_by, extra_operand, form_in, free_request, fresh, full_name, help_request, is_equals, is_option, is_plain, is_topic, letter_parts, line_parts, lists_request, long_parts, layout_by, layout_in, separator_by, fields_by, place_by, is_comma, list_form_in, named_list_form, look_by, look_request, made_request, match_by, match_request, missing_operand, misuse_text, may_keep, named_format, named_layout, named_verb, no_option, no_parts, operand_or, part_request, parts_from, question_by, reading_in, same_request, short_option, short_parts, smallest_request, some_style, split_request, style_in_values, style_of, taken_value, takes, target_by, target_in, topic_parts, value_of, verb_of, verb_request, word_parts, acl_request, chosen_line_format, compared_in, diff_request, line_format_in, named_line_format, not_given, permitted_in, shadowed_in, without_value};
+ghost use Rattle.netset_commands.specs.Arguments.{asks_help, choice_by, choice_in, chosen_style, compile_request, extent_by, extra_operand, form_in, free_request, fresh, full_name, help_request, is_equals, is_option, is_plain, is_topic, letter_parts, line_parts, lists_request, long_parts, layout_by, layout_in, separator_by, fields_by, place_by, is_comma, list_form_in, named_list_form, look_by, look_request, made_request, match_by, match_request, missing_operand, misuse_text, may_keep, named_format, named_layout, named_verb, no_option, no_parts, operand_or, part_request, parts_from, question_by, reading_in, same_request, short_option, short_parts, smallest_request, some_style, split_request, style_in_values, style_of, taken_value, takes, target_by, target_in, topic_parts, option_value, verb_of, verb_request, word_parts, acl_request, chosen_line_format, compared_in, diff_request, line_format_in, named_line_format, not_given, permitted_in, shadowed_in, without_value};
 ghost use Rattle.netset_commands.specs.Command.{AddsParts, IsUsageError, choice_of, extent_of, given, misuse_line, given_parts, question_of, request_of};
 ghost use Rattle.netset_commands.specs.Matching.{is_word};
 ghost use Rattle.netset_commands.specs.Table.{name_of, takes_value, texts};
@@ -342,7 +342,7 @@ pub fn line_parts<'a, M: Memory>(
     }
 }
 
-/// The operand at a place, from 0 on, or what stands for it.
+/// The operand at an index, counted from 0, or what stands for it.
 fn operand_or<'a>(operands: &[&'a str], place: usize, otherwise: &'a str) -> &'a str
     ensures { result.now ≡ operand_or (texts operands.now) place otherwise.now }
 {
@@ -400,13 +400,13 @@ fn taken_value<'a>(
 }
 
 /// The value of an option, if it is given: the error is that it is given twice.
-fn value_of<'a>(
+fn option_value<'a>(
     command: Verb,
     name: &str,
     values: &[&'a str],
 ) -> Result<Option<&'a str>, Misuse<'a>>
-    ensures { MatchResult result (λ found. value_of command name.now (texts values.now) ≡ Ok (given found))
-        (λ misuse. value_of command name.now (texts values.now) ≡ Err (misuse_line misuse)) }
+    ensures { MatchResult result (λ found. option_value command name.now (texts values.now) ≡ Ok (given found))
+        (λ misuse. option_value command name.now (texts values.now) ≡ Err (misuse_line misuse)) }
 {
     let mut found = None;
     let mut at = 0;
@@ -530,9 +530,9 @@ fn style_in_values<'a>(command: Verb, values: &[&'a str]) -> Result<Option<Style
     ensures { MatchResult result (λ style. style_in_values command (texts values.now) ≡ Ok (option_map (λ s. style_in s) style))
         (λ misuse. style_in_values command (texts values.now) ≡ Err (misuse_line misuse)) }
 {
-    let name = value_of(command, "--format", values)?;
-    let prefix = value_of(command, "--prefix", values)?;
-    let suffix = value_of(command, "--suffix", values)?;
+    let name = option_value(command, "--format", values)?;
+    let prefix = option_value(command, "--prefix", values)?;
+    let suffix = option_value(command, "--suffix", values)?;
     chosen_style(command, name, prefix, suffix)
 }
 
@@ -570,7 +570,7 @@ fn line_format_in<'a>(command: Verb, values: &[&'a str]) -> Result<LineFormat, M
     ensures { MatchResult result (λ format. line_format_in command (texts values.now) ≡ Ok format)
         (λ misuse. line_format_in command (texts values.now) ≡ Err (misuse_line misuse)) }
 {
-    let name = value_of(command, "--format", values)?;
+    let name = option_value(command, "--format", values)?;
     chosen_line_format(command, name)
 }
 
@@ -600,7 +600,7 @@ fn lists_command<'a>(
         (λ misuse. lists_request operation (texts values.now) (texts files.now) ≡ Err (misuse_line misuse)) }
 {
     let verb = Verb::Lists(operation);
-    let net = value_of(verb, "--in", values)?;
+    let net = option_value(verb, "--in", values)?;
     let style = style_in_values(verb, values)?;
     Ok(made_command(operation, net, style, files))
 }
@@ -629,7 +629,7 @@ fn free_command<'a>(parts: &'a Parts<'a>) -> Result<Command<'a>, Misuse<'a>>
 {
     let operands = parts.operands.as_slice();
     let all = has(parts.options.as_slice(), "--all");
-    let count = value_of(Verb::Free, "--count", parts.values.as_slice())?;
+    let count = option_value(Verb::Free, "--count", parts.values.as_slice())?;
     let extent = extent_by(all, count)?;
     let style = style_in_values(Verb::Free, parts.values.as_slice())?;
     Ok(Command::Free(
@@ -699,7 +699,7 @@ fn without_value<'a>(
     ensures { MatchResult result (λ done. without_value command option.now why (texts values.now) ≡ Ok done)
         (λ misuse. without_value command option.now why (texts values.now) ≡ Err (misuse_line misuse)) }
 {
-    let found = value_of(command, option, values)?;
+    let found = option_value(command, option, values)?;
     not_given(command, option, why, found)
 }
 
@@ -762,7 +762,7 @@ fn acl_command<'a>(parts: &'a Parts<'a>) -> Result<Command<'a>, Misuse<'a>>
 {
     let operands = parts.operands.as_slice();
     let shadowed = has(parts.options.as_slice(), "--shadowed");
-    let old = value_of(Verb::Acl, "--diff", parts.values.as_slice())?;
+    let old = option_value(Verb::Acl, "--diff", parts.values.as_slice())?;
     let question = question_by(shadowed, old, parts.values.as_slice())?;
     Ok(Command::Acl(question, operand_or(operands, 0, "")))
 }
@@ -814,8 +814,8 @@ fn choice_in<'a>(command: Verb, parts: &'a Parts<'a>) -> Result<Choice<'a>, Misu
         (λ misuse. choice_in command (given_parts parts.now) ≡ Err (misuse_line misuse)) }
 {
     let values = parts.values.as_slice();
-    let number = value_of(command, "--field", values)?;
-    let separator = value_of(command, "--separator", values)?;
+    let number = option_value(command, "--field", values)?;
+    let separator = option_value(command, "--separator", values)?;
     choice_by(
         command,
         number,
@@ -921,7 +921,7 @@ fn list_form_in<'a>(command: Verb, parts: &'a Parts<'a>) -> Result<ListForm, Mis
     if asks_help(options) || takes_value(command, "--table-separator") {
         return Ok(ListForm::Networks(bits_of(options)));
     }
-    match value_of(command, "--form", parts.values.as_slice())? {
+    match option_value(command, "--form", parts.values.as_slice())? {
         Some(name) => named_list_form(command, options, name),
         None => Ok(ListForm::Networks(bits_of(options))),
     }
@@ -965,7 +965,7 @@ fn split_numbers(numbers: &str) -> (&str, &str)
     }
 }
 
-/// The place, from 0 on, of the field of a number.
+/// The index, counted from 0, of the field of a number.
 fn place_by(number: &str) -> Option<u64>
     ensures { result ≡ place_by number.now }
 {
@@ -1052,9 +1052,9 @@ fn layout_in<'a>(command: Verb, values: &[&'a str]) -> Result<RowLayout, Misuse<
     ensures { MatchResult result (λ layout. layout_in command (texts values.now) ≡ Ok layout)
         (λ misuse. layout_in command (texts values.now) ≡ Err (misuse_line misuse)) }
 {
-    let name = value_of(command, "--form", values)?;
-    let separator = value_of(command, "--table-separator", values)?;
-    let numbers = value_of(command, "--table-fields", values)?;
+    let name = option_value(command, "--form", values)?;
+    let separator = option_value(command, "--table-separator", values)?;
+    let numbers = option_value(command, "--table-fields", values)?;
     layout_by(command, name, separator, numbers)
 }
 
@@ -1273,7 +1273,7 @@ pub fn target_of<'a>(command: Verb, parts: &Parts<'a>) -> Result<Option<&'a str>
     if asks_help(parts.options.as_slice()) {
         return Ok(None);
     }
-    let target = value_of(command, "-o", parts.values.as_slice())?;
+    let target = option_value(command, "-o", parts.values.as_slice())?;
     let options = parts.options.as_slice();
     target_by(
         command,

@@ -22,10 +22,10 @@ use cidr::IpCidr;
 use cidr_io::block::Block;
 use cidr_io::decimal::decimal_text;
 use cidr_io::memory::Memory;
-use cidr_io::shown::Part;
+use cidr_io::shown::MessagePart;
 use cidr_io::sink::{OutputFailed, Sink};
 use cidr_lists::entries::{Entry, entry_at};
-use cidr_lists::findings::{Finding, Kind, Note, find};
+use cidr_lists::findings::{Finding, FindingKind, Note, find};
 use cidr_lists::near::{Near, near_at, near_lines};
 
 /// The parts of the line of a finding: its place and what is found.
@@ -34,18 +34,18 @@ pub fn found_parts<'a>(
     number: &'a str,
     words: &'a str,
     text: &'a str,
-) -> [Part<'a>; 6]
+) -> [MessagePart<'a>; 6]
     ensures { flat_map part_text result ≡ shown file.now ++ (codes ":" ++ (number.now ++ (words.now ++ (text.now ++ codes "\n")))) }
 {
     let colon: &'a str = ":";
     let end: &'a str = "\n";
     [
-        Part::Shown(file),
-        Part::Plain(colon),
-        Part::Plain(number),
-        Part::Plain(words),
-        Part::Plain(text),
-        Part::Plain(end),
+        MessagePart::Shown(file),
+        MessagePart::Plain(colon),
+        MessagePart::Plain(number),
+        MessagePart::Plain(words),
+        MessagePart::Plain(text),
+        MessagePart::Plain(end),
     ]
 }
 
@@ -56,21 +56,21 @@ fn placed_parts<'a>(
     words: &'a str,
     other: &'a str,
     line: &'a str,
-) -> [Part<'a>; 8]
+) -> [MessagePart<'a>; 8]
     ensures { flat_map part_text result ≡ shown file.now ++ (codes ":" ++ (number.now
         ++ (words.now ++ (shown other.now ++ (codes ":" ++ (line.now ++ codes "\n")))))) }
 {
     let colon: &'a str = ":";
     let end: &'a str = "\n";
     [
-        Part::Shown(file),
-        Part::Plain(colon),
-        Part::Plain(number),
-        Part::Plain(words),
-        Part::Shown(other),
-        Part::Plain(colon),
-        Part::Plain(line),
-        Part::Plain(end),
+        MessagePart::Shown(file),
+        MessagePart::Plain(colon),
+        MessagePart::Plain(number),
+        MessagePart::Plain(words),
+        MessagePart::Shown(other),
+        MessagePart::Plain(colon),
+        MessagePart::Plain(line),
+        MessagePart::Plain(end),
     ]
 }
 
@@ -137,7 +137,7 @@ fn tell<S: Sink>(
     entries: &[Entry<'_>],
     near: &[Near],
     index: usize,
-    kind: Kind,
+    kind: FindingKind,
 ) -> Result<(), OutputFailed>
     requires near { AreNear (map entry_network entries.now) near.now }
     requires within { index < length entries.now }
@@ -167,11 +167,11 @@ fn tell_line<S: Sink>(
         → AreNoted entries.now (index * 5) start (S.state out.old) messages.old.block messages.old.verdict
         → NotesOn entries.now (index * 5 + 5) start (S.state out.new) messages.new.block messages.new.verdict result }
 {
-    tell(messages, out, entries, near, index, Kind::HostBits)?;
-    tell(messages, out, entries, near, index, Kind::Form)?;
-    tell(messages, out, entries, near, index, Kind::Same)?;
-    tell(messages, out, entries, near, index, Kind::Outer)?;
-    tell(messages, out, entries, near, index, Kind::Half)?;
+    tell(messages, out, entries, near, index, FindingKind::HostBits)?;
+    tell(messages, out, entries, near, index, FindingKind::Form)?;
+    tell(messages, out, entries, near, index, FindingKind::Same)?;
+    tell(messages, out, entries, near, index, FindingKind::Outer)?;
+    tell(messages, out, entries, near, index, FindingKind::Half)?;
     Ok(())
 }
 

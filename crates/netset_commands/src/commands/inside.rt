@@ -7,7 +7,7 @@ ghost use Rattle.netset_commands.specs.Program.{AnswersRequest};
 
 use crate::commands::combine::combination;
 use crate::commands::operations::Operation;
-use crate::commands::single::network_of;
+use crate::commands::single::network_operand;
 use crate::errors::CommandError;
 use crate::input::files::Sources;
 use crate::input::several::read_several;
@@ -31,7 +31,7 @@ pub fn not_in<'a, M: Memory, F: Sources, O: Sink>(
         (O.state out.old) (O.state out.new) result }
     ensures cause { IfErr result (Cause (FileFails (F.contents sources.now) (F.reasons sources.now)) (M.refused memory.new)) }
 {
-    let network = network_of(net)?;
+    let network = network_operand(net)?;
     let several = read_several(memory, sources, files)?;
     let rest = combination(Operation::Not, several);
     let rest = memory.watch(rest)?;

@@ -13,11 +13,11 @@ ghost use Rattle.netset_commands.specs.Program.{AnswersRequest};
 use crate::commands::kept::{tell_lines, write_header};
 use crate::commands::matching::{has, next_part};
 use crate::commands::picking::{Choice, asked_of};
-use crate::errors::{CommandError, ReadError, Reason};
-use crate::input::begun::Given;
+use crate::errors::{CommandError, ListReadError, Reason};
+use crate::input::begun::FileContent;
 use crate::input::files::Sources;
 use crate::input::stored::Stored;
-use crate::input::table::{Answer, LookUps, Networks, give_table, unread};
+use crate::input::table::{Answer, LookUps, RowLookUps, give_table, unread};
 use crate::output::answers::Verdict;
 use crate::output::printing::catch_up;
 use arrayvec::ArrayVec;
@@ -36,7 +36,7 @@ use cidr_lists::objects::{Telling, telling_by};
 #[derive(Drop)]
 pub enum LookError {
     /// A line is in error or can't be read.
-    Reading(ReadError),
+    Reading(ListReadError),
     /// The output has failed.
     Output,
 }
@@ -91,7 +91,7 @@ fn read_group<M: Memory, R: Source + Drop>(
     first: u64,
     reader: &mut LineReader<R>,
     asked: &mut ArrayVec<Option<IpAddr>, GROUP>,
-) -> Result<Option<u64>, ReadError>
+) -> Result<Option<u64>, ListReadError>
     requires { asked.old.items ≡ [] }
     ensures asks { AsksLines place first reader.old.left reader.new.left asked.new.items result }
     ensures onward { IfOk result (λ next. IfSome next (λ number. (number ≡ 18446744073709551615) ⊎ (first < number))) }
@@ -103,7 +103,7 @@ fn read_group<M: Memory, R: Source + Drop>(
         }
         let has_more = reader.read_line(memory)?;
         if let Err(e) = ask_line(place, reader.line(), asked) {
-            return Err(ReadError::Line(number, e));
+            return Err(ListReadError::Line(number, e));
         }
         if !has_more {
             return Ok(None);
@@ -217,7 +217,7 @@ fn look_lines<T: LookUps, M: Memory, R: Source + Drop, S: Sink>(
             Err(e) => return Err(LookError::Reading(e)),
         }
     }
-    Err(LookError::Reading(ReadError::Input))
+    Err(LookError::Reading(ListReadError::Input))
 }
 
 /// Looks up the address of each line and writes their lines in blocks, also those before a line in error; tells whether
@@ -258,7 +258,7 @@ pub fn verdict_of(found: bool) -> Verdict
 
 /// Looks up the addresses of what is left of a file in a table, and tells them: by themselves, with their lines or as
 /// objects.
-fn look_left<'a, T: Networks, M: Memory, R: Source + Drop, O: Sink>(
+fn look_left<'a, T: RowLookUps, M: Memory, R: Source + Drop, O: Sink>(
     memory: &mut M,
     table: &T,
     telling: Telling,
@@ -297,7 +297,7 @@ fn behind_header<'a>(error: CommandError<'a>) -> CommandError<'a>
 
 /// The same as `look_left` of a file whose first line is a header: its addresses are not looked up, and where lines are
 /// told it is written as it is. One that is too long is in error.
-fn look_behind<'a, T: Networks, M: Memory, R: Source + Drop, O: Sink>(
+fn look_behind<'a, T: RowLookUps, M: Memory, R: Source + Drop, O: Sink>(
     memory: &mut M,
     table: &T,
     telling: Telling,
@@ -332,7 +332,7 @@ fn look_behind<'a, T: Networks, M: Memory, R: Source + Drop, O: Sink>(
 }
 
 /// Looks up the addresses of a file in a table, and tells them. Its first line is a header or not.
-fn look_in<'a, T: Networks, M: Memory, F: Sources, O: Sink>(
+fn look_in<'a, T: RowLookUps, M: Memory, F: Sources, O: Sink>(
     memory: &mut M,
     sources: &F,
     table: &T,
@@ -379,8 +379,10 @@ pub fn look<'a, M: Memory, F: Sources, O: Sink>(
     let telling = telling_by(form.values, keeps);
     let headed = has(options, "--header");
     match give_table(memory, sources, form, table)? {
-        Given::Lines(rows) => look_in(memory, sources, &rows, telling, place, headed, file, out),
-        Given::Stored(bytes) => {
+        FileContent::Lines(rows) => look_in(
+            memory, sources, &rows, telling, place, headed, file, out,
+        ),
+        FileContent::Stored(bytes) => {
             let stored = Stored::check(memory, table, bytes.as_slice())?;
             stored.check_values(form.values, table)?;
             look_in(memory, sources, &stored, telling, place, headed, file, out)

@@ -24,7 +24,7 @@ use crate::output::answers::{Verdict, by_output};
 use crate::output::printing::catch_up;
 use cidr_io::block::Block;
 use cidr_io::decimal::decimal_text;
-use cidr_io::lines::{LineReader, ReadError, is_too_long};
+use cidr_io::lines::{LineReadError, LineReader, is_too_long};
 use cidr_io::memory::Memory;
 use cidr_io::sink::{OutputFailed, Sink};
 use cidr_io::source::Source;
@@ -397,8 +397,8 @@ pub fn next_part<'a, M: Memory, R: Source + Drop>(
 {
     match reader.read_line(memory) {
         Ok(has_more) => Ok(has_more),
-        Err(ReadError::NoMemory) => Err(CommandError::NoMemory),
-        Err(ReadError::Failed) => Err(CommandError::Input(file, Reason::Unknown)),
+        Err(LineReadError::NoMemory) => Err(CommandError::NoMemory),
+        Err(LineReadError::Failed) => Err(CommandError::Input(file, Reason::Unknown)),
     }
 }
 
@@ -552,7 +552,7 @@ pub fn match_each<'a, M: Memory, F: Sources, O: Sink>(
     ensures cause { IfErr result (Cause (FileFails (F.contents sources.now) (F.reasons sources.now)) (M.refused memory.new)) }
 {
     let column = column_of(choice)?;
-    let sets = read_addresses(memory, sources, list)?;
-    let matcher = matcher_of(&sets, column, options);
+    let addresses = read_addresses(memory, sources, list)?;
+    let matcher = matcher_of(&addresses, column, options);
     match_files(memory, sources, &matcher, files, out)
 }

@@ -18,7 +18,7 @@ pub enum Choice<'a> {
     Field(&'a str, Option<&'a str>),
 }
 
-/// The place, from 0 on, of the field of a number.
+/// The index, counted from 0, of the field of a number.
 pub fn place_of(number: &str) -> Option<u64>
     ensures { MatchOption result ((n : ℕ) → IsNumber number.now n → (n ≡ 0) ⊎ (2 ^ 64 ≤ n)) (IsFieldPlace number.now) }
 {

@@ -23,7 +23,7 @@ use crate::errors::CommandError;
 use crate::input::files::Sources;
 use crate::input::numbers::Numbers;
 use crate::input::table::read_table;
-use crate::input::tables::Table;
+use crate::input::tables::PlainTable;
 use crate::output::answers::{Verdict, by_output};
 use arrayvec::ArrayString;
 use cidr::{FamilyCidr, Ipv4Cidr, Ipv6Cidr};
@@ -64,7 +64,11 @@ fn listed<C: FamilyCidr>(
 }
 
 /// The networks of each family for which two tables have different values.
-fn compare<'a>(alloc: Global, old: &'a Table, new: &'a Table) -> Result<Differing<'a>, AllocError>
+fn compare<'a>(
+    alloc: Global,
+    old: &'a PlainTable,
+    new: &'a PlainTable,
+) -> Result<Differing<'a>, AllocError>
     ensures { IfOk result (λ made. (family : Family)
         → AreDifferences (kept old.now family) (kept new.now family) (HasWidth (width_of family)) (found made family)) }
 {
@@ -119,7 +123,7 @@ fn push_number<S: Sink>(
 }
 
 /// Appends the lines of the values that two tables have for a network.
-fn push_row<C: FamilyCidr, S: Sink>(
+fn push_differences<C: FamilyCidr, S: Sink>(
     block: &mut Block,
     out: &mut S,
     numbers: &Numbers<'_>,
@@ -144,7 +148,7 @@ fn write_rows<C: FamilyCidr, S: Sink>(
 {
     let mut block = Block::new();
     for row in rows {
-        push_row(&mut block, out, numbers, *row)?;
+        push_differences(&mut block, out, numbers, *row)?;
     }
     block.write(out)
 }

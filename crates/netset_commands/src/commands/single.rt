@@ -84,7 +84,7 @@ fn show<'a, S: Sink>(text: &'a str, out: &mut S) -> Result<Verdict, CommandError
 }
 
 /// The network that an argument is.
-pub fn network_of<'a>(text: &'a str) -> Result<IpCidr, CommandError<'a>>
+pub fn network_operand<'a>(text: &'a str) -> Result<IpCidr, CommandError<'a>>
     ensures { MatchResult result (IsIpNetworkText text.now)
         (IsBadArgument (λ argument e. (argument ≡ text.now) × IsNoNetwork text.now e)) }
 {
@@ -108,7 +108,7 @@ fn index_of(text: &str) -> Option<u128>
 fn nth<'a, S: Sink>(net: &'a str, place: &'a str, out: &mut S) -> Result<Verdict, CommandError<'a>>
     ensures { (contents : List ℕ → Option Text) → AnswersRequest contents (ASingle (Nth net.now place.now)) (S.state out.old) (S.state out.new) result }
 {
-    let network = network_of(net)?;
+    let network = network_operand(net)?;
     let Some(index) = index_of(place) else {
         return Err(CommandError::Argument(place, ArgumentError::Index));
     };

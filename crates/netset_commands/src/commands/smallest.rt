@@ -23,7 +23,7 @@ use crate::errors::{CommandError, FileError};
 use crate::input::files::Sources;
 use crate::input::numbers::Numbers;
 use crate::input::table::read_table;
-use crate::input::tables::Table;
+use crate::input::tables::PlainTable;
 use crate::output::answers::{Verdict, by_output};
 use arrayvec::ArrayString;
 use cidr::{FamilyCidr, Ipv4Cidr, Ipv6Cidr, NetworkBits};
@@ -32,7 +32,7 @@ use cidr_io::block::Block;
 use cidr_io::memory::Memory;
 use cidr_io::sink::{OutputFailed, Sink};
 use cidr_lists::forms::RowForm;
-use cidr_lists::rows::{Span, value_of};
+use cidr_lists::rows::{Span, value_at_span};
 use cidr_table::LpmTable;
 use std::alloc::{AllocError, Global};
 
@@ -109,7 +109,11 @@ struct Fewest<'a> {
 }
 
 /// Those of a table.
-fn fewest_of<'a>(alloc: Global, table: &'a Table, holes: bool) -> Result<Fewest<'a>, AllocError>
+fn fewest_of<'a>(
+    alloc: Global,
+    table: &'a PlainTable,
+    holes: bool,
+) -> Result<Fewest<'a>, AllocError>
     ensures ascending { IfOk result (λ fewest. AreAscending fewest.numbers) }
     ensures values { IfOk result (λ fewest. HaveValues fewest.numbers (kept table.now)) }
     ensures ipv4 { IfOk result (λ fewest. AreFewestNumbers holes 32 (numbered fewest.numbers (kept table.now Ipv4)) fewest.v4.items) }
@@ -135,7 +139,7 @@ fn told_value<'n>(numbers: &Numbers<'n>, value: Option<usize>) -> &'n [u8]
 }
 
 /// Appends the line of a row to a block.
-fn push_row<S: Sink>(
+fn push_table_row<S: Sink>(
     block: &mut Block,
     out: &mut S,
     network: ArrayString<43>,
@@ -162,7 +166,7 @@ fn push_rows<C: FamilyCidr, S: Sink>(
         (flat_map (told_row (λ p. forced_text C.FAMILY (C.bits p)) numbers.now) rows.now) result }
 {
     for row in rows {
-        push_row(
+        push_table_row(
             block,
             out,
             row.0.to_text_with_length(),
@@ -201,7 +205,7 @@ fn has_value<C>(rows: &[(C, Span)], all: &[u8], value: &[u8]) -> bool
     ensures { Decides result (Contains (values_of (map (resolved all.now) rows.now)) value.now) }
 {
     for row in rows {
-        if value_of(all, row.1) == value {
+        if value_at_span(all, row.1) == value {
             return true;
         }
     }
@@ -209,7 +213,7 @@ fn has_value<C>(rows: &[(C, Span)], all: &[u8], value: &[u8]) -> bool
 }
 
 /// Whether a table has the value that stands for a hole.
-fn has_hole(table: &Table) -> bool
+fn has_hole(table: &PlainTable) -> bool
     ensures { Decides result ((family : Family) × Contains (values_of (kept table.now family)) (codes "-")) }
 {
     let all = table.values.as_slice();
@@ -220,7 +224,7 @@ fn has_hole(table: &Table) -> bool
 }
 
 /// Whether there may be holes, and the table has that value.
-fn is_refused(holes: bool, table: &Table) -> bool
+fn is_refused(holes: bool, table: &PlainTable) -> bool
     ensures { Decides result ((holes ≡ true) × ((family : Family) × Contains (values_of (kept table.now family)) (codes "-"))) }
 {
     if holes { has_hole(table) } else { false }
@@ -229,7 +233,7 @@ fn is_refused(holes: bool, table: &Table) -> bool
 /// Tells the fewest rows of a table.
 fn tell_fewest<'a, M: Memory, S: Sink>(
     memory: &mut M,
-    table: &Table,
+    table: &PlainTable,
     holes: bool,
     out: &mut S,
 ) -> Result<Verdict, CommandError<'a>>

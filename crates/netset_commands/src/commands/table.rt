@@ -1,6 +1,6 @@
 //! The table of the commands: names, options, operands and help.
 ghost use Rattle.std.specs.Prelude.{◌≡◌};
-ghost use Rattle.netset_commands.specs.Table.{about_of, commands, name_of, row_of, takes_value, texts};
+ghost use Rattle.netset_commands.specs.Table.{about_of, commands, name_of, command_row, takes_value, texts};
 
 use crate::commands::describe::Description;
 use crate::commands::matching::has;
@@ -198,7 +198,7 @@ pub fn name_of(command: Verb) -> &'static str
 
 /// The options of a command that have no value.
 pub fn options_of(command: Verb) -> &'static [&'static str]
-    ensures { texts result.now ≡ (row_of command).options }
+    ensures { texts result.now ≡ (command_row command).options }
 {
     match command {
         Verb::Lists(_) | Verb::Diff | Verb::Describe(_) | Verb::Split => {
@@ -275,7 +275,7 @@ pub fn options_of(command: Verb) -> &'static [&'static str]
 /// `free --count` tells, the access list of `acl --diff`, the field that `match` and `look` read, how lists and the rows of
 /// tables are read, and where the answer is written.
 fn values_of(command: Verb) -> &'static [&'static str]
-    ensures { texts result.now ≡ (row_of command).values }
+    ensures { texts result.now ≡ (command_row command).values }
 {
     match command {
         Verb::Lists(Operation::Not) => {
@@ -314,7 +314,7 @@ pub fn takes_value(command: Verb, option: &str) -> bool
 
 /// The names of the operands that a command needs.
 pub fn needed_of(command: Verb) -> &'static [&'static str]
-    ensures { texts result.now ≡ (row_of command).needed }
+    ensures { texts result.now ≡ (command_row command).needed }
 {
     match command {
         Verb::Lists(Operation::Minus) | Verb::Lists(Operation::And) | Verb::Diff | Verb::Same => &[
@@ -338,7 +338,7 @@ pub fn needed_of(command: Verb) -> &'static [&'static str]
 
 /// How many operands a command takes at most; `None` where any more may follow.
 pub fn most_of(command: Verb) -> Option<usize>
-    ensures { result ≡ (row_of command).most }
+    ensures { result ≡ (command_row command).most }
 {
     match command {
         Verb::Lists(_) | Verb::Free | Verb::Check | Verb::Which | Verb::Match => None,

@@ -8,7 +8,7 @@ ghost use Rattle.netset_commands.specs.Gathering.{IsNotReadFurther};
 
 use crate::errors::{CommandError, Reason};
 use crate::input::files::Sources;
-use cidr_io::lines::{ReadError, read_to_end};
+use cidr_io::lines::{LineReadError, read_to_end};
 use cidr_io::memory::Memory;
 use cidr_io::source::Source;
 
@@ -17,7 +17,7 @@ const FIRST: u8 = 0x89;
 
 /// What a file has in the place of a list or of a table.
 #[derive(Drop)]
-pub enum Given<T> {
+pub enum FileContent<T> {
     /// What its lines say.
     Lines(T),
     /// The bytes of a file that begins as one of look-ups.
@@ -107,7 +107,7 @@ pub fn read_whole<'a, M: Memory, S: Source + Drop>(
 {
     match read_to_end(memory, begun) {
         Ok(bytes) => Ok(bytes),
-        Err(ReadError::Failed) => Err(CommandError::Input(file, Reason::Unknown)),
-        Err(ReadError::NoMemory) => Err(CommandError::NoMemory),
+        Err(LineReadError::Failed) => Err(CommandError::Input(file, Reason::Unknown)),
+        Err(LineReadError::NoMemory) => Err(CommandError::NoMemory),
     }
 }

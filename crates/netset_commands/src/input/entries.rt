@@ -5,8 +5,8 @@ ghost use Rattle.netset_commands.specs.Commands.{read_files};
 ghost use Rattle.netset_commands.specs.Entries.{AddsEntries, AddsEntry, CopiesEntries};
 ghost use Rattle.netset_commands.specs.Unchecked.{AddsFileEntries, AreToldEntries, IsUnchecked};
 
-use crate::errors::{CommandError, ReadError, Reason};
-use crate::input::begun::Given;
+use crate::errors::{CommandError, ListReadError, Reason};
+use crate::input::begun::FileContent;
 use crate::input::files::Sources;
 use crate::input::keeping::Said;
 use cidr_io::lines::{LineReader, is_too_long};
@@ -17,17 +17,17 @@ use cidr_lists::errors::LineError;
 use std::alloc::AllocError;
 
 /// Adds the entry that a line has, if it has one.
-pub fn add_line<'a, M: Memory>(
+pub fn add_entry_line<'a, M: Memory>(
     memory: &mut M,
     place: Place<'a>,
     line: &[u8],
     entries: &mut Vec<Entry<'a>>,
-) -> Result<(), ReadError>
+) -> Result<(), ListReadError>
     ensures adds { AddsEntry place.entry.file.now place.entry.number line.now entries.old.items entries.new.items result }
     ensures cause { IfErr result (ReadCause ⊥ (M.refused memory.new)) }
 {
     if is_too_long(line) {
-        return Err(ReadError::Line(place.number, LineError::TooLong));
+        return Err(ListReadError::Line(place.number, LineError::TooLong));
     }
     match entry_of(place, line) {
         Ok(Some(entry)) => {
@@ -35,7 +35,7 @@ pub fn add_line<'a, M: Memory>(
             Ok(())
         }
         Ok(None) => Ok(()),
-        Err(e) => Err(ReadError::Line(place.number, e)),
+        Err(e) => Err(ListReadError::Line(place.number, e)),
     }
 }
 
@@ -45,19 +45,19 @@ fn add_lines<'a, M: Memory, S: Source + Drop>(
     reader: &mut LineReader<S>,
     file: &'a str,
     entries: &mut Vec<Entry<'a>>,
-) -> Result<(), ReadError>
+) -> Result<(), ListReadError>
     ensures adds { IfSome reader.old.left
         (λ text. AddsEntries file.now text entries.old.items entries.new.items result) }
     ensures cause { IfErr result (ReadCause (TextFails reader.old.left) (M.refused memory.new)) }
 {
     for number in 1..u64::MAX {
         let has_more = reader.read_line(memory)?;
-        add_line(memory, Place { file, number }, reader.line(), entries)?;
+        add_entry_line(memory, Place { file, number }, reader.line(), entries)?;
         if !has_more {
             return Ok(());
         }
     }
-    Err(ReadError::Input)
+    Err(ListReadError::Input)
 }
 
 /// Reads a list in blocks, to its end or to its first line in error, and adds its entries.
@@ -66,7 +66,7 @@ fn add_list<'a, M: Memory, S: Source + Drop>(
     source: S,
     file: &'a str,
     entries: &mut Vec<Entry<'a>>,
-) -> Result<(), ReadError>
+) -> Result<(), ListReadError>
     ensures adds { IfSome (S.left source)
         (λ text. AddsEntries file.now text entries.old.items entries.new.items result) }
     ensures cause { IfErr result (ReadCause (TextFails (S.left source)) (M.refused memory.new)) }
@@ -91,9 +91,9 @@ fn add_opened<'a, M: Memory, F: Sources>(
     };
     match add_list(memory, reader, file, entries) {
         Ok(()) => Ok(()),
-        Err(ReadError::Line(number, e)) => Err(CommandError::Line(file, number, e)),
-        Err(ReadError::Input) => Err(CommandError::Input(file, Reason::Unknown)),
-        Err(ReadError::NoMemory) => Err(CommandError::NoMemory),
+        Err(ListReadError::Line(number, e)) => Err(CommandError::Line(file, number, e)),
+        Err(ListReadError::Input) => Err(CommandError::Input(file, Reason::Unknown)),
+        Err(ListReadError::NoMemory) => Err(CommandError::NoMemory),
     }
 }
 
@@ -135,7 +135,7 @@ fn add_file<'a, M: Memory, F: Sources>(
     ensures cause { IfErr result (Cause (FileFails (F.contents sources.now) (F.reasons sources.now)) (M.refused memory.new)) }
 {
     match sources.kept(file) {
-        Some(Given::Lines(Said::Hosts(kept))) => {
+        Some(FileContent::Lines(Said::Hosts(kept))) => {
             add_kept(memory, file, kept.as_slice(), entries)?;
             Ok(())
         }

@@ -7,7 +7,7 @@ ghost use Rattle.netset_commands.specs.Opened.{reason_of};
 ghost use Rattle.netset_commands.specs.Program.{contents_in};
 
 use crate::errors::Reason;
-use crate::input::begun::Given;
+use crate::input::begun::FileContent;
 use crate::input::keeping::Said;
 use crate::output::terminal::{Progress, Watched};
 use cidr_io::source::Source;
@@ -65,7 +65,7 @@ pub trait Sources {
 
     /// What the lines of the file of this name say, if they are read already and none is in error, or its bytes, if they are
     /// and it begins as a file of look-ups.
-    fn kept(&self, name: &str) -> Option<&Given<Said>>
+    fn kept(&self, name: &str) -> Option<&FileContent<Said>>
         ensures { IfSome result (λ given. (text : Text) → contents self.now name.now ≡ Some text → IsGivenBy text given.now) };
 }
 
@@ -91,7 +91,7 @@ impl<F: Files> Sources for ReadBy<'_, F> {
         self.list_form
     }
 
-    fn kept(&self, _name: &str) -> Option<&Given<Said>> {
+    fn kept(&self, _name: &str) -> Option<&FileContent<Said>> {
         None
     }
 }

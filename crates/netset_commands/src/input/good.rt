@@ -2,7 +2,7 @@
 ghost use Rattle.netset_commands.specs.Keeping.{good_files, reasons_beside};
 
 use crate::errors::Reason;
-use crate::input::begun::Given;
+use crate::input::begun::FileContent;
 use crate::input::files::Sources;
 use crate::input::keeping::{Kept, Said, list_named};
 use cidr_io::source::Source;
@@ -58,7 +58,7 @@ impl<'a, F: Sources> Sources for GoodLists<'a, F> {
         self.list_form
     }
 
-    fn kept(&self, _name: &str) -> Option<&Given<Said>> {
+    fn kept(&self, _name: &str) -> Option<&FileContent<Said>> {
         None
     }
 }

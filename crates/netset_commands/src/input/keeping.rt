@@ -4,8 +4,8 @@ ghost use Rattle.netset_commands.specs.Causes.{Cause, FileFails, ReadCause, Text
 ghost use Rattle.netset_commands.specs.Keeping.{AddsBy, AreKept, IsNothingSaid, KeepsLine, KeepsListLines, KeepsList, good_bytes, lined, list_named};
 ghost use Rattle.netset_commands.specs.Loading.{AreListsLoaded, IsUnloaded};
 
-use crate::errors::{CommandError, ReadError, Reason};
-use crate::input::begun::{Given, begin_file, read_whole};
+use crate::errors::{CommandError, ListReadError, Reason};
+use crate::input::begun::{FileContent, begin_file, read_whole};
 use crate::input::files::Sources;
 use crate::input::table::unread;
 use crate::input::{entries, lists, rows};
@@ -16,10 +16,10 @@ use cidr_io::memory::Memory;
 use cidr_io::sink::Sink;
 use cidr_io::source::Source;
 use cidr_lists::entries::{Entry, Place};
-use cidr_lists::forms::{Kind, RowForm};
+use cidr_lists::forms::{ListKind, RowForm};
 use cidr_lists::lists::Lists;
 use cidr_lists::records::ListForm;
-use cidr_lists::rows::Rows;
+use cidr_lists::rows::RowList;
 use std::alloc::{AllocError, Global};
 use std::marker::Model;
 
@@ -30,18 +30,18 @@ pub enum Said {
     /// Each entry stands in a file of no name.
     Hosts(Vec<Entry<'static>>),
     /// Rows that were read in this form.
-    Rows(RowForm, Rows),
+    Rows(RowForm, RowList),
 }
 
 impl Said {
     /// What no lines say.
-    fn new(alloc: Global, kind: Kind) -> Said
+    fn new(alloc: Global, kind: ListKind) -> Said
         ensures { IsNothingSaid kind result }
     {
         match kind {
-            Kind::Networks => Said::Networks(Lists::new(alloc)),
-            Kind::Hosts => Said::Hosts(Vec::new(alloc)),
-            Kind::Rows(form) => Said::Rows(form, Rows::new(alloc)),
+            ListKind::Networks => Said::Networks(Lists::new(alloc)),
+            ListKind::Hosts => Said::Hosts(Vec::new(alloc)),
+            ListKind::Rows(form) => Said::Rows(form, RowList::new(alloc)),
         }
     }
 
@@ -52,17 +52,17 @@ impl Said {
         list_form: ListForm,
         number: u64,
         line: &[u8],
-    ) -> Result<(), ReadError>
+    ) -> Result<(), ListReadError>
         ensures adds { AddsBy list_form line.now number self.old self.new result }
         ensures cause { IfErr result (ReadCause ⊥ (M.refused memory.new)) }
     {
         match self {
-            Said::Networks(lists) => lists::add_line(memory, list_form, number, line, lists),
+            Said::Networks(lists) => lists::add_list_line(memory, list_form, number, line, lists),
             Said::Hosts(hosts) => {
-                entries::add_line(memory, Place { file: "", number }, line, hosts)
+                entries::add_entry_line(memory, Place { file: "", number }, line, hosts)
             }
             Said::Rows(form, rows) => {
-                rows::add_line(memory, *form, list_form, number, line, rows)
+                rows::add_row_line(memory, *form, list_form, number, line, rows)
             }
         }
     }
@@ -77,19 +77,19 @@ fn keep_line<M: Memory, E: Sink>(
     said: &mut Said,
     block: &mut Block,
     err: &mut E,
-) -> Result<bool, ReadError>
+) -> Result<bool, ListReadError>
     ensures keeps { KeepsLine list_form place.entry.file.now place.entry.number line.now said.old said.new
         (E.state err.old) block.old (E.state err.new) block.new result }
     ensures cause { IfErr result (ReadCause ⊥ (M.refused memory.new)) }
 {
     match said.add_line(memory, list_form, place.number, line) {
         Ok(()) => Ok(false),
-        Err(ReadError::Line(_, e)) => {
+        Err(ListReadError::Line(_, e)) => {
             say_fault(block, err, place.file, place.number, &e);
             Ok(true)
         }
-        Err(ReadError::Input) => Err(ReadError::Input),
-        Err(ReadError::NoMemory) => Err(ReadError::NoMemory),
+        Err(ListReadError::Input) => Err(ListReadError::Input),
+        Err(ListReadError::NoMemory) => Err(ListReadError::NoMemory),
     }
 }
 
@@ -139,14 +139,14 @@ pub struct Heard {
 /// Reads the lines of a list to its end, and tells those in error.
 fn keep_lines<M: Memory, S: Source + Drop, E: Sink>(
     memory: &mut M,
-    kind: Kind,
+    kind: ListKind,
     list_form: ListForm,
     file: &str,
     skips: bool,
     reader: &mut LineReader<S>,
     block: &mut Block,
     err: &mut E,
-) -> Result<Heard, ReadError>
+) -> Result<Heard, ListReadError>
     ensures keeps { KeepsListLines kind list_form file.now skips reader.old.left
         (E.state err.old) block.old (E.state err.new) block.new result }
     ensures cause { IfErr result (ReadCause (TextFails reader.old.left) (M.refused memory.new)) }
@@ -170,7 +170,7 @@ fn keep_lines<M: Memory, S: Source + Drop, E: Sink>(
             });
         }
     }
-    Err(ReadError::Input)
+    Err(ListReadError::Input)
 }
 
 /// A list that was read whole.
@@ -178,7 +178,7 @@ fn keep_lines<M: Memory, S: Source + Drop, E: Sink>(
 pub struct Kept<'a> {
     pub name: &'a str,
     /// What those of its lines say that are not in error, or the bytes of a file of look-ups.
-    pub given: Given<Said>,
+    pub given: FileContent<Said>,
     /// The same lines, as [`Heard`] has them.
     pub text: Vec<u8>,
 }
@@ -189,8 +189,8 @@ impl Kept<'_> {
         ensures { result.now ≡ good_bytes self.now }
     {
         match &self.given {
-            Given::Lines(_) => behind_first(self.text.as_slice()),
-            Given::Stored(bytes) => bytes.as_slice(),
+            FileContent::Lines(_) => behind_first(self.text.as_slice()),
+            FileContent::Stored(bytes) => bytes.as_slice(),
         }
     }
 }
@@ -210,7 +210,7 @@ fn behind_first(bytes: &[u8]) -> &[u8]
 fn keep_list<'a, M: Memory, F: Sources, E: Sink>(
     memory: &mut M,
     sources: &F,
-    kind: Kind,
+    kind: ListKind,
     takes_file: bool,
     skips: bool,
     file: &'a str,
@@ -225,7 +225,7 @@ fn keep_list<'a, M: Memory, F: Sources, E: Sink>(
         return Ok((
             Kept {
                 name: file,
-                given: Given::Stored(bytes),
+                given: FileContent::Stored(bytes),
                 text: Vec::new(memory.alloc()),
             },
             false,
@@ -250,7 +250,7 @@ fn keep_list<'a, M: Memory, F: Sources, E: Sink>(
         Ok(heard) => Ok((
             Kept {
                 name: file,
-                given: Given::Lines(heard.said),
+                given: FileContent::Lines(heard.said),
                 text: heard.text,
             },
             heard.is_bad,
@@ -308,7 +308,7 @@ impl<F: Sources> Sources for Loaded<'_, F> {
         self.sources.list_form()
     }
 
-    fn kept(&self, name: &str) -> Option<&Given<Said>> {
+    fn kept(&self, name: &str) -> Option<&FileContent<Said>> {
         let lists = self.lists;
         match list_named(lists, name) {
             Some(list) => Some(&list.given),
@@ -322,7 +322,7 @@ impl<F: Sources> Sources for Loaded<'_, F> {
 pub fn load<'a, M: Memory, F: Sources, E: Sink>(
     memory: &mut M,
     sources: &F,
-    kind: Kind,
+    kind: ListKind,
     takes_file: bool,
     skips: bool,
     names: &[&'a str],

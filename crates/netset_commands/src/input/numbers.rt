@@ -9,9 +9,9 @@ ghost use Rattle.netset_commands.specs.Rows.{kept};
 ghost use Rattle.std.specs.Cmp.Lexicographic.{slice_cmp};
 ghost use Rattle.std.specs.Ordering.{is_lt, nat_cmp};
 
-use crate::input::tables::Table;
+use crate::input::tables::PlainTable;
 use cidr::FamilyCidr;
-use cidr_lists::rows::{Span, value_of};
+use cidr_lists::rows::{Span, value_at_span};
 use cidr_table::LpmTable;
 use std::alloc::{AllocError, Global};
 use std::marker::Model;
@@ -49,13 +49,13 @@ fn push_values<'a, C>(
     ensures { OnOk result (slices values.new.items ≡ slices values.old.items ++ row_values (map (resolved all.now) rows.now)) }
 {
     for row in rows {
-        values.push(value_of(all, row.1))?;
+        values.push(value_at_span(all, row.1))?;
     }
     Ok(())
 }
 
 /// Appends the values of a table.
-fn push_table<'a>(values: &mut Vec<&'a [u8]>, table: &'a Table) -> Result<(), AllocError>
+fn push_table<'a>(values: &mut Vec<&'a [u8]>, table: &'a PlainTable) -> Result<(), AllocError>
     ensures { OnOk result (slices values.new.items ≡ slices values.old.items ++ table_values (kept table.now)) }
 {
     let all = table.values.as_slice();
@@ -74,7 +74,7 @@ impl<'a> Numbers<'a> {
     }
 
     /// The numbers of the values of a table. The error is that there is no memory.
-    pub fn of_table(alloc: Global, table: &'a Table) -> Result<Numbers<'a>, AllocError>
+    pub fn of_table(alloc: Global, table: &'a PlainTable) -> Result<Numbers<'a>, AllocError>
         ensures ascending { IfOk result AreAscending }
         ensures values { IfOk result (λ values. HaveValues values (kept table.now)) }
     {
@@ -86,8 +86,8 @@ impl<'a> Numbers<'a> {
     /// The numbers of the values of two tables, which are the same in both. The error is that there is no memory.
     pub fn of_tables(
         alloc: Global,
-        one: &'a Table,
-        other: &'a Table,
+        one: &'a PlainTable,
+        other: &'a PlainTable,
     ) -> Result<Numbers<'a>, AllocError>
         ensures ascending { IfOk result AreAscending }
         ensures values { IfOk result (λ values. HaveValues values (kept one.now)) }
@@ -134,7 +134,7 @@ impl<'a> Numbers<'a> {
         for row in table.iter().as_slice() {
             // the call tells the proof that the prefix length fits
             row.0.network_length();
-            let number = self.number(value_of(all, row.1));
+            let number = self.number(value_at_span(all, row.1));
             rows.push((row.0, number))?;
         }
         Ok(LpmTable::from_rows(rows))

@@ -4,29 +4,29 @@ ghost use Rattle.netset_commands.specs.Causes.{ReadCause, TextFails};
 ghost use Rattle.cidr_lists.specs.Lists.{text_in};
 ghost use Rattle.netset_commands.specs.LookUps.{AddsRow, ReadsRows};
 
-use crate::errors::ReadError;
+use crate::errors::ListReadError;
 use cidr_io::lines::{LineReader, is_too_long};
 use cidr_io::memory::Memory;
 use cidr_io::source::Source;
 use cidr_lists::errors::LineError;
 use cidr_lists::forms::{RowForm, row_of};
 use cidr_lists::records::ListForm;
-use cidr_lists::rows::Rows;
+use cidr_lists::rows::RowList;
 
 /// Adds the network and the value that a line says, if it says them.
-pub fn add_line<M: Memory>(
+pub fn add_row_line<M: Memory>(
     memory: &mut M,
     form: RowForm,
     list_form: ListForm,
     number: u64,
     line: &[u8],
-    rows: &mut Rows,
-) -> Result<(), ReadError>
+    rows: &mut RowList,
+) -> Result<(), ListReadError>
     ensures adds { AddsRow form list_form line.now number rows.old rows.new result }
     ensures cause { IfErr result (ReadCause ⊥ (M.refused memory.new)) }
 {
     if is_too_long(line) {
-        return Err(ReadError::Line(number, LineError::TooLong));
+        return Err(ListReadError::Line(number, LineError::TooLong));
     }
     match row_of(form, list_form.host_bits(), line) {
         Ok(Some((network, value))) => {
@@ -35,7 +35,7 @@ pub fn add_line<M: Memory>(
             Ok(())
         }
         Ok(None) => Ok(()),
-        Err(e) => Err(ReadError::Line(number, e)),
+        Err(e) => Err(ListReadError::Line(number, e)),
     }
 }
 
@@ -45,19 +45,19 @@ fn read_lines<M: Memory, S: Source + Drop>(
     form: RowForm,
     list_form: ListForm,
     reader: &mut LineReader<S>,
-) -> Result<Rows, ReadError>
+) -> Result<RowList, ListReadError>
     ensures reads { IfSome reader.old.left (λ bytes. ReadsRows form (text_in list_form bytes) result) }
     ensures cause { IfErr result (ReadCause (TextFails reader.old.left) (M.refused memory.new)) }
 {
-    let mut rows = Rows::new(memory.alloc());
+    let mut rows = RowList::new(memory.alloc());
     for number in 1..u64::MAX {
         let has_more = reader.read_line(memory)?;
-        add_line(memory, form, list_form, number, reader.line(), &mut rows)?;
+        add_row_line(memory, form, list_form, number, reader.line(), &mut rows)?;
         if !has_more {
             return Ok(rows);
         }
     }
-    Err(ReadError::Input)
+    Err(ListReadError::Input)
 }
 
 /// Reads the rows of a table in blocks, to its end or to its first line in error.
@@ -66,7 +66,7 @@ pub fn read_rows<M: Memory, S: Source + Drop>(
     form: RowForm,
     list_form: ListForm,
     source: S,
-) -> Result<Rows, ReadError>
+) -> Result<RowList, ListReadError>
     ensures reads { IfSome (S.left source) (λ bytes. ReadsRows form (text_in list_form bytes) result) }
     ensures cause { IfErr result (ReadCause (TextFails (S.left source)) (M.refused memory.new)) }
 {

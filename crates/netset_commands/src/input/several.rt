@@ -5,8 +5,8 @@ ghost use Rattle.netset_commands.specs.Commands.{read_files};
 ghost use Rattle.netset_commands.specs.Answering.{AddsFile, AreRead, GivesList, ReadsAddresses, ReadsBoth, ReadsFile, ReadsSeveral};
 ghost use Rattle.netset_commands.specs.Program.{IsUnread};
 
-use crate::errors::{CommandError, ReadError, Reason};
-use crate::input::begun::{Given, begin_file, read_whole};
+use crate::errors::{CommandError, ListReadError, Reason};
+use crate::input::begun::{FileContent, begin_file, read_whole};
 use crate::input::files::Sources;
 use crate::input::keeping::Said;
 use crate::input::lists::read_list;
@@ -39,9 +39,9 @@ fn add_opened<'a, M: Memory, F: Sources>(
     };
     match read_list(memory, sources.list_form(), reader, lists) {
         Ok(()) => Ok(()),
-        Err(ReadError::Line(number, e)) => Err(CommandError::Line(file, number, e)),
-        Err(ReadError::Input) => Err(CommandError::Input(file, Reason::Unknown)),
-        Err(ReadError::NoMemory) => Err(CommandError::NoMemory),
+        Err(ListReadError::Line(number, e)) => Err(CommandError::Line(file, number, e)),
+        Err(ListReadError::Input) => Err(CommandError::Input(file, Reason::Unknown)),
+        Err(ListReadError::NoMemory) => Err(CommandError::NoMemory),
     }
 }
 
@@ -56,7 +56,7 @@ fn add_file<'a, M: Memory, F: Sources>(
     ensures cause { IfErr result (Cause (FileFails (F.contents sources.now) (F.reasons sources.now)) (M.refused memory.new)) }
 {
     match sources.kept(file) {
-        Some(Given::Lines(Said::Networks(kept))) => {
+        Some(FileContent::Lines(Said::Networks(kept))) => {
             let added = lists.extend(kept);
             memory.watch(added)?;
             Ok(())
@@ -84,18 +84,18 @@ fn read_given<'a, M: Memory, F: Sources>(
     memory: &mut M,
     sources: &F,
     file: &'a str,
-) -> Result<Given<Sets>, CommandError<'a>>
+) -> Result<FileContent<Sets>, CommandError<'a>>
     ensures gives { GivesList (F.contents sources.now file.now) file.now result }
     ensures cause { IfErr result (Cause (FileFails (F.contents sources.now) (F.reasons sources.now)) (M.refused memory.new)) }
 {
     let begun = begin_file(sources, file)?;
     if begun.is_stored() {
         let bytes = read_whole(memory, file, begun)?;
-        return Ok(Given::Stored(bytes));
+        return Ok(FileContent::Stored(bytes));
     }
     let mut lists = Lists::new(memory.alloc());
     match read_list(memory, sources.list_form(), begun, &mut lists) {
-        Ok(()) => Ok(Given::Lines(Sets::of_lists(lists))),
+        Ok(()) => Ok(FileContent::Lines(Sets::of_lists(lists))),
         Err(e) => Err(unread(file, e)),
     }
 }
@@ -105,21 +105,21 @@ fn give_list<'a, M: Memory, F: Sources>(
     memory: &mut M,
     sources: &F,
     file: &'a str,
-) -> Result<Given<Sets>, CommandError<'a>>
+) -> Result<FileContent<Sets>, CommandError<'a>>
     ensures gives { GivesList (F.contents sources.now file.now) file.now result }
     ensures cause { IfErr result (Cause (FileFails (F.contents sources.now) (F.reasons sources.now)) (M.refused memory.new)) }
 {
     match sources.kept(file) {
-        Some(Given::Lines(Said::Networks(kept))) => {
+        Some(FileContent::Lines(Said::Networks(kept))) => {
             let mut lists = Lists::new(memory.alloc());
             let added = lists.extend(kept);
             memory.watch(added)?;
-            Ok(Given::Lines(Sets::of_lists(lists)))
+            Ok(FileContent::Lines(Sets::of_lists(lists)))
         }
-        Some(Given::Stored(kept)) => {
+        Some(FileContent::Stored(kept)) => {
             let bytes: Result<_, _> = kept.clone();
             let bytes = memory.watch(bytes)?;
-            Ok(Given::Stored(bytes))
+            Ok(FileContent::Stored(bytes))
         }
         _ => read_given(memory, sources, file),
     }
@@ -135,8 +135,8 @@ pub fn read_addresses<'a, M: Memory, F: Sources>(
     ensures cause { IfErr result (Cause (FileFails (F.contents sources.now) (F.reasons sources.now)) (M.refused memory.new)) }
 {
     match give_list(memory, sources, file)? {
-        Given::Lines(sets) => Ok(sets),
-        Given::Stored(bytes) => {
+        FileContent::Lines(sets) => Ok(sets),
+        FileContent::Stored(bytes) => {
             let stored = Stored::check(memory, file, bytes.as_slice())?;
             let sets = stored.addresses(memory.alloc());
             let sets = memory.watch(sets)?;

@@ -17,9 +17,12 @@ ghost use Rattle.netset_commands.specs.LookUps.{LooksUp};
 ghost use Rattle.netset_commands.specs.Stored.{ChecksFile, IsFaultTold, TellsUnfit, by_family, stored_rows, file_error_of, keys_error_of, table_error_of, words_error_of};
 
 use crate::errors::{CommandError, FileError};
-use crate::input::table::{Answer, LookUps, Networks, push_match, push_none};
+use crate::input::table::{Answer, LookUps, RowLookUps, push_match, push_none};
 use cidr::{BitString, FamilyCidr, IpAddr, Ipv4Cidr, Ipv6Cidr};
-use cidr_files::{Family, Fault, Ipv4Bytes, Ipv6Bytes, Part, Table, TableFault, checked, lookup};
+use cidr_files::{
+    FileAddress, FileFault, FileTable, FileTables, Ipv4Bytes, Ipv6Bytes, TableFault, checked,
+    lookup,
+};
 use cidr_io::block::Block;
 use cidr_io::memory::Memory;
 use cidr_io::sink::{OutputFailed, Sink};
@@ -36,7 +39,7 @@ use std::marker::Model;
 /// The tables of a file of look-ups, which were checked.
 #[derive(Drop)]
 pub struct Stored<'a> {
-    tables: Table<'a>,
+    tables: FileTables<'a>,
 }
 
 impl<'a> Model for Stored<'a> {
@@ -113,7 +116,7 @@ impl<'a> Stored<'a> {
     }
 
     /// The length of the longest network that an address is in, and its value.
-    fn row_of(&self, address: &IpAddr) -> Option<(u8, &'a [u8])>
+    fn stored_row(&self, address: &IpAddr) -> Option<(u8, &'a [u8])>
         ensures { IsRowOf (by_family self.now) address.now (option_map (λ row. (row.0, row.1.now)) result) }
     {
         match address {
@@ -130,7 +133,7 @@ impl<'a> Stored<'a> {
 }
 
 /// The value of a row; no bytes where the offsets are wrong.
-fn value_of<'a>(part: &Part<'a>, row: usize) -> &'a [u8]
+fn stored_value<'a>(part: &FileTable<'a>, row: usize) -> &'a [u8]
     requires { row + 1 < 2 ^ 64 }
     ensures { (rows : ℕ) → row < rows → AreOffsets (offsets_in (parts_in part.now)) rows (length (part_at (parts_in part.now) 5))
         → result.now ≡ value_in (parts_in part.now) row }
@@ -149,14 +152,17 @@ fn value_of<'a>(part: &Part<'a>, row: usize) -> &'a [u8]
 
 /// Sees that the values of the rows of a table can be told in a format. The error is that of the first which can't, with
 /// the number of its row, from 1 on.
-fn check_part<W: Family>(format: LineFormat, part: &Part<'_>) -> Result<(), (u64, LineError)>
+fn check_part<W: FileAddress>(
+    format: LineFormat,
+    part: &FileTable<'_>,
+) -> Result<(), (u64, LineError)>
     requires { IsStoredTable W.width W.padding W.numbers (parts_in part.now) part.now.steps }
     ensures { MatchResult result (λ _. AreFit format (stored_rows W.width W.numbers (parts_in part.now)))
         (λ bad. IsUnfitAt format (stored_rows W.width W.numbers (parts_in part.now)) bad.0 bad.1) }
 {
     let addresses = W::addresses(part.addresses);
     for row in 0..addresses.len().min(part.lengths.len()) {
-        if let Err(e) = check_value(format, value_of(part, row)) {
+        if let Err(e) = check_value(format, stored_value(part, row)) {
             return Err((row as u64 + 1, e));
         }
     }
@@ -164,8 +170,8 @@ fn check_part<W: Family>(format: LineFormat, part: &Part<'_>) -> Result<(), (u64
 }
 
 /// Adds the networks of the rows of a table to others of their family.
-fn push_networks<W: Family, C: FamilyCidr>(
-    part: &Part<'_>,
+fn push_networks<W: FileAddress, C: FamilyCidr>(
+    part: &FileTable<'_>,
     networks: &mut Vec<C>,
 ) -> Result<(), AllocError>
     requires { W.width ≡ width_of C.FAMILY }
@@ -194,15 +200,15 @@ fn keys_error_of(error: &TableError) -> Option<FileError>
 }
 
 /// The same of words.
-fn words_error_of(fault: &cidr_lookup::Fault) -> Option<FileError>
+fn words_error_of(fault: &cidr_lookup::WordsFault) -> Option<FileError>
     ensures { result ≡ words_error_of fault.now }
 {
     match fault {
-        cidr_lookup::Fault::Keys(error) => keys_error_of(error),
-        cidr_lookup::Fault::Steps
-        | cidr_lookup::Fault::TooLong
-        | cidr_lookup::Fault::First(_)
-        | cidr_lookup::Fault::Word(_) => Some(FileError::Changed),
+        cidr_lookup::WordsFault::Keys(error) => keys_error_of(error),
+        cidr_lookup::WordsFault::Steps
+        | cidr_lookup::WordsFault::TooLong
+        | cidr_lookup::WordsFault::First(_)
+        | cidr_lookup::WordsFault::Word(_) => Some(FileError::Changed),
     }
 }
 
@@ -217,21 +223,21 @@ fn table_error_of(fault: &TableFault) -> Option<FileError>
 }
 
 /// The same of a file.
-fn file_error_of(fault: &Fault) -> Option<FileError>
+fn file_error_of(fault: &FileFault) -> Option<FileError>
     ensures { result ≡ file_error_of fault.now }
 {
     match fault {
-        Fault::Magic => Some(FileError::Unlike),
-        Fault::Old => Some(FileError::Old),
-        Fault::Version(_) => Some(FileError::Version),
-        Fault::Short => Some(FileError::Short),
-        Fault::Long => Some(FileError::Long),
-        Fault::Ipv4(fault) | Fault::Ipv6(fault) => table_error_of(fault),
+        FileFault::Magic => Some(FileError::Unlike),
+        FileFault::Old => Some(FileError::Old),
+        FileFault::Version(_) => Some(FileError::Version),
+        FileFault::Short => Some(FileError::Short),
+        FileFault::Long => Some(FileError::Long),
+        FileFault::Ipv4(fault) | FileFault::Ipv6(fault) => table_error_of(fault),
     }
 }
 
 /// The length of the longest network of a table that an address is in, and its value.
-fn found_in<'a, W: Family>(part: &Part<'a>, address: W) -> Option<(u8, &'a [u8])>
+fn found_in<'a, W: FileAddress>(part: &FileTable<'a>, address: W) -> Option<(u8, &'a [u8])>
     requires { IsStoredTable W.width W.padding W.numbers (parts_in part.now) part.now.steps }
     ensures { IsRowAmong (stored_rows W.width W.numbers (parts_in part.now)) (bits W.width (W.value address))
         (option_map (λ row. (row.0, row.1.now)) result) }
@@ -257,15 +263,15 @@ impl LookUps for Stored<'_> {
         out: &mut S,
     ) -> Result<bool, OutputFailed> {
         let text = address.to_text();
-        match self.row_of(address) {
+        match self.stored_row(address) {
             Some((len, value)) => push_match(block, out, text, block_text(address, len), value),
             None => push_none(block, out, text),
         }
     }
 }
 
-impl Networks for Stored<'_> {
+impl RowLookUps for Stored<'_> {
     fn row(&self, address: &IpAddr) -> Option<(u8, &[u8])> {
-        self.row_of(address)
+        self.stored_row(address)
     }
 }

@@ -10,12 +10,12 @@ ghost use Rattle.netset_commands.specs.LookUps.{GivesRows, GivesTable, HasAnswer
 ghost use Rattle.netset_commands.specs.Rows.{searched};
 ghost use Rattle.netset_commands.specs.declared.input.table.Answer.{Answer};
 
-use crate::errors::{CommandError, ReadError, Reason};
-use crate::input::begun::{Given, begin_file, read_whole};
+use crate::errors::{CommandError, ListReadError, Reason};
+use crate::input::begun::{FileContent, begin_file, read_whole};
 use crate::input::files::Sources;
 use crate::input::keeping::Said;
 use crate::input::rows::read_rows;
-use crate::input::tables::{SearchedTable, Table};
+use crate::input::tables::{PlainTable, SearchedTable};
 use arrayvec::ArrayString;
 use cidr::{BitString, Family, IpAddr, Ipv4Cidr, Ipv6Cidr};
 use cidr_io::block::Block;
@@ -25,7 +25,7 @@ use cidr_lists::columns::Separator;
 use cidr_lists::formats::LineFormat;
 use cidr_lists::forms::{RowColumns, RowForm, RowLayout};
 use cidr_lists::printing::block_text;
-use cidr_lists::rows::{Rows, Span, value_of};
+use cidr_lists::rows::{RowList, Span, value_at_span};
 
 /// The longest network of a table that an address is in, by its length, and where its value stands.
 #[derive(Clone, Copy, Drop)]
@@ -60,7 +60,7 @@ pub trait LookUps {
 }
 
 /// A table whose rows are told one by one.
-pub trait Networks: LookUps {
+pub trait RowLookUps: LookUps {
     /// The length of the longest network that an address is in, and its value.
     fn row(&self, address: &IpAddr) -> Option<(u8, &[u8])>
         ensures { IsRowOf (Self.LookUps.rows self.now) address.now (option_map (λ row. (row.0, row.1.now)) result) };
@@ -98,7 +98,7 @@ impl LookUps for SearchedTable {
     ) -> Result<bool, OutputFailed> {
         match found {
             Some(answer) => {
-                let value = value_of(self.values.as_slice(), answer.value);
+                let value = value_at_span(self.values.as_slice(), answer.value);
                 push_match(
                     block,
                     out,
@@ -112,10 +112,13 @@ impl LookUps for SearchedTable {
     }
 }
 
-impl Networks for SearchedTable {
+impl RowLookUps for SearchedTable {
     fn row(&self, address: &IpAddr) -> Option<(u8, &[u8])> {
         match self.find(address) {
-            Some(answer) => Some((answer.len, value_of(self.values.as_slice(), answer.value))),
+            Some(answer) => Some((
+                answer.len,
+                value_at_span(self.values.as_slice(), answer.value),
+            )),
             None => None,
         }
     }
@@ -123,7 +126,7 @@ impl Networks for SearchedTable {
 
 /// Appends the line of an address with its network and the value of that to a block, with a space in front of the value
 /// if it is not empty.
-fn push_row<S: Sink>(
+fn push_answer<S: Sink>(
     block: &mut Block,
     out: &mut S,
     address: ArrayString<39>,
@@ -152,7 +155,7 @@ pub fn push_match<S: Sink>(
     ensures { PushesFound address.bytes (Some (network.bytes, value.now))
         (S.state out.old) (S.state out.new) block.old block.new result }
 {
-    push_row(block, out, address, network, value)?;
+    push_answer(block, out, address, network, value)?;
     Ok(true)
 }
 
@@ -169,13 +172,13 @@ pub fn push_none<S: Sink>(
 }
 
 /// The error of reading a file.
-pub fn unread<'a>(file: &'a str, e: ReadError) -> CommandError<'a>
+pub fn unread<'a>(file: &'a str, e: ListReadError) -> CommandError<'a>
     ensures { result ≡ unread file.entry e }
 {
     match e {
-        ReadError::Line(number, e) => CommandError::Line(file, number, e),
-        ReadError::Input => CommandError::Input(file, Reason::Unknown),
-        ReadError::NoMemory => CommandError::NoMemory,
+        ListReadError::Line(number, e) => CommandError::Line(file, number, e),
+        ListReadError::Input => CommandError::Input(file, Reason::Unknown),
+        ListReadError::NoMemory => CommandError::NoMemory,
     }
 }
 
@@ -230,7 +233,7 @@ fn read_opened<'a, M: Memory, F: Sources>(
     sources: &F,
     form: RowForm,
     file: &'a str,
-) -> Result<Rows, CommandError<'a>>
+) -> Result<RowList, CommandError<'a>>
     ensures reads { ReadsFileRows form (F.contents sources.now file.now) file.now result }
     ensures cause { IfErr result (Cause (FileFails (F.contents sources.now) (F.reasons sources.now)) (M.refused memory.new)) }
 {
@@ -250,17 +253,17 @@ fn read_given<'a, M: Memory, F: Sources>(
     sources: &F,
     form: RowForm,
     file: &'a str,
-) -> Result<Given<Rows>, CommandError<'a>>
+) -> Result<FileContent<RowList>, CommandError<'a>>
     ensures gives { GivesRows form (F.contents sources.now file.now) file.now result }
     ensures cause { IfErr result (Cause (FileFails (F.contents sources.now) (F.reasons sources.now)) (M.refused memory.new)) }
 {
     let begun = begin_file(sources, file)?;
     if begun.is_stored() {
         let bytes = read_whole(memory, file, begun)?;
-        return Ok(Given::Stored(bytes));
+        return Ok(FileContent::Stored(bytes));
     }
     match read_rows(memory, form, sources.list_form(), begun) {
-        Ok(rows) => Ok(Given::Lines(rows)),
+        Ok(rows) => Ok(FileContent::Lines(rows)),
         Err(e) => Err(unread(file, e)),
     }
 }
@@ -271,20 +274,20 @@ fn give_rows<'a, M: Memory, F: Sources>(
     sources: &F,
     form: RowForm,
     file: &'a str,
-) -> Result<Given<Rows>, CommandError<'a>>
+) -> Result<FileContent<RowList>, CommandError<'a>>
     ensures gives { GivesRows form (F.contents sources.now file.now) file.now result }
     ensures cause { IfErr result (Cause (FileFails (F.contents sources.now) (F.reasons sources.now)) (M.refused memory.new)) }
 {
     match sources.kept(file) {
-        Some(Given::Lines(Said::Rows(said, kept))) if is_same_form(*said, form) => {
+        Some(FileContent::Lines(Said::Rows(said, kept))) if is_same_form(*said, form) => {
             let rows = kept.copy(memory.alloc());
             let rows = memory.watch(rows)?;
-            Ok(Given::Lines(rows))
+            Ok(FileContent::Lines(rows))
         }
-        Some(Given::Stored(kept)) => {
+        Some(FileContent::Stored(kept)) => {
             let bytes: Result<_, _> = kept.clone();
             let bytes = memory.watch(bytes)?;
-            Ok(Given::Stored(bytes))
+            Ok(FileContent::Stored(bytes))
         }
         _ => read_given(memory, sources, form, file),
     }
@@ -296,32 +299,32 @@ pub fn give_table<'a, M: Memory, F: Sources>(
     sources: &F,
     form: RowForm,
     file: &'a str,
-) -> Result<Given<SearchedTable>, CommandError<'a>>
+) -> Result<FileContent<SearchedTable>, CommandError<'a>>
     ensures gives { GivesTable form (F.contents sources.now file.now) file.now result }
     ensures cause { IfErr result (Cause (FileFails (F.contents sources.now) (F.reasons sources.now)) (M.refused memory.new)) }
 {
     match give_rows(memory, sources, form, file)? {
-        Given::Lines(rows) => {
+        FileContent::Lines(rows) => {
             let table = SearchedTable::of_rows(memory.alloc(), rows);
             let table = memory.watch(table)?;
-            Ok(Given::Lines(table))
+            Ok(FileContent::Lines(table))
         }
-        Given::Stored(bytes) => Ok(Given::Stored(bytes)),
+        FileContent::Stored(bytes) => Ok(FileContent::Stored(bytes)),
     }
 }
 
 /// The rows of a file, which is read unless it is read already.
-fn rows_of<'a, M: Memory, F: Sources>(
+fn rows_in_file<'a, M: Memory, F: Sources>(
     memory: &mut M,
     sources: &F,
     form: RowForm,
     file: &'a str,
-) -> Result<Rows, CommandError<'a>>
+) -> Result<RowList, CommandError<'a>>
     ensures reads { ReadsFileRows form (F.contents sources.now file.now) file.now result }
     ensures cause { IfErr result (Cause (FileFails (F.contents sources.now) (F.reasons sources.now)) (M.refused memory.new)) }
 {
     match sources.kept(file) {
-        Some(Given::Lines(Said::Rows(said, kept))) if is_same_form(*said, form) => {
+        Some(FileContent::Lines(Said::Rows(said, kept))) if is_same_form(*said, form) => {
             let rows = kept.copy(memory.alloc());
             let rows = memory.watch(rows)?;
             Ok(rows)
@@ -336,10 +339,10 @@ pub fn read_table<'a, M: Memory, F: Sources>(
     sources: &F,
     form: RowForm,
     file: &'a str,
-) -> Result<Table, CommandError<'a>>
+) -> Result<PlainTable, CommandError<'a>>
     ensures reads { ReadsTable form (F.contents sources.now file.now) file.now result }
     ensures cause { IfErr result (Cause (FileFails (F.contents sources.now) (F.reasons sources.now)) (M.refused memory.new)) }
 {
-    let rows = rows_of(memory, sources, form, file)?;
-    Ok(Table::of_rows(rows))
+    let rows = rows_in_file(memory, sources, form, file)?;
+    Ok(PlainTable::of_rows(rows))
 }

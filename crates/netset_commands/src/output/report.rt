@@ -14,7 +14,7 @@ use crate::output::answers::Verdict;
 use arrayvec::ArrayString;
 use cidr_io::block::Block;
 use cidr_io::decimal::decimal_text;
-use cidr_io::shown::{Part, excerpt};
+use cidr_io::shown::{MessagePart, excerpt};
 use cidr_io::sink::{OutputFailed, Sink};
 use cidr_lists::errors::{LineError, wrong_words};
 
@@ -67,7 +67,7 @@ pub fn write_line<S: Sink>(out: &mut S, parts: &[&str]) -> Result<(), OutputFail
 }
 
 /// Writes a message of several parts, and flushes. A sink that has failed before gets nothing.
-fn write_message<S: Sink>(out: &mut S, parts: &[Part<'_>]) -> Result<(), OutputFailed>
+fn write_message<S: Sink>(out: &mut S, parts: &[MessagePart<'_>]) -> Result<(), OutputFailed>
     ensures { Answered (S.state out.old) (S.state out.new) (flat_map part_text parts.now) result }
 {
     if out.failed() {
@@ -79,33 +79,33 @@ fn write_message<S: Sink>(out: &mut S, parts: &[Part<'_>]) -> Result<(), OutputF
 }
 
 /// The parts of the line of a line in error.
-fn fault_parts<'a>(file: &'a str, number: &'a str, message: &'a str) -> [Part<'a>; 6]
+fn fault_parts<'a>(file: &'a str, number: &'a str, message: &'a str) -> [MessagePart<'a>; 6]
     ensures { flat_map part_text result ≡ shown file.now ++ (codes ":" ++ (number.now ++ (codes ": " ++ (message.now ++ codes "\n")))) }
 {
     let colon: &'a str = ":";
     let gap: &'a str = ": ";
     let end: &'a str = "\n";
     [
-        Part::Shown(file),
-        Part::Plain(colon),
-        Part::Plain(number),
-        Part::Plain(gap),
-        Part::Plain(message),
-        Part::Plain(end),
+        MessagePart::Shown(file),
+        MessagePart::Plain(colon),
+        MessagePart::Plain(number),
+        MessagePart::Plain(gap),
+        MessagePart::Plain(message),
+        MessagePart::Plain(end),
     ]
 }
 
 /// The parts of the line of a file that can't be read.
-fn unread_parts<'a>(name: &'a str, why: &'a str) -> [Part<'a>; 4]
+fn unread_parts<'a>(name: &'a str, why: &'a str) -> [MessagePart<'a>; 4]
     ensures { flat_map part_text result ≡ shown name.now ++ (codes ": " ++ (why.now ++ codes "\n")) }
 {
     let gap: &'a str = ": ";
     let end: &'a str = "\n";
     [
-        Part::Shown(name),
-        Part::Plain(gap),
-        Part::Plain(why),
-        Part::Plain(end),
+        MessagePart::Shown(name),
+        MessagePart::Plain(gap),
+        MessagePart::Plain(why),
+        MessagePart::Plain(end),
     ]
 }
 
@@ -144,10 +144,10 @@ fn file_message(error: FileError) -> &'static str
 }
 
 /// The parts of the line of a file of look-ups.
-fn file_parts<'a>(name: &'a str, words: &'a str) -> [Part<'a>; 2]
+fn file_parts<'a>(name: &'a str, words: &'a str) -> [MessagePart<'a>; 2]
     ensures { flat_map part_text result ≡ shown name.now ++ words.now }
 {
-    [Part::Shown(name), Part::Plain(words)]
+    [MessagePart::Shown(name), MessagePart::Plain(words)]
 }
 
 /// Appends the line of a line in error to a block, as far as the sink takes lines.

@@ -12,7 +12,7 @@ use cidr_io::sink::{OutputFailed, Sink};
 use cidr_lists::formats::{Layout, network_text};
 
 /// Appends a network to a block, and what stands behind it in its line.
-fn push_row<S: Sink>(
+fn push_network_line<S: Sink>(
     block: &mut Block,
     out: &mut S,
     layout: Layout<'_>,
@@ -45,7 +45,7 @@ pub fn push_next<S: Sink>(
 {
     match last {
         None => block.push(out, layout.head.as_bytes()),
-        Some(network) => push_row(block, out, layout, &network, layout.between),
+        Some(network) => push_network_line(block, out, layout, &network, layout.between),
     }
 }
 
@@ -60,6 +60,6 @@ pub fn push_last<S: Sink>(
 {
     match last {
         None => block.push(out, layout.none.as_bytes()),
-        Some(network) => push_row(block, out, layout, &network, layout.tail),
+        Some(network) => push_network_line(block, out, layout, &network, layout.tail),
     }
 }

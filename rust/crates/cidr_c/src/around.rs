@@ -5,10 +5,10 @@ use crate::finding::{
     joined, put_found_address, put_found_network, put_found_networks, put_number, put_plain,
     yes_or_no,
 };
-use crate::values::{CValue, address_of, ip_network_of, network_of, put_address, put_network};
+use crate::values::{CValue, address_of, ip_network_of, put_address, put_network, value_network};
 use cidr::{IpAddr, IpCidr, Ipv4Addr, Ipv4Cidr};
 use cidr_ext::{CidrExt, IpCidrExt, NetworkExt};
-use cidr_lookup::Halves;
+use cidr_lookup::Ipv6Halves;
 
 /// The network of prefix length `len` that contains that of a host, or none where `len` is above the length of that.
 #[inline]
@@ -121,7 +121,7 @@ pub fn pcidr_nth_by_value(host: CValue, high: u64, low: u64, out: &mut CValue) -
 
 /// How many addresses the network of a host has, or none for ::/0, whose 2^128 two halves have no room for.
 #[inline]
-pub fn pcidr_address_count(host: &CValue, count: &mut Halves) -> u32 {
+pub fn pcidr_address_count(host: &CValue, count: &mut Ipv6Halves) -> u32 {
     match ip_network_of(host) {
         Some(network) => put_number(network.address_count(), count),
         None => NO_VALUE,
@@ -130,7 +130,7 @@ pub fn pcidr_address_count(host: &CValue, count: &mut Halves) -> u32 {
 
 /// The index of an address in the network of a host, or none where it is not in that: the inverse of `pcidr_nth_by_value`.
 #[inline]
-pub fn pcidr_position(host: &CValue, address: &CValue, index: &mut Halves) -> u32 {
+pub fn pcidr_position(host: &CValue, address: &CValue, index: &mut Ipv6Halves) -> u32 {
     match (ip_network_of(host), address_of(address)) {
         (Some(network), Some(address)) => put_number(network.position(&address), index),
         _ => NO_VALUE,
@@ -191,7 +191,7 @@ fn usable_count(network: &IpCidr) -> Option<usize> {
 /// The longest network that contains both of two networks, which may be `any`.
 #[inline]
 pub fn pcidr_spanning(one: &CValue, other: &CValue, out: &mut CValue) -> u32 {
-    match (network_of(one), network_of(other)) {
+    match (value_network(one), value_network(other)) {
         (Some(one), Some(other)) => {
             put_network(&one.spanning(&other), out);
             OK
@@ -212,7 +212,7 @@ pub fn pcidr_is_sibling_of(one: &CValue, other: &CValue) -> u32 {
 /// 1 where both values are networks that have an address in common, and 0 where not.
 #[inline]
 pub fn pcidr_overlaps(one: &CValue, other: &CValue) -> u32 {
-    match (network_of(one), network_of(other)) {
+    match (value_network(one), value_network(other)) {
         (Some(one), Some(other)) => yes_or_no(one.overlaps(&other)),
         _ => 0,
     }

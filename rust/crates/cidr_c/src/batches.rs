@@ -2,7 +2,7 @@
 
 use cidr_support::vec::Vec;
 use crate::codes::{NO_MEMORY, NO_VALUE};
-use crate::values::{CValue, network_of, put_network};
+use crate::values::{CValue, put_network, value_network};
 use cidr::AnyIpCidr;
 use cidr_support::alloc::Global;
 
@@ -12,7 +12,7 @@ pub fn networks_of(alloc: Global, values: &[CValue]) -> Result<Vec<AnyIpCidr>, u
         return Err(NO_MEMORY);
     };
     for value in values {
-        let Some(network) = network_of(value) else {
+        let Some(network) = value_network(value) else {
             return Err(NO_VALUE);
         };
         let Ok(()) = networks.push(network) else {

@@ -4,9 +4,9 @@
 use cidr_support::vec::Vec;
 use crate::codes::{NO_MEMORY, NO_VALUE};
 use crate::finding::{joined, put_found_address, put_number};
-use crate::values::{CValue, network_of};
+use crate::values::{CValue, value_network};
 use cidr::{AnyIpCidr, BitString, FamilyCidr, IpAddr, IpCidr, Ipv4Cidr, Ipv6Cidr};
-use cidr_lookup::Halves;
+use cidr_lookup::Ipv6Halves;
 use cidr_sets::NetworkSet;
 use cidr_support::alloc::Global;
 
@@ -25,7 +25,7 @@ fn family_set<C: FamilyCidr>(alloc: Global, values: &[CValue]) -> Result<Network
         return Err(NO_MEMORY);
     };
     for value in values {
-        let Some(network) = network_of(value) else {
+        let Some(network) = value_network(value) else {
             return Err(NO_VALUE);
         };
         if let Some(part) = part_of::<C>(&network) {
@@ -39,7 +39,7 @@ fn family_set<C: FamilyCidr>(alloc: Global, values: &[CValue]) -> Result<Network
 
 /// How many addresses of a family some networks have.
 #[inline]
-fn counted<C: FamilyCidr>(alloc: Global, networks: &[CValue], count: &mut Halves) -> u32 {
+fn counted<C: FamilyCidr>(alloc: Global, networks: &[CValue], count: &mut Ipv6Halves) -> u32 {
     match family_set::<C>(alloc, networks) {
         Ok(set) => put_number(set.address_count(), count),
         Err(code) => code,
@@ -72,13 +72,21 @@ fn nth_of<C: FamilyCidr>(set: &NetworkSet<C>, index: u128) -> Option<IpAddr> {
 
 /// How many IPv4 addresses a list of networks has.
 #[inline]
-pub fn pcidr_count_ipv4(alloc: Global, networks: &[CValue], count: &mut Halves) -> u32 {
+pub fn pcidr_count_ipv4(
+    alloc: Global,
+    networks: &[CValue],
+    count: &mut Ipv6Halves,
+) -> u32 {
     counted::<Ipv4Cidr>(alloc, networks, count)
 }
 
 /// How many IPv6 addresses a list of networks has, or none where it has all, whose 2^128 two halves have no room for.
 #[inline]
-pub fn pcidr_count_ipv6(alloc: Global, networks: &[CValue], count: &mut Halves) -> u32 {
+pub fn pcidr_count_ipv6(
+    alloc: Global,
+    networks: &[CValue],
+    count: &mut Ipv6Halves,
+) -> u32 {
     counted::<Ipv6Cidr>(alloc, networks, count)
 }
 

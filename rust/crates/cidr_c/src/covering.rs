@@ -4,7 +4,7 @@
 use cidr_support::vec::Vec;
 use crate::codes::{NO_MEMORY, NO_VALUE};
 use crate::finding::put_list;
-use crate::values::{CValue, network_of};
+use crate::values::{CValue, value_network};
 use cidr::AnyIpCidr;
 use cidr_support::alloc::Global;
 
@@ -42,7 +42,7 @@ fn indexes_of<R: Relation>(
 ) -> Result<Vec<usize>, u32> {
     let mut indexes = Vec::new(alloc);
     for i in 0..networks.len() {
-        let Some(network) = network_of(&networks[i]) else {
+        let Some(network) = value_network(&networks[i]) else {
             return Err(NO_VALUE);
         };
         if R::holds(&network, asked) {
@@ -63,7 +63,7 @@ fn related<R: Relation>(
     out: &mut [usize],
     count: &mut usize,
 ) -> u32 {
-    let Some(asked) = network_of(asked) else {
+    let Some(asked) = value_network(asked) else {
         return NO_VALUE;
     };
     match indexes_of::<R>(alloc, networks, &asked) {

@@ -1,11 +1,13 @@
 //! The calls for C. Each passes on what it is given, which is as the header says: see `pointers`.
 #![allow(unsafe_code, clippy::missing_safety_doc)]
 
-use cidr_lookup::Halves;
+use cidr_lookup::Ipv6Halves;
 use cidr_support::alloc::Global;
 use crate::files::CFile;
 use crate::files::CFound;
 use crate::forwarding::CRow;
+use crate::plans::CPlanFault;
+use crate::plans::CPlanRow;
 use crate::pointers::{slice, slice_mut};
 use crate::ranges::CRange;
 use crate::rules::CRule;
@@ -60,12 +62,12 @@ pub unsafe extern "C" fn pcidr_nth_by_value(host: CValue, high: u64, low: u64, o
 }
 
 #[no_mangle]
-pub unsafe extern "C" fn pcidr_address_count(host: *const CValue, count: *mut Halves) -> u32 {
+pub unsafe extern "C" fn pcidr_address_count(host: *const CValue, count: *mut Ipv6Halves) -> u32 {
     crate::around::pcidr_address_count(&*host, &mut *count)
 }
 
 #[no_mangle]
-pub unsafe extern "C" fn pcidr_position(host: *const CValue, address: *const CValue, index: *mut Halves) -> u32 {
+pub unsafe extern "C" fn pcidr_position(host: *const CValue, address: *const CValue, index: *mut Ipv6Halves) -> u32 {
     crate::around::pcidr_position(&*host, &*address, &mut *index)
 }
 
@@ -125,12 +127,12 @@ pub unsafe extern "C" fn pcidr_is_disjoint(these: *const CValue, these_len: usiz
 }
 
 #[no_mangle]
-pub unsafe extern "C" fn pcidr_count_ipv4(networks: *const CValue, networks_len: usize, count: *mut Halves) -> u32 {
+pub unsafe extern "C" fn pcidr_count_ipv4(networks: *const CValue, networks_len: usize, count: *mut Ipv6Halves) -> u32 {
     crate::counting::pcidr_count_ipv4(Global, slice(networks, networks_len), &mut *count)
 }
 
 #[no_mangle]
-pub unsafe extern "C" fn pcidr_count_ipv6(networks: *const CValue, networks_len: usize, count: *mut Halves) -> u32 {
+pub unsafe extern "C" fn pcidr_count_ipv6(networks: *const CValue, networks_len: usize, count: *mut Ipv6Halves) -> u32 {
     crate::counting::pcidr_count_ipv6(Global, slice(networks, networks_len), &mut *count)
 }
 
@@ -377,6 +379,16 @@ pub unsafe extern "C" fn pcidr_step_down_by_value(host: CValue, high: u64, low: 
 #[no_mangle]
 pub unsafe extern "C" fn pcidr_at_by_value(host: CValue, high: u64, low: u64, out: *mut CValue) -> u32 {
     crate::parts::pcidr_at_by_value(host, high, low, &mut *out)
+}
+
+#[no_mangle]
+pub unsafe extern "C" fn pcidr_read_plan(text: *const u8, text_len: usize, host_bits: u32, rows: *mut CPlanRow, rows_len: usize, count: *mut usize, faults: *mut CPlanFault, faults_len: usize, wrong: *mut usize) -> u32 {
+    crate::plans::pcidr_read_plan(Global, slice(text, text_len), host_bits, slice_mut(rows, rows_len), &mut *count, slice_mut(faults, faults_len), &mut *wrong)
+}
+
+#[no_mangle]
+pub unsafe extern "C" fn pcidr_plan_message(line: *const u8, line_len: usize, host_bits: u32, message: *mut u8, message_len: usize) -> u32 {
+    crate::plans::pcidr_plan_message(slice(line, line_len), host_bits, slice_mut(message, message_len))
 }
 
 #[no_mangle]

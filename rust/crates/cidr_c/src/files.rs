@@ -3,7 +3,9 @@
 use crate::codes::{LONG, NO_FILE, NO_ROOM, OK, OTHER_VERSION, SHORT, VALUES};
 use crate::tables::{NO_ROW, words_fault_code};
 use crate::values::CValue;
-use cidr_files::{Counts, Family, Fault, Ipv4Bytes, Ipv6Bytes, TableFault, checked, counts, open};
+use cidr_files::{
+    Counts, FileAddress, FileFault, Ipv4Bytes, Ipv6Bytes, TableFault, checked, counts, open,
+};
 use cidr_lookup::find;
 use cidr_support::alloc::Global;
 
@@ -139,13 +141,13 @@ pub fn pcidr_set_has_each(
 
 /// The number of what is wrong with a file.
 #[inline]
-fn file_fault_code(fault: &Fault) -> u32 {
+fn file_fault_code(fault: &FileFault) -> u32 {
     match fault {
-        Fault::Magic => NO_FILE,
-        Fault::Old | Fault::Version(_) => OTHER_VERSION,
-        Fault::Short => SHORT,
-        Fault::Long => LONG,
-        Fault::Ipv4(fault) | Fault::Ipv6(fault) => table_fault_code(fault),
+        FileFault::Magic => NO_FILE,
+        FileFault::Old | FileFault::Version(_) => OTHER_VERSION,
+        FileFault::Short => SHORT,
+        FileFault::Long => LONG,
+        FileFault::Ipv4(fault) | FileFault::Ipv6(fault) => table_fault_code(fault),
     }
 }
 
@@ -207,7 +209,7 @@ fn found_in(bytes: &[u8], file: &CFile, asked: &CValue) -> CFound {
 /// What is found in a table. No branch hangs on whether there is a row, which a processor can't foresee: where there is
 /// none, the offsets of the first row are read.
 #[inline(always)]
-fn found_at<W: Family>(bytes: &[u8], table: &CFileTable, address: W) -> CFound {
+fn found_at<W: FileAddress>(bytes: &[u8], table: &CFileTable, address: W) -> CFound {
     let end = end_at(bytes, table, address);
     if table.rows == 0 {
         return nothing();
@@ -217,7 +219,7 @@ fn found_at<W: Family>(bytes: &[u8], table: &CFileTable, address: W) -> CFound {
 
 /// How many rows there are up to that of the longest match, or 0 where there is none.
 #[inline(always)]
-fn end_at<W: Family>(bytes: &[u8], table: &CFileTable, address: W) -> u32 {
+fn end_at<W: FileAddress>(bytes: &[u8], table: &CFileTable, address: W) -> u32 {
     match row_at(bytes, table, address) {
         Some(row) => row as u32 + 1,
         None => 0,
@@ -246,7 +248,7 @@ fn found_of(end: u32, place: (usize, u32)) -> CFound {
 
 /// The row of the longest match of an address in a table, if what tells it lies inside of the bytes.
 #[inline(always)]
-fn row_at<W: Family>(bytes: &[u8], table: &CFileTable, address: W) -> Option<usize> {
+fn row_at<W: FileAddress>(bytes: &[u8], table: &CFileTable, address: W) -> Option<usize> {
     let first = part_at(bytes, table.first, 4 * table.entries as usize)?;
     let words = part_at(bytes, table.words, 4 * table.words_len as usize)?;
     let (first, _) = first.as_chunks::<4>();
@@ -303,7 +305,7 @@ fn has_in(bytes: &[u8], file: &CFile, asked: &CValue) -> u8 {
 
 /// 1 where an address is in one of the networks of a table, and 0 where not.
 #[inline(always)]
-fn has_at<W: Family>(bytes: &[u8], table: &CFileTable, address: W) -> u8 {
+fn has_at<W: FileAddress>(bytes: &[u8], table: &CFileTable, address: W) -> u8 {
     match row_at(bytes, table, address) {
         Some(_) => 1,
         None => 0,

@@ -2,7 +2,7 @@
 
 use crate::codes::{NO_ROOM, NO_VALUE, OK};
 use crate::reading::pcidr_read_network;
-use crate::values::{CValue, network_of};
+use crate::values::{CValue, value_network};
 use cidr_io::lines::feed_in;
 
 /// Reads networks, one a line, into the front of a room, and says how many lines that were: 0 at the end of the text,
@@ -52,7 +52,7 @@ fn read_into(line: &[u8], out: &mut [CValue], place: usize) -> u32 {
 pub fn pcidr_print_lines(networks: &[CValue], out: &mut [u8], count: &mut usize) -> u32 {
     let mut end = 0;
     for value in networks {
-        let Some(network) = network_of(value) else {
+        let Some(network) = value_network(value) else {
             return NO_VALUE;
         };
         match print_line(network.to_text().as_str(), out, end) {

@@ -39,7 +39,7 @@ pub fn pcidr_read_list(
 
 /// What is done with set bits after a prefix, and whether masks are read.
 #[inline]
-fn host_bits_by(number: u32) -> HostBits {
+pub fn host_bits_by(number: u32) -> HostBits {
     match number {
         1 => HostBits::Cleared,
         2 => HostBits::RefusedWithMasks,

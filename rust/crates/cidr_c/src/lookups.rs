@@ -4,7 +4,7 @@ use cidr_support::vec::Vec;
 use crate::batches::networks_of;
 use crate::codes::{NO_MEMORY, NO_ROOM, NO_VALUE, OK};
 use crate::sets::set_of;
-use crate::values::{CValue, network_of};
+use crate::values::{CValue, value_network};
 use cidr::AnyIpCidr;
 use cidr_sets::NetworkSet;
 use cidr_table::LpmTable;
@@ -28,7 +28,7 @@ pub fn pcidr_contains_each(
         return NO_ROOM;
     }
     for i in 0..asked.len() {
-        let Some(network) = network_of(&asked[i]) else {
+        let Some(network) = value_network(&asked[i]) else {
             return NO_VALUE;
         };
         out[i] = held(&set, &network);
@@ -60,7 +60,7 @@ pub fn pcidr_longest_match_each(
         return NO_ROOM;
     }
     for i in 0..asked.len() {
-        let Some(network) = network_of(&asked[i]) else {
+        let Some(network) = value_network(&asked[i]) else {
             return NO_VALUE;
         };
         out[i] = index_of(&table, &network);
@@ -71,13 +71,13 @@ pub fn pcidr_longest_match_each(
 /// The table of networks, each with its last index, or the number of the error.
 #[inline]
 pub fn table_of(alloc: Global, values: &[CValue]) -> Result<LpmTable<AnyIpCidr, usize>, u32> {
-    let rows = rows_of(alloc, values)?;
+    let rows = indexed_rows(alloc, values)?;
     Ok(LpmTable::from_rows(rows))
 }
 
 /// The networks that values are, each with its index, or the number of the error.
 #[inline]
-pub fn rows_of(alloc: Global, values: &[CValue]) -> Result<Vec<(AnyIpCidr, usize)>, u32> {
+pub fn indexed_rows(alloc: Global, values: &[CValue]) -> Result<Vec<(AnyIpCidr, usize)>, u32> {
     let networks = networks_of(alloc, values)?;
     match with_indexes(alloc, networks.as_slice()) {
         Ok(rows) => Ok(rows),

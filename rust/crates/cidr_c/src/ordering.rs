@@ -3,8 +3,8 @@
 use cidr_support::vec::Vec;
 use crate::codes::{NO_MEMORY, NO_ROOM, NO_VALUE, OK};
 use crate::finding::put_list;
-use crate::lookups::{index_of, rows_of, table_of};
-use crate::values::{CValue, network_of};
+use crate::lookups::{index_of, indexed_rows, table_of};
+use crate::values::{CValue, value_network};
 use cidr::{AnyIpCidr, NetworkBits};
 use cidr_ext::NetworkExt;
 use cidr_table::LpmTable;
@@ -56,7 +56,7 @@ pub fn pcidr_sort_order(
     out: &mut [usize],
     count: &mut usize,
 ) -> u32 {
-    match rows_of(alloc, networks) {
+    match indexed_rows(alloc, networks) {
         Ok(rows) => put_indexes(alloc, sorted(rows).as_slice(), out, count),
         Err(code) => code,
     }
@@ -98,7 +98,7 @@ pub fn pcidr_nearest_each(alloc: Global, networks: &[CValue], out: &mut [usize])
         return NO_ROOM;
     }
     for i in 0..networks.len() {
-        let Some(network) = network_of(&networks[i]) else {
+        let Some(network) = value_network(&networks[i]) else {
             return NO_VALUE;
         };
         out[i] = nearest_of(&table, &network);

@@ -3,8 +3,8 @@
 use crate::codes::{NO_VALUE, OK, WRAPPED, order_code};
 use crate::finding::joined;
 use crate::values::{
-    CValue, host_of, ipv4_network, ipv6_network, is_ipv4, is_ipv6, network_of, put_address,
-    put_host, put_network,
+    CValue, host_of, ipv4_network, ipv6_network, is_ipv4, is_ipv6, put_address, put_host,
+    put_network, value_network,
 };
 use cidr::{AnyIpCidr, BitString, IpInet, NetworkBits};
 use cidr_sets::is_inside;
@@ -63,7 +63,7 @@ pub fn pcidr_network_by_value(host: CValue, out: &mut CValue) -> u32 {
 /// 1 where the value is a network, as each address is, and 0 where not.
 #[inline]
 pub fn pcidr_check(value: &CValue) -> u32 {
-    match network_of(value) {
+    match value_network(value) {
         Some(_) => 1,
         None => 0,
     }
@@ -82,7 +82,7 @@ pub fn pcidr_contains(outer: &CValue, inner: &CValue) -> u32 {
             return contains(&outer, &inner);
         }
     }
-    match (network_of(outer), network_of(inner)) {
+    match (value_network(outer), value_network(inner)) {
         (Some(outer), Some(inner)) => contains(&outer, &inner),
         _ => 0,
     }
@@ -121,7 +121,7 @@ pub fn pcidr_compare(one: &CValue, other: &CValue) -> u32 {
             return compared(&one, &other);
         }
     }
-    match (network_of(one), network_of(other)) {
+    match (value_network(one), value_network(other)) {
         (Some(one), Some(other)) => compared(&one, &other),
         (Some(_), None) => order_code(Ordering::Less),
         (None, Some(_)) => order_code(Ordering::Greater),

@@ -1,7 +1,7 @@
 //! Values as strings and as compact bytes.
 
 use crate::codes::message;
-use crate::values::{CValue, address_of, host_of, network_of};
+use crate::values::{CValue, address_of, host_of, value_network};
 
 /// Writes a string with a 0 behind, if there is room for both, and returns its length.
 #[inline]
@@ -61,7 +61,7 @@ pub fn pcidr_print_host_with_length(host: &CValue, out: &mut [u8]) -> usize {
 /// no network.
 #[inline]
 pub fn pcidr_print_network(network: &CValue, out: &mut [u8]) -> usize {
-    match network_of(network) {
+    match value_network(network) {
         Some(network) => print(network.to_text().as_str(), out),
         None => 0,
     }
@@ -71,7 +71,7 @@ pub fn pcidr_print_network(network: &CValue, out: &mut [u8]) -> usize {
 /// where the value is no network.
 #[inline]
 pub fn pcidr_print_network_with_length(network: &CValue, out: &mut [u8]) -> usize {
-    match network_of(network) {
+    match value_network(network) {
         Some(network) => print(network.with_length().to_text().as_str(), out),
         None => 0,
     }
@@ -80,7 +80,7 @@ pub fn pcidr_print_network_with_length(network: &CValue, out: &mut [u8]) -> usiz
 /// Writes the compact bytes of a network, and returns how many they are: 1, 5 or 17; 0 where the value is no network.
 #[inline]
 pub fn pcidr_network_to_bytes(network: &CValue, out: &mut [u8]) -> usize {
-    match network_of(network) {
+    match value_network(network) {
         Some(network) => write(network.to_compact().as_slice(), out),
         None => 0,
     }

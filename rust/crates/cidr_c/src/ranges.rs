@@ -74,13 +74,13 @@ fn ranges_of(alloc: Global, set: &NetworkSet<AnyIpCidr>) -> Result<Vec<CRange>, 
 #[inline]
 fn range_of(range: &AddressRange<IpAddr>) -> CRange {
     CRange {
-        first: value_of(&range.first),
-        last: value_of(&range.last),
+        first: address_value(&range.first),
+        last: address_value(&range.last),
     }
 }
 
 /// An address as C has it.
-fn value_of(address: &IpAddr) -> CValue {
+fn address_value(address: &IpAddr) -> CValue {
     let mut value = CValue {
         high: 0,
         low: 0,

@@ -4,7 +4,7 @@
 
 use crate::codes::{NO_ROOM, NO_VALUE, NONE, OK, PRESENT};
 use crate::finding::{put_list, put_plain};
-use crate::values::{CValue, network_at, network_of};
+use crate::values::{CValue, network_at, value_network};
 use cidr::AnyIpCidr;
 use cidr_rows::{Keys, covered, covering, find, insert, longest, remove};
 
@@ -13,11 +13,11 @@ const MOST: usize = 130;
 
 /// The networks of an array.
 #[derive(Clone, Copy)]
-struct Networks<'a> {
+struct NetworkKeys<'a> {
     values: &'a [CValue],
 }
 
-impl<'a> Keys<AnyIpCidr> for Networks<'a> {
+impl<'a> Keys<AnyIpCidr> for NetworkKeys<'a> {
     #[inline]
     fn len(&self) -> usize {
         self.values.len()
@@ -31,10 +31,10 @@ impl<'a> Keys<AnyIpCidr> for Networks<'a> {
 
 /// Where a network stands: 0 and its index; or the number of none, and the index before which it would stand.
 pub fn pcidr_rows_find(networks: &[CValue], asked: &CValue, index: &mut usize) -> u32 {
-    let Some(asked) = network_of(asked) else {
+    let Some(asked) = value_network(asked) else {
         return NO_VALUE;
     };
-    match find(&Networks { values: networks }, &asked) {
+    match find(&NetworkKeys { values: networks }, &asked) {
         Ok(place) => {
             *index = place;
             OK
@@ -49,8 +49,8 @@ pub fn pcidr_rows_find(networks: &[CValue], asked: &CValue, index: &mut usize) -
 /// The longest network that a network, or an address, is in: 0 and its index, or the number of none.
 #[inline]
 pub fn pcidr_rows_longest(networks: &[CValue], asked: &CValue, index: &mut usize) -> u32 {
-    match network_of(asked) {
-        Some(asked) => put_plain(longest(&Networks { values: networks }, &asked), index),
+    match value_network(asked) {
+        Some(asked) => put_plain(longest(&NetworkKeys { values: networks }, &asked), index),
         None => NO_VALUE,
     }
 }
@@ -63,10 +63,10 @@ pub fn pcidr_rows_covered(
     from: &mut usize,
     to: &mut usize,
 ) -> u32 {
-    let Some(outer) = network_of(outer) else {
+    let Some(outer) = value_network(outer) else {
         return NO_VALUE;
     };
-    let (first, end) = covered(&Networks { values: networks }, &outer);
+    let (first, end) = covered(&NetworkKeys { values: networks }, &outer);
     *from = first;
     *to = end;
     OK
@@ -81,11 +81,11 @@ pub fn pcidr_rows_covering(
     out: &mut [usize],
     count: &mut usize,
 ) -> u32 {
-    let Some(asked) = network_of(asked) else {
+    let Some(asked) = value_network(asked) else {
         return NO_VALUE;
     };
     let mut indexes = [0; MOST];
-    let found = covering(&Networks { values: networks }, &asked, &mut indexes);
+    let found = covering(&NetworkKeys { values: networks }, &asked, &mut indexes);
     put_list(&indexes[..found], out, count)
 }
 

@@ -4,7 +4,7 @@ use cidr_support::vec::Vec;
 use crate::codes::{NO_MEMORY, NO_VALUE};
 use crate::finding::{put_list, yes_or_no};
 use crate::sets::deliver;
-use crate::values::{CValue, network_of};
+use crate::values::{CValue, value_network};
 use cidr::AnyIpCidr;
 use cidr_sets::access::{Action, Rule, deciding, permitted, shadowed};
 use cidr_support::alloc::Global;
@@ -25,7 +25,7 @@ fn rules_of(alloc: Global, rules: &[CRule]) -> Result<Vec<Rule<AnyIpCidr>>, u32>
         return Err(NO_MEMORY);
     };
     for rule in rules {
-        let Some(network) = network_of(&rule.network) else {
+        let Some(network) = value_network(&rule.network) else {
             return Err(NO_VALUE);
         };
         let action = action_of(rule);
@@ -49,7 +49,7 @@ fn action_of(rule: &CRule) -> Action {
 /// 1 where all values are networks and the access list permits the address, and 0 where not. A larger network is taken as a
 /// whole: a rule for a part of it doesn't count. It goes through the rules twice at most, and allocates nothing.
 pub fn pcidr_permits(rules: &[CRule], address: &CValue) -> u32 {
-    let Some(address) = network_of(address) else {
+    let Some(address) = value_network(address) else {
         return 0;
     };
     if are_rules(rules) {
@@ -62,7 +62,9 @@ pub fn pcidr_permits(rules: &[CRule], address: &CValue) -> u32 {
 /// Whether each rule is for a network.
 #[inline]
 fn are_rules(rules: &[CRule]) -> bool {
-    rules.iter().all(|rule| network_of(&rule.network).is_some())
+    rules
+        .iter()
+        .all(|rule| value_network(&rule.network).is_some())
 }
 
 /// Whether the first rule whose network contains the address permits it.
@@ -79,7 +81,7 @@ fn is_permitted(rules: &[CRule], address: &AnyIpCidr) -> bool {
 /// Whether the network of a rule contains the address.
 #[inline]
 fn is_for(rule: &CRule, address: &AnyIpCidr) -> bool {
-    match network_of(&rule.network) {
+    match value_network(&rule.network) {
         Some(network) => network.contains_cidr(address),
         None => false,
     }
@@ -140,7 +142,7 @@ pub fn pcidr_deciding(
         Ok(rules) => rules,
         Err(code) => return code,
     };
-    let Some(network) = network_of(network) else {
+    let Some(network) = value_network(network) else {
         return NO_VALUE;
     };
     match deciding(alloc, rules.as_slice(), &network) {

@@ -4,7 +4,9 @@ use cidr_support::vec::Vec;
 use crate::codes::{NO_MEMORY, NO_ROOM, NO_TABLE, NO_VALUE, OK, TOO_MANY};
 use crate::values::CValue;
 use cidr_files::{Ipv4Bytes, Ipv6Bytes};
-use cidr_lookup::{Address, Fault, Halves, Key, LookupTable, TableError, build, check, find};
+use cidr_lookup::{
+    Address, Ipv6Halves, Key, LookupTable, TableError, WordsFault, build, check, find,
+};
 use cidr_support::alloc::{AllocError, Global};
 
 /// Where a table lies. The calls on whole tables take its parts one by one; a look-up, whose time they count in, takes the
@@ -49,7 +51,7 @@ pub const NO_ROW: u32 = u32::MAX;
 const NO_LENGTH: u32 = 255;
 
 /// A family of addresses, as values have them.
-pub trait Family: Sized + Address {
+pub trait FromValue: Sized + Address {
     /// The value as a key, which is no network where the value is none of the family.
     fn key_in(value: &CValue) -> Key<Self>;
 
@@ -57,7 +59,7 @@ pub trait Family: Sized + Address {
     fn address_in(value: &CValue) -> Option<Self>;
 }
 
-impl Family for u32 {
+impl FromValue for u32 {
     #[inline(always)]
     fn key_in(value: &CValue) -> Key<u32> {
         if value.high != 0 || value.low >= 1 << 32 {
@@ -81,10 +83,10 @@ impl Family for u32 {
     }
 }
 
-impl Family for Halves {
+impl FromValue for Ipv6Halves {
     #[inline(always)]
-    fn key_in(value: &CValue) -> Key<Halves> {
-        let address = Halves {
+    fn key_in(value: &CValue) -> Key<Ipv6Halves> {
+        let address = Ipv6Halves {
             high: value.high,
             low: value.low,
         };
@@ -101,18 +103,18 @@ impl Family for Halves {
     }
 
     #[inline(always)]
-    fn address_in(value: &CValue) -> Option<Halves> {
+    fn address_in(value: &CValue) -> Option<Ipv6Halves> {
         if value.tag != 192 {
             return None;
         }
-        Some(Halves {
+        Some(Ipv6Halves {
             high: value.high,
             low: value.low,
         })
     }
 }
 
-impl Family for Ipv4Bytes {
+impl FromValue for Ipv4Bytes {
     #[inline]
     fn key_in(value: &CValue) -> Key<Ipv4Bytes> {
         let key = u32::key_in(value);
@@ -128,9 +130,9 @@ impl Family for Ipv4Bytes {
     }
 }
 
-impl Family for Ipv6Bytes {
+impl FromValue for Ipv6Bytes {
     fn key_in(value: &CValue) -> Key<Ipv6Bytes> {
-        let key = Halves::key_in(value);
+        let key = Ipv6Halves::key_in(value);
         Key {
             address: [
                 key.address.high.to_le_bytes(),
@@ -142,14 +144,14 @@ impl Family for Ipv6Bytes {
 
     #[inline(always)]
     fn address_in(value: &CValue) -> Option<Ipv6Bytes> {
-        let address = Halves::address_in(value)?;
+        let address = Ipv6Halves::address_in(value)?;
         Some([address.high.to_le_bytes(), address.low.to_le_bytes()])
     }
 }
 
 /// Values as keys.
 #[inline]
-pub fn keys_in<A: Family>(alloc: Global, values: &[CValue]) -> Result<Vec<Key<A>>, AllocError> {
+pub fn keys_in<A: FromValue>(alloc: Global, values: &[CValue]) -> Result<Vec<Key<A>>, AllocError> {
     let mut keys = Vec::with_capacity(alloc, values.len())?;
     for value in values {
         keys.push(A::key_in(value))?;
@@ -158,7 +160,7 @@ pub fn keys_in<A: Family>(alloc: Global, values: &[CValue]) -> Result<Vec<Key<A>
 }
 
 /// Builds the table of networks, and puts it into a room.
-fn put_table<A: Family>(
+fn put_table<A: FromValue>(
     alloc: Global,
     networks: &[CValue],
     first: &mut [u32],
@@ -211,16 +213,17 @@ pub fn table_error_code(error: &TableError) -> u32 {
 
 /// The number of what is wrong with the words of a table.
 #[inline]
-pub fn words_fault_code(fault: &Fault) -> u32 {
+pub fn words_fault_code(fault: &WordsFault) -> u32 {
     match fault {
-        Fault::Keys(error) => table_error_code(error),
-        Fault::Steps | Fault::TooLong | Fault::First(_) | Fault::Word(_) => NO_TABLE,
+        WordsFault::Keys(error) => table_error_code(error),
+        WordsFault::Steps | WordsFault::TooLong | WordsFault::First(_) | WordsFault::Word(_) =>
+            NO_TABLE,
     }
 }
 
 /// 0 where arrays are the table of networks, or the number of what is wrong with them.
 #[inline]
-fn check_code<A: Family>(
+fn check_code<A: FromValue>(
     alloc: Global,
     networks: &[CValue],
     first: &[u32],
@@ -238,11 +241,11 @@ fn check_code<A: Family>(
 
 /// The row of the longest match, or that which stands for none.
 #[inline(always)]
-fn row_in<A: Family>(first: &[u32], words: &[u32], steps: u32, rows: u32, asked: &CValue) -> u32 {
+fn row_in<A: FromValue>(first: &[u32], words: &[u32], steps: u32, rows: u32, asked: &CValue) -> u32 {
     let Some(address) = A::address_in(asked) else {
         return NO_ROW;
     };
-    match row_of(first, words, steps, rows, address) {
+    match longest_row(first, words, steps, rows, address) {
         Some(row) => row as u32,
         None => NO_ROW,
     }
@@ -250,7 +253,7 @@ fn row_in<A: Family>(first: &[u32], words: &[u32], steps: u32, rows: u32, asked:
 
 /// The row of the longest match of an address, if it is one of so many.
 #[inline(always)]
-fn row_of<A: Address>(
+fn longest_row<A: Address>(
     first: &[u32],
     words: &[u32],
     steps: u32,
@@ -266,7 +269,7 @@ fn row_of<A: Address>(
 
 /// The rows of many.
 #[inline]
-fn put_rows<A: Family>(
+fn put_rows<A: FromValue>(
     first: &[u32],
     words: &[u32],
     steps: u32,
@@ -309,7 +312,7 @@ pub fn pcidr_ipv6_table_build(
     words: &mut [u32],
     sizes: &mut CTableSizes,
 ) -> u32 {
-    put_table::<Halves>(alloc, networks, first, words, sizes)
+    put_table::<Ipv6Halves>(alloc, networks, first, words, sizes)
 }
 
 /// 0 where arrays are the table of the IPv4 networks, else the number of the first error: no memory; the steps, or more
@@ -335,7 +338,7 @@ pub fn pcidr_ipv6_table_check(
     words: &[u32],
     steps: u32,
 ) -> u32 {
-    check_code::<Halves>(alloc, networks, first, words, steps)
+    check_code::<Ipv6Halves>(alloc, networks, first, words, steps)
 }
 
 /// The row of the longest IPv4 network that an address is in, or `u32::MAX` where it is in none, and of a value that is
@@ -359,7 +362,7 @@ pub fn pcidr_ipv6_table_lookup(
     table: &CTable,
     address: &CValue,
 ) -> u32 {
-    row_in::<Halves>(first, words, table.steps, table.rows, address)
+    row_in::<Ipv6Halves>(first, words, table.steps, table.rows, address)
 }
 
 /// The row of each of many addresses, at its index of `out`: 0, or the number of too little room.
@@ -383,5 +386,5 @@ pub fn pcidr_ipv6_table_lookup_each(
     asked: &[CValue],
     out: &mut [u32],
 ) -> u32 {
-    put_rows::<Halves>(first, words, table.steps, table.rows, asked, out)
+    put_rows::<Ipv6Halves>(first, words, table.steps, table.rows, asked, out)
 }

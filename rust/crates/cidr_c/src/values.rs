@@ -88,7 +88,7 @@ pub fn ipv6_network(value: &CValue) -> Option<Ipv6Cidr> {
 
 /// The network that a value is, if it is one.
 #[inline(always)]
-pub fn network_of(value: &CValue) -> Option<AnyIpCidr> {
+pub fn value_network(value: &CValue) -> Option<AnyIpCidr> {
     if value.tag == ANY {
         if value.high != 0 || value.low != 0 {
             return None;

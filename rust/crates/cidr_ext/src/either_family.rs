@@ -103,8 +103,6 @@ impl IpCidrExt for IpCidr {
     }
 
     fn halves(&self) -> Option<(IpCidr, IpCidr)> {
-        // the call tells the proof that the prefix length fits
-        let _len = self.network_length();
         match self {
             IpCidr::V4(network) => {
                 let (lower, upper) = network.halves()?;

@@ -119,15 +119,11 @@ where
 {
     #[inline]
     fn to_mask_text(&self) -> ArrayString<79> {
-        // the call tells the proof that the prefix length fits
-        let _len = self.network_length();
         with_mask(self.first_address(), self.mask())
     }
 
     #[inline]
     fn to_host_mask_text(&self) -> ArrayString<79> {
-        // the call tells the proof that the prefix length fits
-        let _len = self.network_length();
         with_mask(self.first_address(), self.host_mask())
     }
 
@@ -226,8 +222,6 @@ where
     let Some(len) = length_of_mask(mask) else {
         return Err(MaskParseError::NonContiguousMask);
     };
-    // the call tells the proof how many bits the address has
-    let _number = address.to_number();
     C::new(address, len)
         .ok()
         .ok_or(MaskParseError::InvalidHostPart)

@@ -1,9 +1,9 @@
 //! Files of rows.
 
 use cidr_support::vec::Vec;
+use crate::address::{FileAddress, Ipv4Bytes, Ipv6Bytes};
 use crate::checking::are_offsets;
-use crate::contents::{Contents, Rows};
-use crate::family::{Family, Ipv4Bytes, Ipv6Bytes};
+use crate::contents::{Contents, FileRows};
 use crate::faults::WriteError;
 use crate::writing::file_of;
 use cidr_lookup::{LookupTable, TableError, build};
@@ -22,11 +22,11 @@ use cidr_support::alloc::Global;
 /// # use cidr_lookup::{Address, Key};
 /// # use cidr_support::{alloc::Global, vec::Vec};
 /// # use core::net::{Ipv4Addr, Ipv6Addr};
-/// # fn name<'a>(table: &Table<'a>, address: Ipv4Addr) -> Option<&'a str> {
+/// # fn name<'a>(table: &FileTables<'a>, address: Ipv4Addr) -> Option<&'a str> {
 /// #     core::str::from_utf8(lookup(&table.ipv4, address.to_bits().to_le_bytes())?.1).ok()
 /// # }
 /// let ipv4 = [Key { address: [0, 0, 0, 10], len: 8 }, Key { address: [0, 0, 1, 10], len: 16 }, Key { address: [0, 2, 0, 192], len: 24 }];
-/// let ipv4 = Rows {
+/// let ipv4 = FileRows {
 ///     keys: &ipv4,
 ///     offsets: &[0, 5, 10, 14],
 ///     values: b"outerinnertest",
@@ -41,15 +41,15 @@ use cidr_support::alloc::Global;
 /// # use cidr_lookup::{Address, Key};
 /// # use cidr_support::{alloc::Global, vec::Vec};
 /// # use core::net::{Ipv4Addr, Ipv6Addr};
-/// # fn name<'a>(table: &Table<'a>, address: Ipv4Addr) -> Option<&'a str> {
+/// # fn name<'a>(table: &FileTables<'a>, address: Ipv4Addr) -> Option<&'a str> {
 /// #     core::str::from_utf8(lookup(&table.ipv4, address.to_bits().to_le_bytes())?.1).ok()
 /// # }
-/// # fn file_of_rows(alloc: Global, ipv4: Rows<'_, Ipv4Bytes>, ipv6: Rows<'_, Ipv6Bytes>) -> Result<Vec<u8>, WriteError> {
+/// # fn file_of_rows(alloc: Global, ipv4: FileRows<'_, Ipv4Bytes>, ipv6: FileRows<'_, Ipv6Bytes>) -> Result<Vec<u8>, WriteError> {
 /// written(alloc, &ipv4, &ipv6)
 /// # }
 /// # let keys = [Key { address: [0, 0, 0, 10], len: 8 }];
-/// # let rows = Rows { keys: &keys, offsets: &[0, 5], values: b"outer" };
-/// # let file = file_of_rows(Global, rows, Rows { keys: &[], offsets: &[0], values: b"" })?;
+/// # let rows = FileRows { keys: &keys, offsets: &[0, 5], values: b"outer" };
+/// # let file = file_of_rows(Global, rows, FileRows { keys: &[], offsets: &[0], values: b"" })?;
 /// # assert_eq!(name(&checked(Global, file.as_slice())?, Ipv4Addr::new(10, 1, 2, 3)), Some("outer"));
 /// # Ok::<(), Box<dyn std::error::Error>>(())
 /// ```
@@ -60,8 +60,8 @@ use cidr_support::alloc::Global;
 #[inline]
 pub fn written(
     alloc: Global,
-    ipv4: &Rows<'_, Ipv4Bytes>,
-    ipv6: &Rows<'_, Ipv6Bytes>,
+    ipv4: &FileRows<'_, Ipv4Bytes>,
+    ipv6: &FileRows<'_, Ipv6Bytes>,
 ) -> Result<Vec<u8>, WriteError> {
     let ipv4_table = table_of(alloc, ipv4)?;
     let ipv6_table = table_of(alloc, ipv6)?;
@@ -73,7 +73,10 @@ pub fn written(
 
 /// A table of rows and their words.
 #[inline]
-fn contents_of<'a, W: Family>(rows: &'a Rows<'a, W>, table: &'a LookupTable) -> Contents<'a, W> {
+fn contents_of<'a, W: FileAddress>(
+    rows: &'a FileRows<'a, W>,
+    table: &'a LookupTable,
+) -> Contents<'a, W> {
     Contents {
         rows,
         first: table.first.as_slice(),
@@ -83,7 +86,10 @@ fn contents_of<'a, W: Family>(rows: &'a Rows<'a, W>, table: &'a LookupTable) -> 
 }
 
 /// The look-up table of rows.
-fn table_of<W: Family>(alloc: Global, rows: &Rows<'_, W>) -> Result<LookupTable, WriteError> {
+fn table_of<W: FileAddress>(
+    alloc: Global,
+    rows: &FileRows<'_, W>,
+) -> Result<LookupTable, WriteError> {
     if rows.keys.len() >= 1 << 31 {
         return Err(WriteError::Table(TableError::TooMany));
     }

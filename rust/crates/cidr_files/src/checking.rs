@@ -1,17 +1,17 @@
 //! Whether the parts of a file are tables.
 
 use cidr_support::vec::Vec;
-use crate::family::{Family, Ipv4Bytes, Ipv6Bytes};
-use crate::faults::{Fault, TableFault};
-use crate::layout::{Part, Table};
+use crate::address::{FileAddress, Ipv4Bytes, Ipv6Bytes};
+use crate::faults::{FileFault, TableFault};
+use crate::layout::{FileTable, FileTables};
 use crate::opening::open;
-use cidr_lookup::Fault::Keys;
 use cidr_lookup::TableError::NoMemory;
+use cidr_lookup::WordsFault::Keys;
 use cidr_lookup::{Address, Key, Words};
 use cidr_support::alloc::{AllocError, Global};
 
 /// The tables of a file, by [`open`] and by [`check`](crate::check) of both, in the time and memory of these. The error
-/// is the first of those that [`Fault`] names, in its order, but that want of memory for a table may come before what else
+/// is the first of those that [`FileFault`] names, in its order, but that want of memory for a table may come before what else
 /// is wrong with it.
 ///
 /// ```
@@ -19,12 +19,12 @@ use cidr_support::alloc::{AllocError, Global};
 /// # use cidr_lookup::{Address, Key};
 /// # use cidr_support::{alloc::Global, vec::Vec};
 /// # use core::net::{Ipv4Addr, Ipv6Addr};
-/// # fn name<'a>(table: &Table<'a>, address: Ipv4Addr) -> Option<&'a str> {
+/// # fn name<'a>(table: &FileTables<'a>, address: Ipv4Addr) -> Option<&'a str> {
 /// #     core::str::from_utf8(lookup(&table.ipv4, address.to_bits().to_le_bytes())?.1).ok()
 /// # }
 /// let keys = [Key { address: [0, 0, 0, 10], len: 8 }, Key { address: [0, 0, 1, 10], len: 16 }];
-/// let ipv4 = Rows { keys: &keys, offsets: &[0, 5, 10], values: b"outerinner" };
-/// let file = written(Global, &ipv4, &Rows { keys: &[], offsets: &[0], values: b"" })?;
+/// let ipv4 = FileRows { keys: &keys, offsets: &[0, 5, 10], values: b"outerinner" };
+/// let file = written(Global, &ipv4, &FileRows { keys: &[], offsets: &[0], values: b"" })?;
 /// let table = checked(Global, file.as_slice())?;
 /// assert_eq!(format!("{:?}", name(&table, Ipv4Addr::new(10, 1, 2, 3))), "Some(\"inner\")");
 /// assert_eq!(format!("{:?}", name(&table, Ipv4Addr::new(192, 0, 3, 0))), "None");
@@ -33,14 +33,14 @@ use cidr_support::alloc::{AllocError, Global};
 ///
 /// # Errors
 ///
-/// `Fault`, which tells what is wrong.
-pub fn checked(alloc: Global, bytes: &[u8]) -> Result<Table<'_>, Fault> {
+/// `FileFault`, which tells what is wrong.
+pub fn checked(alloc: Global, bytes: &[u8]) -> Result<FileTables<'_>, FileFault> {
     let table = open(bytes)?;
     if let Err(fault) = check::<Ipv4Bytes>(alloc, &table.ipv4) {
-        return Err(Fault::Ipv4(fault));
+        return Err(FileFault::Ipv4(fault));
     }
     if let Err(fault) = check::<Ipv6Bytes>(alloc, &table.ipv6) {
-        return Err(Fault::Ipv6(fault));
+        return Err(FileFault::Ipv6(fault));
     }
     Ok(table)
 }
@@ -57,12 +57,12 @@ pub fn checked(alloc: Global, bytes: &[u8]) -> Result<Table<'_>, Fault> {
 /// # use cidr_lookup::{Address, Key};
 /// # use cidr_support::{alloc::Global, vec::Vec};
 /// # use core::net::{Ipv4Addr, Ipv6Addr};
-/// # fn name<'a>(table: &Table<'a>, address: Ipv4Addr) -> Option<&'a str> {
+/// # fn name<'a>(table: &FileTables<'a>, address: Ipv4Addr) -> Option<&'a str> {
 /// #     core::str::from_utf8(lookup(&table.ipv4, address.to_bits().to_le_bytes())?.1).ok()
 /// # }
 /// let keys = [Key { address: [0, 0, 0, 10], len: 8 }, Key { address: [0, 0, 1, 10], len: 16 }];
-/// let ipv4 = Rows { keys: &keys, offsets: &[0, 5, 10], values: b"outerinner" };
-/// let file = written(Global, &ipv4, &Rows { keys: &[], offsets: &[0], values: b"" })?;
+/// let ipv4 = FileRows { keys: &keys, offsets: &[0, 5, 10], values: b"outerinner" };
+/// let file = written(Global, &ipv4, &FileRows { keys: &[], offsets: &[0], values: b"" })?;
 /// let table = open(file.as_slice())?;
 /// assert_eq!(format!("{:?}", check::<Ipv4Bytes>(Global, &table.ipv4)), "Ok(())");
 /// # Ok::<(), Box<dyn std::error::Error>>(())
@@ -71,7 +71,7 @@ pub fn checked(alloc: Global, bytes: &[u8]) -> Result<Table<'_>, Fault> {
 /// # Errors
 ///
 /// `TableFault`, which tells what is wrong.
-pub fn check<W: Family>(alloc: Global, part: &Part<'_>) -> Result<(), TableFault> {
+pub fn check<W: FileAddress>(alloc: Global, part: &FileTable<'_>) -> Result<(), TableFault> {
     let addresses = W::addresses(part.addresses);
     let Ok(keys) = keys_of(alloc, addresses, part.lengths) else {
         return Err(TableFault::Words(Keys(NoMemory)));
@@ -116,7 +116,7 @@ fn keys_of<W: Address>(
 /// # use cidr_lookup::{Address, Key};
 /// # use cidr_support::{alloc::Global, vec::Vec};
 /// # use core::net::{Ipv4Addr, Ipv6Addr};
-/// # fn name<'a>(table: &Table<'a>, address: Ipv4Addr) -> Option<&'a str> {
+/// # fn name<'a>(table: &FileTables<'a>, address: Ipv4Addr) -> Option<&'a str> {
 /// #     core::str::from_utf8(lookup(&table.ipv4, address.to_bits().to_le_bytes())?.1).ok()
 /// # }
 /// assert!(are_offsets(&[0u32, 5, 10].as_slice(), 2, 10));

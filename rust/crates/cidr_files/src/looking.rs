@@ -1,7 +1,7 @@
 //! Look-ups in the parts of a table.
 
-use crate::family::Family;
-use crate::layout::Part;
+use crate::address::FileAddress;
+use crate::layout::FileTable;
 
 /// What a look-up finds: a row, and where its value lies among the values.
 #[derive(Clone, Copy)]
@@ -27,22 +27,22 @@ pub struct Found {
 /// # use cidr_lookup::{Address, Key};
 /// # use cidr_support::{alloc::Global, vec::Vec};
 /// # use core::net::{Ipv4Addr, Ipv6Addr};
-/// # fn name<'a>(table: &Table<'a>, address: Ipv4Addr) -> Option<&'a str> {
+/// # fn name<'a>(table: &FileTables<'a>, address: Ipv4Addr) -> Option<&'a str> {
 /// #     core::str::from_utf8(lookup(&table.ipv4, address.to_bits().to_le_bytes())?.1).ok()
 /// # }
-/// # fn name_of<'a>(table: &Table<'a>, address: Ipv4Addr) -> Option<&'a [u8]> {
+/// # fn name_of<'a>(table: &FileTables<'a>, address: Ipv4Addr) -> Option<&'a [u8]> {
 /// let (_row, name) = lookup(&table.ipv4, address.to_bits().to_le_bytes())?;
 /// # Some(name)
 /// # }
 /// # let keys = [Key { address: [0, 0, 0, 10], len: 8 }, Key { address: [0, 0, 1, 10], len: 16 }];
-/// # let ipv4 = Rows { keys: &keys, offsets: &[0, 5, 10], values: b"outerinner" };
-/// # let file = written(Global, &ipv4, &Rows { keys: &[], offsets: &[0], values: b"" })?;
+/// # let ipv4 = FileRows { keys: &keys, offsets: &[0, 5, 10], values: b"outerinner" };
+/// # let file = written(Global, &ipv4, &FileRows { keys: &[], offsets: &[0], values: b"" })?;
 /// # let table = open(file.as_slice())?;
 /// # assert_eq!(name_of(&table, Ipv4Addr::new(10, 1, 2, 3)), Some(b"inner".as_slice()));
 /// # Ok::<(), Box<dyn std::error::Error>>(())
 /// ```
 #[inline]
-pub fn lookup<'a, W: Family>(part: &Part<'a>, address: W) -> Option<(usize, &'a [u8])> {
+pub fn lookup<'a, W: FileAddress>(part: &FileTable<'a>, address: W) -> Option<(usize, &'a [u8])> {
     let found = find(part, address)?;
     Some((
         found.row,
@@ -58,20 +58,20 @@ pub fn lookup<'a, W: Family>(part: &Part<'a>, address: W) -> Option<(usize, &'a 
 /// # use cidr_lookup::{Address, Key};
 /// # use cidr_support::{alloc::Global, vec::Vec};
 /// # use core::net::{Ipv4Addr, Ipv6Addr};
-/// # fn name<'a>(table: &Table<'a>, address: Ipv4Addr) -> Option<&'a str> {
+/// # fn name<'a>(table: &FileTables<'a>, address: Ipv4Addr) -> Option<&'a str> {
 /// #     core::str::from_utf8(lookup(&table.ipv4, address.to_bits().to_le_bytes())?.1).ok()
 /// # }
 /// let keys = [Key { address: [0, 0, 0, 10], len: 8 }, Key { address: [0, 0, 1, 10], len: 16 }];
-/// let ipv4 = Rows { keys: &keys, offsets: &[0, 5, 10], values: b"outerinner" };
-/// let file = written(Global, &ipv4, &Rows { keys: &[], offsets: &[0], values: b"" })?;
+/// let ipv4 = FileRows { keys: &keys, offsets: &[0, 5, 10], values: b"outerinner" };
+/// let file = written(Global, &ipv4, &FileRows { keys: &[], offsets: &[0], values: b"" })?;
 /// let table = open(file.as_slice())?;
 /// let found = find(&table.ipv4, [3, 2, 1, 10]).ok_or("none")?;
 /// assert_eq!(format!("{:?}", (found.row, found.from, found.to)), "(1, 5, 10)");
 /// # Ok::<(), Box<dyn std::error::Error>>(())
 /// ```
 #[inline(always)]
-pub fn find<W: Family>(part: &Part<'_>, address: W) -> Option<Found> {
-    let row = row_of(part, address)?;
+pub fn find<W: FileAddress>(part: &FileTable<'_>, address: W) -> Option<Found> {
+    let row = longest_row(part, address)?;
     let (from, to) = place_of(part, row);
     Some(Found { row, from, to })
 }
@@ -84,22 +84,22 @@ pub fn find<W: Family>(part: &Part<'_>, address: W) -> Option<Found> {
 /// # use cidr_lookup::{Address, Key};
 /// # use cidr_support::{alloc::Global, vec::Vec};
 /// # use core::net::{Ipv4Addr, Ipv6Addr};
-/// # fn name<'a>(table: &Table<'a>, address: Ipv4Addr) -> Option<&'a str> {
+/// # fn name<'a>(table: &FileTables<'a>, address: Ipv4Addr) -> Option<&'a str> {
 /// #     core::str::from_utf8(lookup(&table.ipv4, address.to_bits().to_le_bytes())?.1).ok()
 /// # }
-/// # fn has_ipv6(table: &Table<'_>, address: Ipv6Addr) -> bool {
+/// # fn has_ipv6(table: &FileTables<'_>, address: Ipv6Addr) -> bool {
 /// has(&table.ipv6, Ipv6Bytes::of(address.to_bits()))
 /// # }
 /// # let keys = [Key { address: [0, 0, 0, 10], len: 8 }, Key { address: [0, 0, 1, 10], len: 16 }];
-/// # let ipv4 = Rows { keys: &keys, offsets: &[0, 5, 10], values: b"outerinner" };
-/// # let file = written(Global, &ipv4, &Rows { keys: &[], offsets: &[0], values: b"" })?;
+/// # let ipv4 = FileRows { keys: &keys, offsets: &[0, 5, 10], values: b"outerinner" };
+/// # let file = written(Global, &ipv4, &FileRows { keys: &[], offsets: &[0], values: b"" })?;
 /// # let table = open(file.as_slice())?;
 /// # assert!(!has_ipv6(&table, Ipv6Addr::LOCALHOST));
 /// # Ok::<(), Box<dyn std::error::Error>>(())
 /// ```
 #[inline]
-pub fn has<W: Family>(part: &Part<'_>, address: W) -> bool {
-    match row_of(part, address) {
+pub fn has<W: FileAddress>(part: &FileTable<'_>, address: W) -> bool {
+    match longest_row(part, address) {
         Some(_) => true,
         None => false,
     }
@@ -107,7 +107,7 @@ pub fn has<W: Family>(part: &Part<'_>, address: W) -> bool {
 
 /// The row of the longest network that an address is in.
 #[inline(always)]
-fn row_of<W: Family>(part: &Part<'_>, address: W) -> Option<usize> {
+fn longest_row<W: FileAddress>(part: &FileTable<'_>, address: W) -> Option<usize> {
     let (first, _) = part.first.as_chunks::<4>();
     let (words, _) = part.words.as_chunks::<4>();
     let addresses = W::addresses(part.addresses);
@@ -120,7 +120,7 @@ fn row_of<W: Family>(part: &Part<'_>, address: W) -> Option<usize> {
 
 /// Where the value of a row begins and ends, or twice 0 where the offsets are wrong.
 #[inline(always)]
-fn place_of(part: &Part<'_>, row: usize) -> (u32, u32) {
+fn place_of(part: &FileTable<'_>, row: usize) -> (u32, u32) {
     let (offsets, _) = part.offsets.as_chunks::<4>();
     if row + 1 >= offsets.len() {
         return (0, 0);

@@ -1,7 +1,7 @@
 //! The header of a file, and the parts that it tells of.
 
-use crate::faults::Fault;
-use crate::layout::{Counts, Part, Table};
+use crate::faults::FileFault;
+use crate::layout::{Counts, FileTable, FileTables};
 
 /// The first word of a file: the bytes 89 43 49 44, which begin no UTF-8 text.
 pub(crate) const MAGIC: u32 = 0x4449_4389;
@@ -20,7 +20,7 @@ const HEADER: usize = 64;
 /// # use cidr_lookup::{Address, Key};
 /// # use cidr_support::{alloc::Global, vec::Vec};
 /// # use core::net::{Ipv4Addr, Ipv6Addr};
-/// # fn name<'a>(table: &Table<'a>, address: Ipv4Addr) -> Option<&'a str> {
+/// # fn name<'a>(table: &FileTables<'a>, address: Ipv4Addr) -> Option<&'a str> {
 /// #     core::str::from_utf8(lookup(&table.ipv4, address.to_bits().to_le_bytes())?.1).ok()
 /// # }
 /// assert_eq!(format!("{:?}", open(b"text").err()), "Some(Magic)");
@@ -29,31 +29,31 @@ const HEADER: usize = 64;
 ///
 /// # Errors
 ///
-/// `Fault`, which tells what is wrong.
-pub fn open(bytes: &[u8]) -> Result<Table<'_>, Fault> {
+/// `FileFault`, which tells what is wrong.
+pub fn open(bytes: &[u8]) -> Result<FileTables<'_>, FileFault> {
     if word_at(bytes, 0) != MAGIC {
-        return Err(Fault::Magic);
+        return Err(FileFault::Magic);
     }
     let version = word_at(bytes, 1);
     if 0 < version && version < VERSION {
-        return Err(Fault::Old);
+        return Err(FileFault::Old);
     }
     if version != VERSION {
-        return Err(Fault::Version(version));
+        return Err(FileFault::Version(version));
     }
     if bytes.len() < HEADER {
-        return Err(Fault::Short);
+        return Err(FileFault::Short);
     }
     let Some((ipv4, rest)) = part_of(&bytes[HEADER..], 4, &counts_at(bytes, 4)) else {
-        return Err(Fault::Short);
+        return Err(FileFault::Short);
     };
     let Some((ipv6, rest)) = part_of(rest, 16, &counts_at(bytes, 10)) else {
-        return Err(Fault::Short);
+        return Err(FileFault::Short);
     };
     if !rest.is_empty() {
-        return Err(Fault::Long);
+        return Err(FileFault::Long);
     }
-    Ok(Table { ipv4, ipv6 })
+    Ok(FileTables { ipv4, ipv6 })
 }
 
 /// The counts of the IPv4 table and of the IPv6 table, as the header of a file has them: what is behind the end counts
@@ -64,12 +64,12 @@ pub fn open(bytes: &[u8]) -> Result<Table<'_>, Fault> {
 /// # use cidr_lookup::{Address, Key};
 /// # use cidr_support::{alloc::Global, vec::Vec};
 /// # use core::net::{Ipv4Addr, Ipv6Addr};
-/// # fn name<'a>(table: &Table<'a>, address: Ipv4Addr) -> Option<&'a str> {
+/// # fn name<'a>(table: &FileTables<'a>, address: Ipv4Addr) -> Option<&'a str> {
 /// #     core::str::from_utf8(lookup(&table.ipv4, address.to_bits().to_le_bytes())?.1).ok()
 /// # }
 /// let keys = [Key { address: [0, 0, 0, 10], len: 8 }, Key { address: [0, 0, 1, 10], len: 16 }];
-/// let ipv4 = Rows { keys: &keys, offsets: &[0, 5, 10], values: b"outerinner" };
-/// let file = written(Global, &ipv4, &Rows { keys: &[], offsets: &[0], values: b"" })?;
+/// let ipv4 = FileRows { keys: &keys, offsets: &[0, 5, 10], values: b"outerinner" };
+/// let file = written(Global, &ipv4, &FileRows { keys: &[], offsets: &[0], values: b"" })?;
 /// assert_eq!(counts(file.as_slice()).0.rows, 2);
 /// # Ok::<(), Box<dyn std::error::Error>>(())
 /// ```
@@ -79,7 +79,7 @@ pub fn counts(bytes: &[u8]) -> (Counts, Counts) {
 }
 
 /// The parts of a table whose addresses have so many bytes, and what lies behind them; `None` where the bytes are too few.
-fn part_of<'a>(bytes: &'a [u8], size: usize, counts: &Counts) -> Option<(Part<'a>, &'a [u8])> {
+fn part_of<'a>(bytes: &'a [u8], size: usize, counts: &Counts) -> Option<(FileTable<'a>, &'a [u8])> {
     let rows = counts.rows as usize;
     let (first, rest) = cut(bytes, 4 * counts.entries as usize)?;
     let (words, rest) = cut(rest, 4 * counts.words as usize)?;
@@ -87,7 +87,7 @@ fn part_of<'a>(bytes: &'a [u8], size: usize, counts: &Counts) -> Option<(Part<'a
     let (lengths, rest) = cut(rest, rows)?;
     let (offsets, rest) = cut(rest, 4 * (rows + 1))?;
     let (values, rest) = cut(rest, counts.values as usize)?;
-    let part = Part {
+    let part = FileTable {
         first,
         words,
         addresses,

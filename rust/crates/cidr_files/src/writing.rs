@@ -1,8 +1,8 @@
 //! Files of tables, written.
 
 use cidr_support::vec::Vec;
+use crate::address::{FileAddress, Ipv4Bytes, Ipv6Bytes};
 use crate::contents::{Contents, counts_of};
-use crate::family::{Family, Ipv4Bytes, Ipv6Bytes};
 use crate::layout::Counts;
 use crate::opening::{MAGIC, VERSION};
 use cidr_lookup::Key;
@@ -20,11 +20,11 @@ use cidr_support::alloc::{AllocError, Global};
 /// # use cidr_lookup::{Address, Key};
 /// # use cidr_support::{alloc::Global, vec::Vec};
 /// # use core::net::{Ipv4Addr, Ipv6Addr};
-/// # fn name<'a>(table: &Table<'a>, address: Ipv4Addr) -> Option<&'a str> {
+/// # fn name<'a>(table: &FileTables<'a>, address: Ipv4Addr) -> Option<&'a str> {
 /// #     core::str::from_utf8(lookup(&table.ipv4, address.to_bits().to_le_bytes())?.1).ok()
 /// # }
-/// let rows = Rows { keys: &[Key { address: [0, 0, 0, 10], len: 8 }], offsets: &[0, 5], values: b"outer" };
-/// let none = Rows { keys: &[], offsets: &[0], values: b"" };
+/// let rows = FileRows { keys: &[Key { address: [0, 0, 0, 10], len: 8 }], offsets: &[0, 5], values: b"outer" };
+/// let none = FileRows { keys: &[], offsets: &[0], values: b"" };
 /// let (of_ipv4, of_ipv6) = (cidr_lookup::build(Global, rows.keys)?, cidr_lookup::build(Global, none.keys)?);
 /// let ipv4 = Contents { rows: &rows, first: &of_ipv4.first, words: &of_ipv4.words, steps: of_ipv4.steps };
 /// let ipv6 = Contents { rows: &none, first: &of_ipv6.first, words: &of_ipv6.words, steps: of_ipv6.steps };
@@ -75,7 +75,10 @@ fn put_head(out: &mut Vec<u8>, ipv4: &Counts, ipv6: &Counts) -> Result<(), Alloc
 
 /// Writes the parts of a table.
 #[inline]
-fn put_contents<W: Family>(out: &mut Vec<u8>, contents: &Contents<'_, W>) -> Result<(), AllocError> {
+fn put_contents<W: FileAddress>(
+    out: &mut Vec<u8>,
+    contents: &Contents<'_, W>,
+) -> Result<(), AllocError> {
     put_word_part(out, contents.first)?;
     put_word_part(out, contents.words)?;
     put_key_part(out, contents.rows.keys)?;
@@ -95,7 +98,7 @@ fn put_word_part(out: &mut Vec<u8>, words: &[u32]) -> Result<(), AllocError> {
 
 /// Writes the part of the addresses of keys.
 #[inline]
-fn put_key_part<W: Family>(out: &mut Vec<u8>, keys: &[Key<W>]) -> Result<(), AllocError> {
+fn put_key_part<W: FileAddress>(out: &mut Vec<u8>, keys: &[Key<W>]) -> Result<(), AllocError> {
     put_keys(out, keys)?;
     fill(out)?;
     Ok(())
@@ -103,7 +106,7 @@ fn put_key_part<W: Family>(out: &mut Vec<u8>, keys: &[Key<W>]) -> Result<(), All
 
 /// Writes the part of their prefix lengths.
 #[inline]
-fn put_length_part<W: Family>(out: &mut Vec<u8>, keys: &[Key<W>]) -> Result<(), AllocError> {
+fn put_length_part<W: FileAddress>(out: &mut Vec<u8>, keys: &[Key<W>]) -> Result<(), AllocError> {
     put_lengths(out, keys)?;
     fill(out)?;
     Ok(())
@@ -119,7 +122,7 @@ fn put_part(out: &mut Vec<u8>, part: &[u8]) -> Result<(), AllocError> {
 
 /// Writes the bytes of the addresses of keys.
 #[inline]
-fn put_keys<W: Family>(out: &mut Vec<u8>, keys: &[Key<W>]) -> Result<(), AllocError> {
+fn put_keys<W: FileAddress>(out: &mut Vec<u8>, keys: &[Key<W>]) -> Result<(), AllocError> {
     for i in 0..keys.len() {
         W::put(keys[i].address.number(), out)?;
     }
@@ -128,7 +131,7 @@ fn put_keys<W: Family>(out: &mut Vec<u8>, keys: &[Key<W>]) -> Result<(), AllocEr
 
 /// Writes a byte for the prefix length of each key.
 #[inline]
-fn put_lengths<W: Family>(out: &mut Vec<u8>, keys: &[Key<W>]) -> Result<(), AllocError> {
+fn put_lengths<W: FileAddress>(out: &mut Vec<u8>, keys: &[Key<W>]) -> Result<(), AllocError> {
     for i in 0..keys.len() {
         out.push(keys[i].len as u8)?;
     }

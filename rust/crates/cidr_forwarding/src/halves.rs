@@ -2,14 +2,6 @@
 
 use cidr::NetworkBits;
 
-/// The rows are of one network of no bits, and no key has more than 129, which a proof gets from the calls.
-#[inline]
-pub(crate) fn know_all<C: NetworkBits + Copy, V: Copy>(rows: &[(C, V)]) {
-    for row in rows {
-        row.0.len();
-    }
-}
-
 /// How many rows have no more than `depth` bits, which is at most one: the first.
 #[inline]
 pub(crate) fn skipped<C: NetworkBits + Copy, V: Copy>(rows: &[(C, V)], depth: usize) -> usize {
@@ -64,7 +56,6 @@ pub(crate) fn first_bits<C: NetworkBits + Copy>(key: &C, len: usize) -> C {
 /// The network of the first `depth` bits of a key and one bit more.
 #[inline]
 pub(crate) fn half<C: NetworkBits + Copy>(key: &C, depth: usize, upper: bool) -> C {
-    key.len();
     let mut half = *key;
     half.clip(depth + 1);
     half.set(depth, upper);

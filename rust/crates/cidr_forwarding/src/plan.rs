@@ -2,7 +2,7 @@
 
 use cidr_support::vec::Vec;
 use crate::candidates::{first_of, holds, join};
-use crate::halves::{first_bits, half, know_all, own_value, shared, skipped, split};
+use crate::halves::{first_bits, half, own_value, shared, skipped, split};
 use cidr::NetworkBits;
 use cidr_support::alloc::{AllocError, Global};
 
@@ -37,7 +37,6 @@ fn smallest<C: NetworkBits + Copy, V: Copy + Ord>(
     rows: &[(C, V)],
     holes: bool,
 ) -> Result<Vec<(C, Option<V>)>, AllocError> {
-    know_all(rows);
     // tables of routers and of GeoIP have some 1.1 counts and 2.5 to 3.1 candidates a row
     let quarter = rows.len() / 4;
     let mut counts = Vec::with_capacity(alloc, quarter.saturating_mul(5))?;

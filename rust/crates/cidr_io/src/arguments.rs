@@ -21,12 +21,12 @@ pub trait Arguments: Sized {
 
 /// The arguments that the system has given, which nothing is told of.
 #[derive(Clone, Copy)]
-pub struct Given<'a, R: Env> {
+pub struct SystemArguments<'a, R: Env> {
     /// The system.
     pub system: &'a R,
 }
 
-impl<R: Env> Arguments for Given<'_, R> {
+impl<R: Env> Arguments for SystemArguments<'_, R> {
     #[inline]
     fn copy_to(&self, place: usize, buf: &mut [u8]) -> Result<usize, FillError> {
         assert!(place < usize::MAX);
@@ -36,17 +36,17 @@ impl<R: Env> Arguments for Given<'_, R> {
 
 /// Why the arguments can't be read.
 #[derive(Debug, PartialEq)]
-pub enum ReadError {
+pub enum ArgumentReadError {
     /// An argument is not UTF-8: its beginning, as `byte_excerpt` shows it.
     NotText(ArrayString<42>),
     /// An allocation for the arguments was refused.
     NoMemory,
 }
 
-impl From<AllocError> for ReadError {
+impl From<AllocError> for ArgumentReadError {
     #[inline]
-    fn from(_error: AllocError) -> ReadError {
-        ReadError::NoMemory
+    fn from(_error: AllocError) -> ArgumentReadError {
+        ArgumentReadError::NoMemory
     }
 }
 
@@ -80,7 +80,7 @@ fn bytes_at<M: Memory, A: Arguments>(
 pub fn texts_of<M: Memory, A: Arguments>(
     memory: &mut M,
     arguments: &A,
-) -> Result<Vec<String>, ReadError> {
+) -> Result<Vec<String>, ArgumentReadError> {
     let mut texts = Vec::new(memory.alloc());
     loop {
         let Some(bytes) = bytes_at(memory, arguments, texts.len())? else {
@@ -88,7 +88,7 @@ pub fn texts_of<M: Memory, A: Arguments>(
         };
         let text = match String::from_utf8(bytes) {
             Ok(text) => text,
-            Err(e) => return Err(ReadError::NotText(byte_excerpt(e.as_bytes()))),
+            Err(e) => return Err(ArgumentReadError::NotText(byte_excerpt(e.as_bytes()))),
         };
         memory.reserve(&mut texts, 1)?;
         let Ok(()) = texts.push(text) else {

@@ -1,6 +1,6 @@
 //! Lines that are collected and written in blocks, so that a line is written by one call.
 
-use crate::shown::{Part, shown_char};
+use crate::shown::{MessagePart, shown_char};
 use crate::sink::{OutputFailed, Sink};
 use crate::writing::{flush, write_all};
 use cidr_support::arrayvec::ArrayVec;
@@ -29,12 +29,12 @@ fn total_len(parts: &[&[u8]]) -> usize {
 }
 
 /// The most bytes that the parts of a message may have: four for each byte of a string that is shown.
-fn most_len(parts: &[Part<'_>]) -> usize {
+fn most_len(parts: &[MessagePart<'_>]) -> usize {
     let mut len = 0usize;
     for part in parts {
         len = len.saturating_add(match part {
-            Part::Plain(text) => text.len(),
-            Part::Shown(text) => text.len().saturating_mul(4),
+            MessagePart::Plain(text) => text.len(),
+            MessagePart::Shown(text) => text.len().saturating_mul(4),
         });
     }
     len
@@ -120,10 +120,10 @@ impl Block {
 
     /// Appends a part of a message.
     #[inline]
-    fn push_part<S: Sink>(&mut self, out: &mut S, part: Part<'_>) -> Result<(), OutputFailed> {
+    fn push_part<S: Sink>(&mut self, out: &mut S, part: MessagePart<'_>) -> Result<(), OutputFailed> {
         match part {
-            Part::Plain(text) => self.push(out, text.as_bytes()),
-            Part::Shown(text) => self.push_shown(out, text),
+            MessagePart::Plain(text) => self.push(out, text.as_bytes()),
+            MessagePart::Shown(text) => self.push_shown(out, text),
         }
     }
 
@@ -133,7 +133,7 @@ impl Block {
     pub fn push_message<S: Sink>(
         &mut self,
         out: &mut S,
-        parts: &[Part<'_>],
+        parts: &[MessagePart<'_>],
     ) -> Result<(), OutputFailed> {
         self.make_room(out, most_len(parts))?;
         for part in parts {
@@ -152,7 +152,7 @@ impl Block {
 
     /// Appends a message as `push_message` does, as far as the sink takes messages: one that has failed gets nothing.
     #[inline]
-    pub fn say_message<S: Sink>(&mut self, out: &mut S, parts: &[Part<'_>]) {
+    pub fn say_message<S: Sink>(&mut self, out: &mut S, parts: &[MessagePart<'_>]) {
         if !out.failed() {
             let _ = self.push_message(out, parts);
         }

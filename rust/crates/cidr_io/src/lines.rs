@@ -16,17 +16,17 @@ const KEPT: usize = MOST_BYTES + 1;
 
 /// Why a line is not read.
 #[derive(Clone, Copy, Debug, PartialEq)]
-pub enum ReadError {
+pub enum LineReadError {
     /// A read of the source has failed.
     Failed,
     /// An allocation was refused.
     NoMemory,
 }
 
-impl From<AllocError> for ReadError {
+impl From<AllocError> for LineReadError {
     #[inline]
-    fn from(_error: AllocError) -> ReadError {
-        ReadError::NoMemory
+    fn from(_error: AllocError) -> LineReadError {
+        LineReadError::NoMemory
     }
 }
 
@@ -56,9 +56,9 @@ fn read_more<M: Memory, S: Source>(
     source: &mut S,
     chunk: &mut [u8],
     block: &mut Vec<u8>,
-) -> Result<bool, ReadError> {
+) -> Result<bool, LineReadError> {
     let Some(count) = source.read_some(chunk) else {
-        return Err(ReadError::Failed);
+        return Err(LineReadError::Failed);
     };
     memory.reserve(block, count)?;
     let Ok(()) = block.extend_from_slice(&chunk[..count]) else {
@@ -74,7 +74,7 @@ fn fill_line<M: Memory, S: Source>(
     source: &mut S,
     chunk: &mut [u8],
     block: &mut Vec<u8>,
-) -> Result<Option<usize>, ReadError> {
+) -> Result<Option<usize>, LineReadError> {
     let mut seen = 0;
     for _reads in 0..u64::MAX {
         if let Some(place) = feed_in(&block[seen..]) {
@@ -87,7 +87,7 @@ fn fill_line<M: Memory, S: Source>(
             return Ok(None);
         }
     }
-    Err(ReadError::Failed)
+    Err(LineReadError::Failed)
 }
 
 /// How many bytes are kept of a line of so many.
@@ -107,7 +107,7 @@ fn find_line<M: Memory, S: Source>(
     block: &mut Vec<u8>,
     next: usize,
     ahead: Option<usize>,
-) -> Result<(usize, Option<usize>), ReadError> {
+) -> Result<(usize, Option<usize>), LineReadError> {
     if let Some(len) = ahead {
         return Ok((next, Some(len)));
     }
@@ -133,7 +133,7 @@ fn new_chunk<M: Memory>(memory: &mut M) -> Result<Vec<u8>, AllocError> {
 pub fn read_to_end<M: Memory, S: Source>(
     memory: &mut M,
     source: S,
-) -> Result<Vec<u8>, ReadError> {
+) -> Result<Vec<u8>, LineReadError> {
     let mut source = source;
     let mut chunk = new_chunk(memory)?;
     let mut block = Vec::new(memory.alloc());
@@ -164,7 +164,7 @@ pub struct LineReader<S: Source> {
 impl<S: Source> LineReader<S> {
     /// A reader of a source, of which nothing is read yet: it is at no line. The error is `NoMemory`, for the room of
     /// 64 KiB.
-    pub fn new<M: Memory>(memory: &mut M, source: S) -> Result<LineReader<S>, ReadError> {
+    pub fn new<M: Memory>(memory: &mut M, source: S) -> Result<LineReader<S>, LineReadError> {
         let chunk = new_chunk(memory)?;
         let block = Vec::new(memory.alloc());
         Ok(LineReader {
@@ -184,7 +184,7 @@ impl<S: Source> LineReader<S> {
     /// It takes time in the length of the line, also of one that is too long. The errors are `Failed` where a read of
     /// the source fails, and `NoMemory`, which `memory` remembers. After an error the reader is at no line, and what it
     /// reads next is not told.
-    pub fn read_line<M: Memory>(&mut self, memory: &mut M) -> Result<bool, ReadError> {
+    pub fn read_line<M: Memory>(&mut self, memory: &mut M) -> Result<bool, LineReadError> {
         let (next, ahead) = (self.next, self.ahead);
         self.start = 0;
         self.stop = 0;

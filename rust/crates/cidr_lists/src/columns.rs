@@ -1,7 +1,7 @@
 //! The fields of a line.
 
 use crate::errors::{BadText, LineError};
-use crate::lines::{HostBits, is_comment_sign, network_of, without_comment};
+use crate::lines::{HostBits, is_comment_sign, read_network, without_comment};
 use crate::masks::bad_network;
 use cidr::{IpAddr, IpCidr};
 use cidr_io::shown::byte_excerpt;
@@ -26,7 +26,7 @@ pub enum Separator {
 /// Which field of each line is read.
 #[derive(Clone, Copy, Debug, PartialEq)]
 pub struct Column {
-    /// Its place, from 0 on.
+    /// Its index, counted from 0.
     pub place: u64,
     /// What parts it from others.
     pub separator: Separator,
@@ -111,7 +111,7 @@ fn rest_at(column: Column, line: &[u8]) -> &[u8] {
 }
 
 /// The field of a column, without white space at both ends; empty in a line of fewer fields. With `Separator::Byte(b',')`
-/// the field at place 1 of `a, 192.0.2.1 ,b` is `192.0.2.1`. A comment sign is a byte like any other.
+/// the field at index 1 of `a, 192.0.2.1 ,b` is `192.0.2.1`. A comment sign is a byte like any other.
 #[inline]
 pub fn field_at(column: Column, line: &[u8]) -> &[u8] {
     let field = field_in(column.separator, rest_at(column, line));
@@ -169,14 +169,14 @@ pub fn split_row(separator: Separator, line: &[u8]) -> Option<(&[u8], &[u8])> {
     Some((first.trim_ascii(), rest.trim_ascii()))
 }
 
-/// The network that a field is, as `lines::network_of` reads it; a range is none, nor is a field with white space at an
+/// The network that a field is, as `lines::read_network` reads it; a range is none, nor is a field with white space at an
 /// end. The errors are `NotUtf8`, and then `NoNetwork` with the first error of parsing it.
 #[inline]
 pub fn network_in(host_bits: HostBits, field: &[u8]) -> Result<IpCidr, LineError> {
     let Ok(text) = core::str::from_utf8(field) else {
         return Err(LineError::NotUtf8(byte_excerpt(field)));
     };
-    match network_of(host_bits, text) {
+    match read_network(host_bits, text) {
         Ok(network) => Ok(network),
         Err(e) => Err(LineError::NoNetwork(bad_network(host_bits, text), e)),
     }

@@ -118,7 +118,7 @@ fn mergeable<'a>(
 
 /// What is looked for in a line.
 #[derive(Clone, Copy, Debug)]
-pub enum Kind {
+pub enum FindingKind {
     /// Set bits after the prefix.
     HostBits,
     /// Another string than the printed one.
@@ -136,17 +136,17 @@ pub enum Kind {
 /// what `near_at` gave for the line, among the same lines.
 #[inline]
 pub fn find<'a>(
-    kind: Kind,
+    kind: FindingKind,
     entries: &[Entry<'a>],
     near: Near,
     index: usize,
     entry: &Entry<'a>,
 ) -> Option<Note<'a>> {
     match kind {
-        Kind::HostBits => host_bits(entries, index, entry),
-        Kind::Form => not_canonical(entries, index, entry),
-        Kind::Same => repeats(entries, near, index, entry),
-        Kind::Outer => inside(entries, near, index, entry),
-        Kind::Half => mergeable(entries, near, index, entry),
+        FindingKind::HostBits => host_bits(entries, index, entry),
+        FindingKind::Form => not_canonical(entries, index, entry),
+        FindingKind::Same => repeats(entries, near, index, entry),
+        FindingKind::Outer => inside(entries, near, index, entry),
+        FindingKind::Half => mergeable(entries, near, index, entry),
     }
 }

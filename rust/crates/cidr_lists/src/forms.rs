@@ -16,9 +16,9 @@ use cidr_io::shown::byte_excerpt;
 pub struct RowColumns {
     /// What parts the fields.
     pub separator: Separator,
-    /// The place of the network, from 0 on.
+    /// The index of the field of the network, counted from 0.
     pub network: u64,
-    /// The place of the value, from 0 on. A row of fewer fields has an empty value.
+    /// The index of the field of the value, counted from 0. A row of fewer fields has an empty value.
     pub value: u64,
 }
 
@@ -28,7 +28,7 @@ pub enum RowLayout {
     /// The first field is the network, and the rest of the line is the value: `10.0.0.0/8 west`, or with a comma
     /// `10.0.0.0/8,AS1,west`. A field in quotes is not read, and a row that begins with a first and a last address is none.
     Fields(Separator),
-    /// Two fields are the network and the value: `DE,west,10.0.0.0/8` has a network at place 2 and a value at place 0 or 1.
+    /// Two fields are the network and the value: `DE,west,10.0.0.0/8` has a network at index 2 and a value at index 0 or 1.
     /// A field in quotes is not read as a network.
     Columns(RowColumns),
     /// As the files of CAIDA that map prefixes to autonomous systems (pfx2as) have it: an address, its prefix length and
@@ -50,7 +50,7 @@ pub struct RowForm {
 
 /// What the lines of a list are.
 #[derive(Clone, Copy, Debug, PartialEq)]
-pub enum Kind {
+pub enum ListKind {
     /// Networks, addresses and ranges.
     Networks,
     /// Networks and hosts.
@@ -138,7 +138,7 @@ fn is_up_to(first: &IpAddr, last: &IpAddr) -> bool {
     }
 }
 
-/// The field of the rest of a row at a place, from 0 on.
+/// The field of the rest of a row at an index, counted from 0.
 #[inline]
 fn place_at(separator: Separator, place: u64) -> Column {
     Column { place, separator }

@@ -9,8 +9,7 @@
 //!   networks, and `sets::Sets` has their addresses, combines them and tells what lies in them.
 //! - `entries::entry_of`: a line has a network or a host, with its place. `near` and `findings` tell what is found in
 //!   them.
-//! - `forms::row_of`: a row of a table is a network and its value, by a `RowForm`. `rows::Rows` collects them, and
-//!   `table::Table` is ready for look-ups.
+//! - `forms::row_of`: a row of a table is a network and its value, by a `RowForm`. `rows::RowList` collects them.
 //! - `columns::split_line`, `fields::network_at` and `address_at`: the fields of a line that is looked up or picked, and
 //!   `Sets::have_one` and `words::first_address` an address anywhere in a line, as in a log. `fields::asked_in` takes the one
 //!   or the other by its `Asked`.
@@ -47,7 +46,6 @@ pub mod records;
 pub mod rows;
 pub mod rules;
 pub mod sets;
-pub mod table;
 pub mod texts;
 pub mod words;
 pub mod wrong;

@@ -3,7 +3,7 @@
 use cidr_support::vec::Vec;
 use crate::formats::{LineFormat, Notation, object_end, written};
 use crate::json::push_string;
-use crate::printing::network_of;
+use crate::printing::network_around;
 use cidr_support::arrayvec::ArrayString;
 use cidr::{Family, IpAddr, Ipv4Cidr, Ipv6Cidr};
 use cidr_support::alloc::AllocError;
@@ -33,11 +33,11 @@ pub fn telling_by(format: LineFormat, keeps: bool) -> Telling {
 fn members_of(address: &IpAddr, len: u8) -> ArrayString<200> {
     match address {
         IpAddr::V4(address) => {
-            let network = network_of::<Ipv4Cidr>(*address, len);
+            let network = network_around::<Ipv4Cidr>(*address, len);
             written(&network, Notation::Members)
         }
         IpAddr::V6(address) => {
-            let network = network_of::<Ipv6Cidr>(*address, len);
+            let network = network_around::<Ipv6Cidr>(*address, len);
             written(&network, Notation::Members)
         }
     }

@@ -5,7 +5,7 @@ use cidr::{BitString, FamilyCidr, IpAddr, Ipv4Cidr, Ipv6Cidr};
 
 /// The network of the first `len` bits of an address; of the address itself where `len` is above its width.
 #[inline]
-pub(crate) fn network_of<C: FamilyCidr>(address: C::Address, len: u8) -> C {
+pub(crate) fn network_around<C: FamilyCidr>(address: C::Address, len: u8) -> C {
     let mut network = C::new_host(address);
     network.clip(usize::from(len));
     network
@@ -16,7 +16,7 @@ pub(crate) fn network_of<C: FamilyCidr>(address: C::Address, len: u8) -> C {
 #[inline]
 pub fn block_text(address: &IpAddr, len: u8) -> ArrayString<43> {
     match address {
-        IpAddr::V4(address) => network_of::<Ipv4Cidr>(*address, len).to_text(),
-        IpAddr::V6(address) => network_of::<Ipv6Cidr>(*address, len).to_text(),
+        IpAddr::V4(address) => network_around::<Ipv4Cidr>(*address, len).to_text(),
+        IpAddr::V6(address) => network_around::<Ipv6Cidr>(*address, len).to_text(),
     }
 }

@@ -29,7 +29,7 @@ impl ListForm {
     }
 }
 
-/// The field of a record at a place, from 0 on.
+/// The field of a record at an index, counted from 0.
 #[inline]
 fn record_column(place: u64) -> Column {
     Column {

@@ -15,7 +15,7 @@ pub struct Span {
 
 /// The bytes of a value; of a span that goes beyond all values, those that there are.
 #[inline]
-pub fn value_of(values: &[u8], span: Span) -> &[u8] {
+pub fn value_at_span(values: &[u8], span: Span) -> &[u8] {
     let Some((_, behind)) = values.split_at_checked(span.start) else {
         return &[];
     };
@@ -27,7 +27,7 @@ pub fn value_of(values: &[u8], span: Span) -> &[u8] {
 
 /// The networks of each family, each with the span of its value, and the bytes of all values: rows as they come, also
 /// several of one network. After an error, which is that there is no memory, what was added isn't told.
-pub struct Rows {
+pub struct RowList {
     /// The rows of IPv4.
     pub v4: Vec<(Ipv4Cidr, Span)>,
     /// The rows of IPv6.
@@ -36,11 +36,11 @@ pub struct Rows {
     pub values: Vec<u8>,
 }
 
-impl Rows {
+impl RowList {
     /// No rows. It allocates nothing.
     #[inline]
-    pub fn new(alloc: Global) -> Rows {
-        Rows {
+    pub fn new(alloc: Global) -> RowList {
+        RowList {
             v4: Vec::new(alloc),
             v6: Vec::new(alloc),
             values: Vec::new(alloc),
@@ -63,8 +63,8 @@ impl Rows {
 
     /// The same rows in memory of their own. The error is that an allocation fails.
     #[inline]
-    pub fn copy(&self, alloc: Global) -> Result<Rows, AllocError> {
-        let mut rows = Rows::new(alloc);
+    pub fn copy(&self, alloc: Global) -> Result<RowList, AllocError> {
+        let mut rows = RowList::new(alloc);
         rows.v4.extend_from_slice(self.v4.as_slice())?;
         rows.v6.extend_from_slice(self.v6.as_slice())?;
         rows.values.extend_from_slice(self.values.as_slice())?;

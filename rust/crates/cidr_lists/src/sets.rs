@@ -105,13 +105,6 @@ impl Sets {
         }
     }
 
-    /// Tells the proof that the networks of both sets are in normal form.
-    #[inline]
-    fn known(&self) {
-        self.v4.as_slice();
-        self.v6.as_slice();
-    }
-
     /// The sets of each family put together, as the calls of `NetworkSet` do, in their time and memory. The error is
     /// that there is no memory, and both stay as they were.
     #[inline]
@@ -137,7 +130,6 @@ impl Sets {
 /// memory of each step. The error is that there is no memory.
 #[inline]
 pub fn combined(step: Step, first: Sets, others: &[Sets]) -> Result<Sets, AllocError> {
-    first.known();
     let mut all = first;
     for other in others {
         all = all.stepped(step, other)?;

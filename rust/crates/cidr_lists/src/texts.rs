@@ -19,7 +19,7 @@ pub(crate) fn line_len(text: &[u8]) -> usize {
 }
 
 /// Adds the networks that a line says.
-fn add_line(
+fn add_list_line(
     alloc: Global,
     host_bits: HostBits,
     number: u64,
@@ -48,7 +48,7 @@ impl Lists {
         let mut number = 1;
         loop {
             let (line, behind) = rest.split_at(line_len(rest));
-            add_line(alloc, host_bits, number, line, &mut lists)?;
+            add_list_line(alloc, host_bits, number, line, &mut lists)?;
             let Some((_, next)) = behind.split_first() else {
                 return Ok(lists);
             };

@@ -1,6 +1,6 @@
 //! Addresses by their numbers.
 
-/// The number of an address, as it lies in an array: a `u32` of IPv4 or [`Halves`](crate::Halves) of IPv6, and the bytes
+/// The number of an address, as it lies in an array: a `u32` of IPv4 or [`Ipv6Halves`](crate::Ipv6Halves) of IPv6, and the bytes
 /// of these, as a file has them.
 ///
 /// The nodes of a look-up table divide by six bits. So that all bits but the first are parts of six, a number has some
@@ -14,7 +14,7 @@ pub trait Address: Sized + Copy {
     /// # use cidr_support::alloc::Global;
     /// # use cidr_table::LpmTable;
     /// # use core::net::Ipv4Addr;
-    /// assert_eq!(Halves { high: 1, low: 2 }.number(), 18446744073709551618);
+    /// assert_eq!(Ipv6Halves { high: 1, low: 2 }.number(), 18446744073709551618);
     /// # Ok::<(), Box<dyn std::error::Error>>(())
     /// ```
     fn number(self) -> u128;
@@ -28,7 +28,7 @@ pub trait Address: Sized + Copy {
     /// # use cidr_support::alloc::Global;
     /// # use cidr_table::LpmTable;
     /// # use core::net::Ipv4Addr;
-    /// assert_eq!(Halves::of(18446744073709551618).low, 2);
+    /// assert_eq!(Ipv6Halves::of(18446744073709551618).low, 2);
     /// # Ok::<(), Box<dyn std::error::Error>>(())
     /// ```
     fn of(number: u128) -> Self;
@@ -119,7 +119,7 @@ pub trait Address: Sized + Copy {
     /// # use cidr_support::alloc::Global;
     /// # use cidr_table::LpmTable;
     /// # use core::net::Ipv4Addr;
-    /// assert_eq!(Halves { high: 1, low: 2 }.upper(), 1);
+    /// assert_eq!(Ipv6Halves { high: 1, low: 2 }.upper(), 1);
     /// # Ok::<(), Box<dyn std::error::Error>>(())
     /// ```
     fn upper(self) -> u64;

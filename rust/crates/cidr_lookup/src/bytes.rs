@@ -1,7 +1,7 @@
 //! Words and addresses as bytes, as files have them: of each number the lowest byte first.
 
 use crate::address::Address;
-use crate::halves::Halves;
+use crate::halves::Ipv6Halves;
 use crate::words::Words;
 
 impl Words for &[[u8; 4]] {
@@ -66,7 +66,7 @@ impl Address for [u8; 4] {
     }
 }
 
-/// The bytes of [`Halves`]: those of the higher half and those of the lower one, of each the lowest first.
+/// The bytes of [`Ipv6Halves`]: those of the higher half and those of the lower one, of each the lowest first.
 impl Address for [[u8; 8]; 2] {
     #[inline(always)]
     fn number(self) -> u128 {
@@ -75,13 +75,13 @@ impl Address for [[u8; 8]; 2] {
 
     #[inline(always)]
     fn of(number: u128) -> [[u8; 8]; 2] {
-        let halves = Halves::of(number);
+        let halves = Ipv6Halves::of(number);
         [halves.high.to_le_bytes(), halves.low.to_le_bytes()]
     }
 
     #[inline(always)]
     fn width() -> u32 {
-        Halves::width()
+        Ipv6Halves::width()
     }
 
     #[inline(always)]
@@ -91,12 +91,12 @@ impl Address for [[u8; 8]; 2] {
 
     #[inline(always)]
     fn padded_width() -> u32 {
-        Halves::padded_width()
+        Ipv6Halves::padded_width()
     }
 
     #[inline]
     fn steps_for(networks: usize) -> u32 {
-        Halves::steps_for(networks)
+        Ipv6Halves::steps_for(networks)
     }
 
     #[inline(always)]
@@ -117,8 +117,8 @@ impl Address for [[u8; 8]; 2] {
 
 /// The number that the bytes are.
 #[inline(always)]
-fn halves(bytes: [[u8; 8]; 2]) -> Halves {
-    Halves {
+fn halves(bytes: [[u8; 8]; 2]) -> Ipv6Halves {
+    Ipv6Halves {
         high: u64::from_le_bytes(bytes[0]),
         low: u64::from_le_bytes(bytes[1]),
     }

@@ -12,7 +12,7 @@ use core::fmt;
 
 /// What is wrong with words: the first of these.
 #[derive(Debug, PartialEq)]
-pub enum Fault {
+pub enum WordsFault {
     /// So many steps leave no first bits, or more than 32: `no such number of steps`.
     Steps,
     /// One of the two arrays has more words than a table may have: `more than 1073741823 words`.
@@ -26,25 +26,25 @@ pub enum Fault {
     Word(usize),
 }
 
-impl fmt::Display for Fault {
+impl fmt::Display for WordsFault {
     #[inline]
     fn fmt(&self, f: &mut fmt::Formatter<'_>) -> fmt::Result {
         match self {
-            Fault::Steps => f.write_str("no such number of steps"),
-            Fault::TooLong => f.write_str("more than 1073741823 words"),
-            Fault::Keys(error) => fmt::Display::fmt(error, f),
-            Fault::First(place) => write!(f, "not of the keys: entry {place}"),
-            Fault::Word(place) => write!(f, "not of the keys: word {place}"),
+            WordsFault::Steps => f.write_str("no such number of steps"),
+            WordsFault::TooLong => f.write_str("more than 1073741823 words"),
+            WordsFault::Keys(error) => fmt::Display::fmt(error, f),
+            WordsFault::First(place) => write!(f, "not of the keys: entry {place}"),
+            WordsFault::Word(place) => write!(f, "not of the keys: word {place}"),
         }
     }
 }
 
-impl Error for Fault {}
+impl Error for WordsFault {}
 
 /// Whether words are the look-up table of keys, so that look-ups in them are right: the table is built, and compared as it
 /// goes.
 ///
-/// It takes the time of `build`, and the memory that it takes besides the table. The error is the first that [`Fault`] names,
+/// It takes the time of `build`, and the memory that it takes besides the table. The error is the first that [`WordsFault`] names,
 /// in its order, but that an entry and a word are told as they are built.
 ///
 /// ```
@@ -55,7 +55,7 @@ impl Error for Fault {}
 /// # use core::net::Ipv4Addr;
 /// # fn find_in(
 /// #     alloc: Global, keys: &[Key<u32>], first: &[u32], words: &[u32], steps: u32, address: Ipv4Addr,
-/// # ) -> Result<Option<usize>, Fault> {
+/// # ) -> Result<Option<usize>, WordsFault> {
 /// check(alloc, keys, &first, &words, steps)?;
 /// Ok(find(&first, &words, steps, address.to_bits()))
 /// # }
@@ -69,26 +69,26 @@ impl Error for Fault {}
 ///
 /// # Errors
 ///
-/// `Fault`, which tells what is wrong.
+/// `WordsFault`, which tells what is wrong.
 pub fn check<A: Address, T: Words>(
     alloc: Global,
     keys: &[Key<A>],
     first: &T,
     words: &T,
     steps: u32,
-) -> Result<(), Fault> {
+) -> Result<(), WordsFault> {
     if !are_steps::<A>(steps) {
-        return Err(Fault::Steps);
+        return Err(WordsFault::Steps);
     }
     if first.len() >= 1 << 30 {
-        return Err(Fault::TooLong);
+        return Err(WordsFault::TooLong);
     }
     if words.len() >= 1 << 30 {
-        return Err(Fault::TooLong);
+        return Err(WordsFault::TooLong);
     }
     let ranges = match ranges_of(alloc, keys) {
         Ok(ranges) => ranges,
-        Err(error) => return Err(Fault::Keys(error)),
+        Err(error) => return Err(WordsFault::Keys(error)),
     };
     let starts = ranges.starts.as_slice();
     let answers = ranges.answers.as_slice();
@@ -100,15 +100,15 @@ pub fn check<A: Address, T: Words>(
     match put_table(keys, starts, answers, &mut entries, &mut nodes, steps) {
         Ok(()) => {
             if entries.place < first.len() {
-                return Err(Fault::First(entries.place));
+                return Err(WordsFault::First(entries.place));
             }
             if nodes.place < words.len() {
-                return Err(Fault::Word(nodes.place));
+                return Err(WordsFault::Word(nodes.place));
             }
             Ok(())
         }
-        Err(Stopped::First(_)) => Err(Fault::First(entries.len())),
-        Err(Stopped::Words(_)) => Err(Fault::Word(nodes.len())),
+        Err(Stopped::First(_)) => Err(WordsFault::First(entries.len())),
+        Err(Stopped::Words(_)) => Err(WordsFault::Word(nodes.len())),
     }
 }
 

@@ -5,22 +5,22 @@ use crate::address::Address;
 /// The number of an IPv6 address in two halves, the higher one first.
 #[derive(Clone, Copy)]
 #[repr(C)]
-pub struct Halves {
+pub struct Ipv6Halves {
     /// The first 64 bits.
     pub high: u64,
     /// The last 64 bits.
     pub low: u64,
 }
 
-impl Address for Halves {
+impl Address for Ipv6Halves {
     #[inline(always)]
     fn number(self) -> u128 {
         (u128::from(self.high) << 64) + u128::from(self.low)
     }
 
     #[inline(always)]
-    fn of(number: u128) -> Halves {
-        Halves {
+    fn of(number: u128) -> Ipv6Halves {
+        Ipv6Halves {
             high: (number >> 64) as u64,
             low: (number % (1 << 64)) as u64,
         }

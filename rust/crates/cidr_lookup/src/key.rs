@@ -16,7 +16,7 @@ pub struct Key<A> {
 
 impl<A: Address> Key<A> {
     /// The key of a network. The caller has to ensure that the addresses of its family have as many bits: `u32` is for IPv4,
-    /// and [`Halves`](crate::Halves) is for IPv6.
+    /// and [`Ipv6Halves`](crate::Ipv6Halves) is for IPv6.
     ///
     /// ```
     /// # use cidr::Ipv4Cidr;

@@ -1,7 +1,7 @@
 //! Networks as keys.
 
 use crate::address::Address;
-use crate::halves::Halves;
+use crate::halves::Ipv6Halves;
 use cidr::{FamilyCidr, Ipv4Cidr, Ipv6Cidr};
 
 /// A network of one family, whose [`Key`](crate::Key) a look-up table has: `Ipv4Cidr` and `Ipv6Cidr`.
@@ -15,5 +15,5 @@ impl Keyed for Ipv4Cidr {
 }
 
 impl Keyed for Ipv6Cidr {
-    type Number = Halves;
+    type Number = Ipv6Halves;
 }

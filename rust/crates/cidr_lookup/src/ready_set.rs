@@ -43,7 +43,7 @@ impl<C: Keyed> ReadySet<C> {
         if networks.len() >= 1 << 31 {
             return Err(TableError::TooMany);
         }
-        let Ok(rows) = rows_of(alloc, networks) else {
+        let Ok(rows) = rows_without_values(alloc, networks) else {
             return Err(TableError::NoMemory);
         };
         match ReadyTable::new(alloc, LpmTable::from_rows(rows)) {
@@ -75,7 +75,7 @@ impl<C: Keyed> ReadySet<C> {
 
 /// A row of each network.
 #[inline]
-fn rows_of<C: Copy>(alloc: Global, networks: &[C]) -> Result<Vec<(C, ())>, AllocError> {
+fn rows_without_values<C: Copy>(alloc: Global, networks: &[C]) -> Result<Vec<(C, ())>, AllocError> {
     let mut rows = Vec::with_capacity(alloc, networks.len())?;
     for network in networks {
         rows.push((*network, ()))?;

@@ -24,7 +24,7 @@ const MOST_STEPS: u32 = 21;
 /// # use cidr_support::alloc::Global;
 /// # use cidr_table::LpmTable;
 /// # use core::net::Ipv4Addr;
-/// # fn find_in(first: &[u32], words: &[u32], steps: u32, address: Ipv4Addr) -> Result<Option<usize>, Fault> {
+/// # fn find_in(first: &[u32], words: &[u32], steps: u32, address: Ipv4Addr) -> Result<Option<usize>, WordsFault> {
 /// Ok(find(&first, &words, steps, address.to_bits()))
 /// # }
 /// # let keys = [Key { address: 0x0a000000u32, len: 8 }, Key { address: 0x0a010000, len: 16 }];
@@ -36,7 +36,7 @@ const MOST_STEPS: u32 = 21;
 /// ```
 #[inline(always)]
 pub fn find<A: Address, T: Words>(first: &T, words: &T, steps: u32, address: A) -> Option<usize> {
-    row(value_of(first, words, steps, address))
+    row(found_value(first, words, steps, address))
 }
 
 /// The index that a value says.
@@ -50,7 +50,7 @@ fn row(value: u32) -> Option<usize> {
 
 /// The value that an address is led to.
 #[inline(always)]
-fn value_of<A: Address, T: Words>(first: &T, words: &T, steps: u32, address: A) -> u32 {
+fn found_value<A: Address, T: Words>(first: &T, words: &T, steps: u32, address: A) -> u32 {
     address.padded();
     let width = A::padded_width();
     if steps > MOST_STEPS {

@@ -175,8 +175,6 @@ where
 
     #[inline]
     fn position(&self, address: &C::Address) -> Option<u128> {
-        // the call tells the proof that the prefix length fits
-        let _len = self.network_length();
         if !self.contains(address) {
             return None;
         }

@@ -1,7 +1,6 @@
 //! Ranges of addresses: from a first to a last one.
 
 use cidr_support::vec::Vec;
-use crate::search::known;
 use crate::set::{NetworkSet, reduced};
 use cidr::names::{AnyIpCidr, BitString, IpAddr, Ipv4Addr, Ipv4Cidr, Ipv6Addr, Ipv6Cidr, NetworkBits};
 use cidr_support::alloc::{AllocError, Global};
@@ -138,8 +137,6 @@ impl<C: Addressed + Copy> NetworkSet<C> {
         last: C::Address,
     ) -> Result<Self, AllocError> {
         let (first, last) = (C::single(first), C::single(last));
-        known(&first);
-        known(&last);
         let mut networks = Vec::new(alloc);
         match first.cmp(&last) {
             Ordering::Less => {
@@ -215,7 +212,6 @@ impl<'a, C: Addressed + Copy> FusedIterator for Ranges<'a, C> {}
 
 /// Whether no address is between two networks, of which the first comes before the other.
 fn touches<C: BitString>(network: &C, next: &C) -> bool {
-    known(network);
     let shared = network.shared_prefix_len(next);
     if shared >= network.len() || shared >= next.len() {
         return false;
@@ -240,7 +236,6 @@ fn push_side<C: BitString + Copy>(
     len: usize,
     up: bool,
 ) -> Result<(), AllocError> {
-    known(edge);
     let mut block = trimmed(edge, len, up);
     out.push(block)?;
     let start = block.len();

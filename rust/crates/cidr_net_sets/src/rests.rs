@@ -1,6 +1,5 @@
 //! Steps that leave the addresses of some networks out of another.
 
-use crate::search::known;
 use cidr::names::{BitString, NetworkBits};
 use cidr_table::is_inside;
 
@@ -25,7 +24,6 @@ pub(crate) fn is_passed<C: NetworkBits>(network: &C, next: &C) -> bool {
 /// A half of a network that has another inside.
 #[inline]
 pub(crate) fn half<C: BitString + Copy>(network: &C, inner: &C, upper: bool) -> C {
-    known(inner);
     let mut half = *inner;
     half.clip(network.len());
     half.append(upper);

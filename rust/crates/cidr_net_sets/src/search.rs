@@ -1,6 +1,6 @@
 //! Searches in networks that ascend.
 
-use cidr::names::{BitString, NetworkBits};
+use cidr::names::NetworkBits;
 use cidr_table::Probe;
 
 /// How many networks come before this one or are the same. Binary search: it makes at most as many comparisons as the
@@ -17,10 +17,4 @@ pub fn place<C: NetworkBits, P: Probe<C>>(networks: &mut P, network: &C) -> usiz
         left = half;
     }
     low
-}
-
-/// Has no more than 129 bits, which a proof gets from the call.
-#[inline]
-pub fn known<C: BitString>(network: &C) {
-    network.len();
 }

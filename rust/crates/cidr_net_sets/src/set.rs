@@ -2,7 +2,6 @@
 
 use cidr_support::vec::Vec;
 use crate::probe::{Networks, contains};
-use crate::search::known;
 use cidr::names::NetworkBits;
 use cidr_table::least_cover_in_place;
 use cidr_support::alloc::{AllocError, Global};
@@ -102,7 +101,6 @@ impl<C: NetworkBits + Copy> NetworkSet<C> {
     /// ```
     #[inline]
     pub fn contains(&self, network: &C) -> bool {
-        known(network);
         contains(&mut self.probe(), network)
     }
 

@@ -6,7 +6,6 @@
 use crate::merging::{next_of, next_shared};
 use crate::ranges::{Addressed, all_from};
 use crate::rests::{half, is_passed, skip};
-use crate::search::known;
 use cidr::names::{BitString, NetworkBits};
 use cidr_table::{is_inside, least_cover_in_place};
 
@@ -142,7 +141,6 @@ pub fn complement_in<C: NetworkBits + Copy>(
     out: &mut [C],
 ) -> Option<usize> {
     assert!(crate::checks::are_reduced(networks));
-    known(network);
     let (count, _) = write_rest(out, 0, network, networks)?;
     Some(count)
 }
@@ -171,8 +169,6 @@ pub fn from_range<C: Addressed + Copy>(
     out: &mut [C],
 ) -> Option<usize> {
     let (first, last) = (C::single(first), C::single(last));
-    known(&first);
-    known(&last);
     write_between(out, 0, &C::null(), &first, &last)
 }
 
@@ -187,9 +183,6 @@ fn write_between<C: NetworkBits + Copy>(
     first: &C,
     last: &C,
 ) -> Option<usize> {
-    known(network);
-    known(first);
-    known(last);
     if is_passed(network, first) || is_passed(last, network) {
         return Some(n);
     }

@@ -256,4 +256,3 @@ pub fn shadowed_by<C: NetworkBits + Copy>(
     }
     Ok(out)
 }
-

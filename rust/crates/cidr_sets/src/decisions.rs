@@ -4,7 +4,6 @@ use cidr_support::vec;
 use cidr_support::vec::Vec;
 use crate::access::Rule;
 use crate::rests::half;
-use crate::search::known;
 use cidr::NetworkBits;
 use cidr_table::{LpmTable, is_inside};
 use cidr_support::alloc::{AllocError, Global};
@@ -42,7 +41,7 @@ fn parts_of<C: NetworkBits + Copy>(
     alloc: Global,
     rules: &[Rule<C>],
 ) -> Result<Vec<(C, usize)>, AllocError> {
-    let rows = rows_of(alloc, rules)?;
+    let rows = rule_rows(alloc, rules)?;
     let mut parts = Vec::new(alloc);
     let mut left = rows.as_slice();
     while let Some((row, behind)) = left.split_first() {
@@ -53,7 +52,7 @@ fn parts_of<C: NetworkBits + Copy>(
 
 /// The networks of the rules, each with its index: in their order, and equal ones in that of the rules.
 #[inline]
-fn rows_of<C: NetworkBits + Copy>(
+fn rule_rows<C: NetworkBits + Copy>(
     alloc: Global,
     rules: &[Rule<C>],
 ) -> Result<Vec<(C, usize)>, AllocError> {
@@ -76,7 +75,6 @@ fn push_parts<'a, C: NetworkBits + Copy>(
     index: usize,
     rows: &'a [(C, usize)],
 ) -> Result<&'a [(C, usize)], AllocError> {
-    known(network);
     let mut least = index;
     let mut left = rows;
     while let Some((row, behind)) = left.split_first() {
@@ -128,7 +126,6 @@ pub fn deciding_in<C: NetworkBits + Copy>(
     parts: &LpmTable<C, usize>,
     network: &C,
 ) -> Result<Vec<usize>, AllocError> {
-    known(network);
     match parts.lookup(network) {
         Some(row) => {
             let mut by = Vec::new(alloc);

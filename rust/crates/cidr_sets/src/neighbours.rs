@@ -1,7 +1,6 @@
 //! The networks of a set that lie in one, and those beside it that make up a whole with it.
 
 use crate::lookup::upto;
-use crate::search::known;
 use cidr::{BitString, NetworkBits};
 use cidr_table::is_inside;
 
@@ -68,7 +67,6 @@ fn other_half<C: BitString + Copy>(
 /// The network that takes the place of those from the first index to before the second, where the addresses of one are
 /// added that none contains: with the other half of it, as far up as both halves are there.
 pub(crate) fn joined_with<C: NetworkBits + Copy>(networks: &[C], network: &C) -> (C, usize, usize) {
-    known(network);
     let (mut start, mut end) = inside_of(networks, network);
     let mut whole = *network;
     while let Some((from, to)) = other_half(networks, start, end, &whole) {

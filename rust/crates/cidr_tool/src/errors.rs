@@ -66,4 +66,3 @@ impl From<OutputFailed> for ToolError {
         ToolError::Output
     }
 }
-

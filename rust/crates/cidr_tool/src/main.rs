@@ -13,7 +13,7 @@ mod run;
 mod walks;
 
 use cidr_system::rt::HostRuntime;
-use cidr_io::arguments::Given;
+use cidr_io::arguments::SystemArguments;
 use cidr_io::memory::Heap;
 use cidr_io::sink::Tracked;
 use program::program;
@@ -21,9 +21,13 @@ use cidr_system::process::ExitCode;
 
 cidr_system::main!(run);
 
-#[inline]
 fn run(rt: HostRuntime) -> ExitCode {
     let (mut out, mut err) = (Tracked::new(rt.stdout()), Tracked::new(rt.stderr()));
     let mut memory = Heap::new(rt.alloc());
-    ExitCode::from(program(&mut memory, &Given { system: &rt }, &mut out, &mut err))
+    ExitCode::from(program(
+        &mut memory,
+        &SystemArguments { system: &rt },
+        &mut out,
+        &mut err,
+    ))
 }

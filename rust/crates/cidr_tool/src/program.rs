@@ -3,7 +3,7 @@
 use crate::errors::ToolError;
 use crate::report::{report, report_no_memory};
 use crate::run::run;
-use cidr_io::arguments::{Arguments, ReadError, borrowed, texts_of};
+use cidr_io::arguments::{ArgumentReadError, Arguments, borrowed, texts_of};
 use cidr_io::memory::Memory;
 use cidr_io::sink::Sink;
 use cidr_support::alloc::AllocError;
@@ -17,8 +17,8 @@ fn answer<M: Memory, A: Arguments, O: Sink>(
 ) -> Result<Result<(), ToolError>, AllocError> {
     let texts = match texts_of(memory, arguments) {
         Ok(texts) => texts,
-        Err(ReadError::NotText(_)) => return Ok(Err(ToolError::Usage)),
-        Err(ReadError::NoMemory) => return Err(AllocError),
+        Err(ArgumentReadError::NotText(_)) => return Ok(Err(ToolError::Usage)),
+        Err(ArgumentReadError::NoMemory) => return Err(AllocError),
     };
     let slices = borrowed(memory, texts.as_slice())?;
     Ok(run(slices.as_slice(), out))

@@ -6,7 +6,7 @@
 #![allow(clippy::manual_unwrap_or_default, clippy::non_canonical_partial_ord_impl)]
 
 use cidr_system::rt::HostRuntime;
-use cidr_io::arguments::Given;
+use cidr_io::arguments::SystemArguments;
 use cidr_io::memory::Heap;
 use cidr_io::sink::Tracked;
 use netset_commands::input::files::System;
@@ -38,7 +38,7 @@ fn run(rt: HostRuntime) -> ExitCode {
         runtime: &rt,
         refused: None,
     };
-    let arguments = Given { system: &rt };
+    let arguments = SystemArguments { system: &rt };
     let mut memory = Heap::new(rt.alloc());
     ExitCode::from(program(
         &mut memory,

@@ -36,7 +36,7 @@ use crate::commands::table::Verb;
 use cidr::IpCidr;
 use cidr_io::memory::Memory;
 use cidr_lists::formats::{LineFormat, Style};
-use cidr_lists::forms::{Kind, RowForm};
+use cidr_lists::forms::{ListKind, RowForm};
 use cidr_lists::lines::HostBits;
 use cidr_lists::records::ListForm;
 use cidr_support::alloc::{AllocError, Global};
@@ -286,14 +286,14 @@ impl<'a> Command<'a> {
     }
 
     /// What the lines of the lists are.
-    pub fn kind(&self) -> Kind {
+    pub fn kind(&self) -> ListKind {
         match self {
-            Command::Check(_) | Command::Which(_, _) => Kind::Hosts,
+            Command::Check(_) | Command::Which(_, _) => ListKind::Hosts,
             Command::Look(_, form, _, _, _)
             | Command::Compile(form, _, _)
             | Command::Same(form, _, _)
-            | Command::Smallest(_, form, _) => Kind::Rows(*form),
-            _ => Kind::Networks,
+            | Command::Smallest(_, form, _) => ListKind::Rows(*form),
+            _ => ListKind::Networks,
         }
     }
 }

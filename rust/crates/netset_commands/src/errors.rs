@@ -7,7 +7,7 @@ use cidr_lists::wrong::Wrong;
 use cidr_support::alloc::AllocError;
 
 /// Why a list can't be read.
-pub enum ReadError {
+pub enum ListReadError {
     /// The first line in error, counted from 1.
     Line(u64, LineError),
     /// The file or the standard input can't be read.
@@ -189,19 +189,19 @@ impl From<AllocError> for CommandError<'_> {
     }
 }
 
-impl From<lines::ReadError> for ReadError {
+impl From<lines::LineReadError> for ListReadError {
     #[inline]
-    fn from(error: lines::ReadError) -> ReadError {
+    fn from(error: lines::LineReadError) -> ListReadError {
         match error {
-            lines::ReadError::Failed => ReadError::Input,
-            lines::ReadError::NoMemory => ReadError::NoMemory,
+            lines::LineReadError::Failed => ListReadError::Input,
+            lines::LineReadError::NoMemory => ListReadError::NoMemory,
         }
     }
 }
 
-impl From<AllocError> for ReadError {
+impl From<AllocError> for ListReadError {
     #[inline]
-    fn from(_error: AllocError) -> ReadError {
-        ReadError::NoMemory
+    fn from(_error: AllocError) -> ListReadError {
+        ListReadError::NoMemory
     }
 }

@@ -17,7 +17,7 @@ use crate::commands::matching::{match_each, matching};
 use crate::commands::operations::{Operation, form_of};
 use crate::commands::picking::column_of;
 use crate::commands::same::same;
-use crate::commands::single::{answer_single, network_of};
+use crate::commands::single::{answer_single, network_operand};
 use crate::commands::smallest::smallest;
 use crate::commands::split::split;
 use crate::commands::table::Verb;
@@ -35,7 +35,7 @@ use crate::output::held::Held;
 use crate::output::ranges::write_ranges;
 use crate::output::report::{report, report_misuse, report_not_text};
 use crate::output::sets::{write_bytes, write_counts, write_sets};
-use cidr_io::arguments::{Arguments, ReadError as Unreadable, borrowed, texts_of};
+use cidr_io::arguments::{ArgumentReadError, Arguments, borrowed, texts_of};
 use cidr_io::memory::Memory;
 use cidr_io::sink::{Output, OutputFailed, Sink};
 use cidr_io::writing::write_text;
@@ -137,7 +137,7 @@ fn answer<'a, M: Memory, F: Sources, D: Folder, O: Sink>(
 /// The error of the first argument that is wrong whatever the lists say.
 fn wrong_argument<'a>(command: Command<'a>) -> Option<CommandError<'a>> {
     match command {
-        Command::NotIn(_, net, _) => match network_of(net) {
+        Command::NotIn(_, net, _) => match network_operand(net) {
             Ok(_) => None,
             Err(e) => Some(e),
         },
@@ -150,6 +150,10 @@ fn wrong_argument<'a>(command: Command<'a>) -> Option<CommandError<'a>> {
                 Ok(_) => None,
                 Err(e) => Some(e),
             },
+            None => Some(CommandError::Argument(len, ArgumentError::Length)),
+        },
+        Command::Split(_, _, len) => match length_of(len) {
+            Some(_) => None,
             None => Some(CommandError::Argument(len, ArgumentError::Length)),
         },
         Command::Match(choice, _, _, _)
@@ -167,7 +171,6 @@ fn wrong_argument<'a>(command: Command<'a>) -> Option<CommandError<'a>> {
         | Command::Same(_, _, _)
         | Command::Acl(_, _)
         | Command::Check(_)
-        | Command::Split(_, _, _)
         | Command::Smallest(_, _, _)
         | Command::Describe(_, _)
         | Command::Class(_)
@@ -391,10 +394,10 @@ fn answer_texts<M: Memory, F: Files, D: Folder, O: Output, E: Sink>(
 
 /// An argument that is not UTF-8, as it is shown, where that is why the arguments can't be read; else there was no memory.
 #[inline]
-fn not_text(error: &Unreadable) -> Option<&str> {
+fn not_text(error: &ArgumentReadError) -> Option<&str> {
     match error {
-        Unreadable::NotText(shown) => Some(shown.as_str()),
-        Unreadable::NoMemory => None,
+        ArgumentReadError::NotText(shown) => Some(shown.as_str()),
+        ArgumentReadError::NoMemory => None,
     }
 }
 

@@ -7,8 +7,11 @@ use crate::addr::error::{ipv4, AddrParseError};
 use crate::addr::read_v4::read_ipv4;
 use cidr_support::arrayvec::ArrayString;
 
-/// The address that a string is parsed as.
+/// The address that a string is parsed as. One that is longer than any of IPv4, as most of IPv6 are, is refused at once.
 pub(crate) fn read_v4(s: &str) -> Result<Ipv4Addr, AddrParseError> {
+    if s.len() > 15 {
+        return Err(ipv4());
+    }
     match read_ipv4(s.as_bytes()) {
         Some(octets) => Ok(Ipv4Addr::from(octets)),
         None => Err(ipv4()),

@@ -16,9 +16,9 @@ returns-then-row-table-clause-longest g c = λ size inside good.
     let w = g.W.Address.width in
     let padding = g.W.Address.padding in
     let row = c.in_ok-row.row in
-    let m = longest_there w padding g.W.Family.numbers size c.args.table.now c.args.bytes.now (g.W.Address.value c.args.address) (Some row)
+    let m = longest_there w padding g.W.FileAddress.numbers size c.args.table.now c.args.bytes.now (g.W.Address.value c.args.address) (Some row)
     (numbers c.as_chunks.result.0.now) (numbers c.as_chunks-2.result.0.now) c.in_ok-row.ensures
     (ap numbers c.as_chunks.ensures.front ∙ ap words c.in_ok-first.ensures.part)
     (ap numbers c.as_chunks-2.ensures.front ∙ ap words c.in_ok-words.ensures.part)
     good in
-    absurd (omega (arith, row_within w padding g.W.Family.numbers size c.args.table.now c.args.bytes.now (g.W.Address.value c.args.address) row m, c.if-row-table.true))
+    absurd (omega (arith, row_within w padding g.W.FileAddress.numbers size c.args.table.now c.args.bytes.now (g.W.Address.value c.args.address) row m, c.if-row-table.true))

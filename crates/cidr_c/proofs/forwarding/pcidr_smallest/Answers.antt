@@ -6,10 +6,10 @@ use Rattle.cidr_c.specs.declared.forwarding.CRow.{CRow}
 use Rattle.cidr_c.proofs.Listed.{listed}
 use Rattle.cidr_c.proofs.forwarding.pcidr_smallest.Goals as goal
 
-pub returns-in-Ok-rows_of : goal.returns-in-Ok-rows_of
-returns-in-Ok-rows_of c =
+pub returns-in-Ok-c_rows : goal.returns-in-Ok-c_rows
+returns-in-Ok-c_rows c =
     let told = c.in-Ok.ensures in
-    let made = c.in-Ok-rows_of in
+    let made = c.in-Ok-c_rows in
     let put = c.put_list.new in
     let smallest = c.in-Ok-smallest in
     listed (AreRowValues c.args.rows.now) IsRowValue network_row (IsSmallestOf c.args.rows.now) made.rows.items c.args.out.now put.out c.args.count.now put.count

@@ -37,7 +37,7 @@ returns-clause-read g c =
     (subst (λ x. IsAddressText x c.args.back.now (g.C.Address.PrivUnspecAddress.bits c.in-Some-parsed_in.mask)) c.family.ensures c.in-Some-parsed_in.ensures.1)
     c.in-Some-length_of_mask.len
     (subst (λ x. IsLengthOfMask (width_of x) c.in-Some-length_of_mask.len (g.C.Address.PrivUnspecAddress.bits c.in-Some-parsed_in.mask)) (c.in-Some-parsed_in.ensures.0 ∙ c.family.ensures) c.in-Some-length_of_mask.ensures)
-    c.to_number-number.ensures.width g.met.C.Cidr.known c.new.result c.ok.result c.ok_or.result c.new.ensures.value c.new.ensures.family c.ok.ensures.value c.ok_or.ensures.value in
+    c.address_has_its_width.ensures g.met.C.Cidr.known c.new.result c.ok.result c.ok_or.result c.new.ensures.value c.new.ensures.family c.ok.ensures.value c.ok_or.ensures.value in
     both.0
 
 pub returns-clause-only : goal.returns-clause-only
@@ -47,5 +47,5 @@ returns-clause-only g c =
     (subst (λ x. IsAddressText x c.args.back.now (g.C.Address.PrivUnspecAddress.bits c.in-Some-parsed_in.mask)) c.family.ensures c.in-Some-parsed_in.ensures.1)
     c.in-Some-length_of_mask.len
     (subst (λ x. IsLengthOfMask (width_of x) c.in-Some-length_of_mask.len (g.C.Address.PrivUnspecAddress.bits c.in-Some-parsed_in.mask)) (c.in-Some-parsed_in.ensures.0 ∙ c.family.ensures) c.in-Some-length_of_mask.ensures)
-    c.to_number-number.ensures.width g.met.C.Cidr.known c.new.result c.ok.result c.ok_or.result c.new.ensures.value c.new.ensures.family c.ok.ensures.value c.ok_or.ensures.value in
+    c.address_has_its_width.ensures g.met.C.Cidr.known c.new.result c.ok.result c.ok_or.result c.new.ensures.value c.new.ensures.family c.ok.ensures.value c.ok_or.ensures.value in
     both.1

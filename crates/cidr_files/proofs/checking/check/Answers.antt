@@ -20,9 +20,9 @@ returns-in-Err-clause-refused g c =
     let keys = c.in-Ok.ensures ∙ ap (λ (xs : List ℕ). zip xs p.lengths.now) c.addresses-addresses.ensures in
     let first : map (from_le_bytes w32) c.as_chunks.result.0.now ≡ words p.first.now = ap (map (from_le_bytes w32)) c.as_chunks.ensures.front in
     let nodes : map (from_le_bytes w32) c.as_chunks-2.result.0.now ≡ words p.words.now = ap (map (from_le_bytes w32)) c.as_chunks-2.ensures.front in
-    wrong_words w padding g.W.Family.numbers (parts_in p) p.steps c.in-Err.fault
+    wrong_words w padding g.W.FileAddress.numbers (parts_in p) p.steps c.in-Err.fault
     (same_words (λ ks fs ns. IsFault w padding p.steps ks fs ns c.in-Err.fault)
-    (key_networks value c.as_slice.result.now) (stored_networks g.W.Family.numbers (parts_in p)) _ (words p.first.now) _ (words p.words.now)
+    (key_networks value c.as_slice.result.now) (stored_networks g.W.FileAddress.numbers (parts_in p)) _ (words p.first.now) _ (words p.words.now)
     (ap (key_networks value) c.as_slice.ensures.value ∙ keys) first nodes c.in-Err.ensures.refused)
 
 pub returns-clause-table : goal.returns-clause-table
@@ -31,7 +31,7 @@ returns-clause-table g c =
     let padding = g.W.Address.padding in
     let value = g.W.Address.value in
     let p = c.args.part.now in
-    let networks = stored_networks g.W.Family.numbers (parts_in p) in
+    let networks = stored_networks g.W.FileAddress.numbers (parts_in p) in
     let keys : key_networks value c.in-Ok.keys.items ≡ networks =
     c.in-Ok.ensures ∙ ap (λ (xs : List ℕ). zip xs p.lengths.now) c.addresses-addresses.ensures in
     let first : map (from_le_bytes w32) c.as_chunks.result.0.now ≡ words p.first.now = ap (map (from_le_bytes w32)) c.as_chunks.ensures.front in

@@ -6,7 +6,7 @@ use Rattle.cidr_files.proofs.looking.has.Goals as goal
 
 pub returns-in-Some : goal.returns-in-Some
 returns-in-Some g c = λ good.
-    let networks = stored_networks g.W.Family.numbers (parts_in c.args.part.now) in
+    let networks = stored_networks g.W.FileAddress.numbers (parts_in c.args.part.now) in
     let row = c.in-Some.field-0 in
     let m = c.in-Some.ensures.longest good in
     (λ _. (m.key, (row, slice_get_within networks row m.key m.here, get_or_from_slice_get networks row m.key m.key m.here), m.begins), λ _. refl)

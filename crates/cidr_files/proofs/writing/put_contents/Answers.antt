@@ -8,7 +8,7 @@ use Rattle.cidr_files.proofs.writing.put_contents.Goals as goal
 
 pub returns-clause-parts : goal.returns-clause-parts
 returns-clause-parts g c =
-    let bytes = g.W.Family.bytes_of in
+    let bytes = g.W.FileAddress.bytes_of in
     let value = g.W.Address.value in
     let t = c.args.contents.now in
     let p1 = spelled word_bytes t.first.now in

@@ -20,7 +20,7 @@ returns-clause-width g c =
     of_same (λ these those. (w : ℕ) → w ≤ 129 → AreNetworksOf f w these → AreNetworksOf f w those
     → AreDifferences (in_bits f these) (in_bits f those) (HasWidth w) (in_bits f c.differ.new.out.items))
     c.rows_of-rows.result.now c.args.one.now.rows c.rows_of-others.result.now c.args.other.now.rows c.rows_of-rows.ensures.rows c.rows_of-others.ensures.rows
-    (told_width f g.V.PartialEq.eq c.requires c.rows_of-rows.result.now c.rows_of-others.result.now c.know_all.ensures c.know_all-2.ensures
+    (told_width f g.V.PartialEq.eq c.requires c.rows_of-rows.result.now c.rows_of-others.result.now c.keys_ascend_within_129_bits.ensures c.keys_ascend_within_129_bits-2.ensures
     c.new-out.result.items (f c.null.result) c.new-out.ensures.items c.null.ensures.bits c.differ.new.out.items c.in_ok-differ.ensures.rows)
 
 pub returns-clause-ip : goal.returns-clause-ip
@@ -29,7 +29,7 @@ returns-clause-ip g c =
     of_same (λ these those. AreIpRows f these → AreIpRows f those
     → AreDifferences (in_bits f these) (in_bits f those) IsIpAddressBits (in_bits f c.differ.new.out.items))
     c.rows_of-rows.result.now c.args.one.now.rows c.rows_of-others.result.now c.args.other.now.rows c.rows_of-rows.ensures.rows c.rows_of-others.ensures.rows
-    (told_ip f g.V.PartialEq.eq c.requires c.rows_of-rows.result.now c.rows_of-others.result.now c.know_all.ensures c.know_all-2.ensures
+    (told_ip f g.V.PartialEq.eq c.requires c.rows_of-rows.result.now c.rows_of-others.result.now c.keys_ascend_within_129_bits.ensures c.keys_ascend_within_129_bits-2.ensures
     c.new-out.result.items (f c.null.result) c.new-out.ensures.items c.null.ensures.bits c.differ.new.out.items c.in_ok-differ.ensures.rows)
 
 pub returns-clause-kept : goal.returns-clause-kept
@@ -37,7 +37,7 @@ returns-clause-kept g c =
     let f = g.C.BitString.bits in
     of_same (λ these those. (w : ℕ) → AreNetworksOf f w these → AreNetworksOf f w those → AreNetworksOf f w c.differ.new.out.items)
     c.rows_of-rows.result.now c.args.one.now.rows c.rows_of-others.result.now c.args.other.now.rows c.rows_of-rows.ensures.rows c.rows_of-others.ensures.rows
-    (told_kept f g.V.PartialEq.eq c.requires c.rows_of-rows.result.now c.rows_of-others.result.now c.know_all.ensures c.know_all-2.ensures
+    (told_kept f g.V.PartialEq.eq c.requires c.rows_of-rows.result.now c.rows_of-others.result.now c.keys_ascend_within_129_bits.ensures c.keys_ascend_within_129_bits-2.ensures
     c.new-out.result.items (f c.null.result) c.new-out.ensures.items c.null.ensures.bits c.differ.new.out.items c.in_ok-differ.ensures.rows)
 
 pub returns-clause-kept_ip : goal.returns-clause-kept_ip
@@ -45,5 +45,5 @@ returns-clause-kept_ip g c =
     let f = g.C.BitString.bits in
     of_same (λ these those. AreIpRows f these → AreIpRows f those → AreIpRows f c.differ.new.out.items)
     c.rows_of-rows.result.now c.args.one.now.rows c.rows_of-others.result.now c.args.other.now.rows c.rows_of-rows.ensures.rows c.rows_of-others.ensures.rows
-    (told_kept_ip f g.V.PartialEq.eq c.requires c.rows_of-rows.result.now c.rows_of-others.result.now c.know_all.ensures c.know_all-2.ensures
+    (told_kept_ip f g.V.PartialEq.eq c.requires c.rows_of-rows.result.now c.rows_of-others.result.now c.keys_ascend_within_129_bits.ensures c.keys_ascend_within_129_bits-2.ensures
     c.new-out.result.items (f c.null.result) c.new-out.ensures.items c.null.ensures.bits c.differ.new.out.items c.in_ok-differ.ensures.rows)

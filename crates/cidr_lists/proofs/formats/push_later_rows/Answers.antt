@@ -13,12 +13,12 @@ pub loop-network-preserved : goal.loop-network-preserved
 loop-network-preserved g c =
     let layout = c.args.layout.now in
     one_appended (λ network. layout.between.now ++ row (family_by g.C.FamilyCidr.FAMILY g.C.BitString.bits) (layout_in layout) network) c.args.text.now.items c.args.networks.now
-    c.loop-network.network-index c.network-item.result c.loop-network.text.items c.push_row.new.text.items c.loop-network-test.true c.network-item.is
+    c.loop-network.network-index c.network-item.result c.loop-network.text.items c.push_network.new.text.items c.loop-network-test.true c.network-item.is
     c.loop-network.invariant
-    (two_pushed c.loop-network.text.items c.extend_from_slice.new.self.items c.push_row.new.text.items layout.between.now
+    (two_pushed c.loop-network.text.items c.extend_from_slice.new.self.items c.push_network.new.text.items layout.between.now
     (row (family_by g.C.FamilyCidr.FAMILY g.C.BitString.bits) (layout_in layout) c.network-item.result)
     (rw c.as_bytes.ensures.value at c.in_ok-extend_from_slice.ensures.items)
-    c.in_ok-push_row.ensures)
+    c.in_ok-push_network.ensures)
 
 pub returns : goal.returns
 returns g c =

@@ -105,7 +105,7 @@ returns g t c =
     subst (λ new. IsPartStep f p c.args.index c.args.rows.now left old new)
     (sym (c.in_ok-push.ensures.items ∙ ap (λ parts. parts ++ (c.args.network.now, l.least) ∷ []) l.invariant.parts))
     (l.invariant.left left old (old ++ (c.args.network.now, l.least) ∷ [])
-    (step_whole f p l.least c.args.network.now refl c.known.ensures left old l.invariant.from (elim c.match-split_first.branch [
+    (step_whole f p l.least c.args.network.now refl c.has_at_most_129_bits.ensures left old l.invariant.from (elim c.match-split_first.branch [
       | in-Some+then-not-is_inside w ↦ none_inside f p left w.in-Some.behind.now w.in-Some.row.now w.in-Some.ensures.cases.0 l.invariant.from
           (not_from_Decides w.is_inside.result w.is_inside.ensures w.if-not-is_inside.true)
       | in_default w ↦

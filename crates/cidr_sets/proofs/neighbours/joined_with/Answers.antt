@@ -27,7 +27,7 @@ loop-from-preserved g c =
       within = c.in-Some.ensures.within;
       joined = subst (λ r. IsJoined s (f c.args.network.now) r (map f (take c.in-Some.from c.args.networks.now)) (map f (drop c.in-Some.to c.args.networks.now)))
           (sym is)
-          (joined_more s c.requires.reduced (f c.args.network.now) c.known.ensures q _ _ _ _ told.0 l.invariant.joined told.1);
+          (joined_more s c.requires.reduced (f c.args.network.now) c.has_at_most_129_bits.ensures q _ _ _ _ told.0 l.invariant.joined told.1);
     }
 
 pub returns-clause-set : goal.returns-clause-set
@@ -37,5 +37,5 @@ returns-clause-set g c =
     let xs = c.args.networks.now in
     let these = map f (take l.start xs) in
     let those = map f (drop l.end xs) in
-    joined_set (map f xs) c.requires.reduced (f c.args.network.now) c.known.ensures (f l.whole) these those l.invariant.joined
+    joined_set (map f xs) c.requires.reduced (f c.args.network.now) c.has_at_most_129_bits.ensures (f l.whole) these those l.invariant.joined
     (by_none c.other_half.result (IsAlone (f l.whole) these those) _ c.in_default.not-Some c.other_half.ensures.beside)

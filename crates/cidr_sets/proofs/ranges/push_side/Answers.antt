@@ -8,7 +8,7 @@ loop-block-init g c =
     let f = g.C.BitString.bits in
     let told = c.trimmed-block.ensures in
     rw (c.len-start.ensures.value, c.in_ok-push.ensures.items)
-    (side_start f (f c.args.edge.now) c.args.up c.args.out.now.items c.args.len c.trimmed-block.result c.known.ensures
+    (side_start f (f c.args.edge.now) c.args.up c.args.out.now.items c.args.len c.trimmed-block.result c.has_at_most_129_bits.ensures
     (record { bits = told.bits; within = told.within; upto = told.upto }))
 
 pub loop-block-preserved-in-Continue-branch-2 : goal.loop-block-preserved-in-Continue-branch-2

@@ -23,7 +23,7 @@ returns-then-is_passed-clause-filled g t c =
     let last = f c.args.last.now in
     let p = f c.args.network.now in
     filled_none (IsBetweenEdges first last) p (map f (take c.args.n c.args.out.now)) c.requires.ascend c.requires.before
-    (none_within first last c.known-2.ensures c.known-3.ensures p (elim c.then-is_passed.branch [
+    (none_within first last c.has_at_most_129_bits-2.ensures c.has_at_most_129_bits-3.ensures p (elim c.then-is_passed.branch [
       | then-is_passed-via-then-is_passed w ↦ inl (c.is_passed.ensures.0 w.if-is_passed.true)
       | then-is_passed-via-else-is_passed+then-is_passed-2 w ↦ inr (w.is_passed-else-is_passed.ensures.0 w.if-is_passed-2.true)
     ]))
@@ -40,11 +40,11 @@ returns-then-not-is_cut-clause-filled g t c =
     let more = not_from_Decides c.is_passed-else-is_passed.result c.is_passed-else-is_passed.ensures c.if-is_passed-2.false in
     let whole = not_from_Decides c.is_cut-starts.result c.is_cut-starts.ensures c.if-not-starts.true in
     let full = not_from_Decides c.is_cut.result c.is_cut.ensures c.if-not-is_cut.true in
-    let all = all_within first last c.known-2.ensures c.known-3.ensures p (first_one first last p some more whole) (last_one first last p some more full) in
+    let all = all_within first last c.has_at_most_129_bits-2.ensures c.has_at_most_129_bits-3.ensures p (first_one first last p some more whole) (last_one first last p some more full) in
     IfSome_then c.write.result c.write.ensures.some (λ count h.
     subst (λ new. IsFilled (IsBetweenEdges first last) p old new)
     (sym (written_by f c.args.out.now c.write.new.out c.args.n count c.args.network.now h))
-    (filled_whole (IsBetweenEdges first last) p old c.requires.ascend c.requires.before c.known.ensures all))
+    (filled_whole (IsBetweenEdges first last) p old c.requires.ascend c.requires.before c.has_at_most_129_bits.ensures all))
 
 pub returns-then-not-is_cut-clause-fits : goal.returns-then-not-is_cut-clause-fits
 returns-then-not-is_cut-clause-fits g t c =
@@ -70,10 +70,10 @@ returns-then-not-is_cut-clause-over g t c =
     let more = not_from_Decides c.is_passed-else-is_passed.result c.is_passed-else-is_passed.ensures c.if-is_passed-2.false in
     let whole = not_from_Decides c.is_cut-starts.result c.is_cut-starts.ensures c.if-not-starts.true in
     let full = not_from_Decides c.is_cut.result c.is_cut.ensures c.if-not-is_cut.true in
-    let all = all_within first last c.known-2.ensures c.known-3.ensures p (first_one first last p some more whole) (last_one first last p some more full) in
+    let all = all_within first last c.has_at_most_129_bits-2.ensures c.has_at_most_129_bits-3.ensures p (first_one first last p some more whole) (last_one first last p some more full) in
     if_none_then c.write.result c.write.ensures.full (λ h.
     overfull_whole (IsBetweenEdges first last) p old (length c.args.out.now)
-    (filled_whole (IsBetweenEdges first last) p old c.requires.ascend c.requires.before c.known.ensures all)
+    (filled_whole (IsBetweenEdges first last) p old c.requires.ascend c.requires.before c.has_at_most_129_bits.ensures all)
     (omega (arith, h, written_length f c.args.out.now c.args.n c.requires.within)))
 
 pub half-lower-requires-clause-longer : goal.half-lower-requires-clause-longer
@@ -131,7 +131,7 @@ returns-in_err-count-clause-over g t c =
       | else-not-starts-via-then-not-starts+else-not-is_cut v ↦ inr (v.is_cut.ensures.0 v.if-not-is_cut.false)
       | else-not-starts-via-else-not-starts v ↦ inl (c.is_cut-starts.ensures.0 v.if-not-starts.false)
     ] in
-    let bare = not_all_within first last c.known-2.ensures c.known-3.ensures p cut in
+    let bare = not_all_within first last c.has_at_most_129_bits-2.ensures c.has_at_most_129_bits-3.ensures p cut in
     rw c.from_residual.ensures
     (overfull_lower (IsBetweenEdges first last) p old bare room
     (subst (λ z. IsOverfull (IsBetweenEdges first last) z old room) c.half-lower.ensures.bits c.in_err-count.ensures.over))
@@ -150,7 +150,7 @@ write_between-requires-2 g t c =
       | else-not-starts-via-then-not-starts+else-not-is_cut v ↦ inr (v.is_cut.ensures.0 v.if-not-is_cut.false)
       | else-not-starts-via-else-not-starts v ↦ inl (c.is_cut-starts.ensures.0 v.if-not-starts.false)
     ] in
-    let bare = not_all_within first last c.known-2.ensures c.known-3.ensures p cut in
+    let bare = not_all_within first last c.has_at_most_129_bits-2.ensures c.has_at_most_129_bits-3.ensures p cut in
     let lo = subst (λ z. IsFilled (IsBetweenEdges first last) z old mid) c.half-lower.ensures.bits c.in_ok-count.ensures.filled in
     let ascend : Ascend mid = lo.ascend in
     let before : (x : List Bool) → Contains mid x → bit_cmp x half ≡ Less = λ x k.
@@ -172,7 +172,7 @@ returns-clause-filled g t c =
       | else-not-starts-via-then-not-starts+else-not-is_cut v ↦ inr (v.is_cut.ensures.0 v.if-not-is_cut.false)
       | else-not-starts-via-else-not-starts v ↦ inl (c.is_cut-starts.ensures.0 v.if-not-starts.false)
     ] in
-    let bare = not_all_within first last c.known-2.ensures c.known-3.ensures p cut in
+    let bare = not_all_within first last c.has_at_most_129_bits-2.ensures c.has_at_most_129_bits-3.ensures p cut in
     let lo = subst (λ z. IsFilled (IsBetweenEdges first last) z old mid) c.half-lower.ensures.bits c.in_ok-count.ensures.filled in
     IfSome_then c.write_between-2.result c.write_between-2.ensures.filled (λ count h.
     filled_halves (IsBetweenEdges first last) p old bare mid lo (map f (take count out))
@@ -214,7 +214,7 @@ returns-clause-over g t c =
       | else-not-starts-via-then-not-starts+else-not-is_cut v ↦ inr (v.is_cut.ensures.0 v.if-not-is_cut.false)
       | else-not-starts-via-else-not-starts v ↦ inl (c.is_cut-starts.ensures.0 v.if-not-starts.false)
     ] in
-    let bare = not_all_within first last c.known-2.ensures c.known-3.ensures p cut in
+    let bare = not_all_within first last c.has_at_most_129_bits-2.ensures c.has_at_most_129_bits-3.ensures p cut in
     let lo = subst (λ z. IsFilled (IsBetweenEdges first last) z old mid) c.half-lower.ensures.bits c.in_ok-count.ensures.filled in
     if_none_then c.write_between-2.result c.write_between-2.ensures.over (λ h.
     overfull_upper (IsBetweenEdges first last) p old bare mid lo room

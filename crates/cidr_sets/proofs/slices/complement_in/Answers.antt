@@ -11,13 +11,13 @@ pub returns-in_err-count-clause-short : goal.returns-in_err-count-clause-short
 returns-in_err-count-clause-short g c =
     let f = g.C.BitString.bits in
     rw c.from_residual.ensures
-    (complement_over (f c.args.network.now) c.known.ensures (map f c.args.networks.now) c.requires (length c.args.out.now)
+    (complement_over (f c.args.network.now) c.has_at_most_129_bits.ensures (map f c.args.networks.now) c.requires (length c.args.out.now)
     c.in_err-count.ensures.over)
 
 pub returns-clause-set : goal.returns-clause-set
 returns-clause-set g c =
     let f = g.C.BitString.bits in
-    complement_set (f c.args.network.now) c.known.ensures (map f c.args.networks.now) c.requires
+    complement_set (f c.args.network.now) c.has_at_most_129_bits.ensures (map f c.args.networks.now) c.requires
     (map f (take c.in_ok-count.count c.write_rest.new.out)) _ c.in_ok-count.ensures.cut
 
 pub returns-clause-fits : goal.returns-clause-fits

@@ -17,7 +17,7 @@ returns-clause-set g c =
     let out = c.write_between.new.out in
     rw (← c.single-first.ensures.bits, ← c.single-last.ensures.bits)
     (IfSome_then c.write_between.result c.write_between.ensures.filled (λ count h.
-    range_filled first last c.known.ensures c.known-2.ensures (map f (take count out))
+    range_filled first last c.has_at_most_129_bits.ensures c.has_at_most_129_bits-2.ensures (map f (take count out))
     (subst (λ z. IsFilled (IsBetweenEdges first last) z [] (map f (take count out))) c.null.ensures.bits h)))
 
 pub returns-clause-fits : goal.returns-clause-fits
@@ -42,5 +42,5 @@ returns-clause-short g c =
     let room = length c.args.out.now in
     rw (← c.single-first.ensures.bits, ← c.single-last.ensures.bits)
     (if_none_then c.write_between.result c.write_between.ensures.over (λ h.
-    range_overfull first last c.known.ensures c.known-2.ensures room
+    range_overfull first last c.has_at_most_129_bits.ensures c.has_at_most_129_bits-2.ensures room
     (subst (λ z. IsOverfull (IsBetweenEdges first last) z [] room) c.null.ensures.bits h)))

@@ -4,13 +4,13 @@ use Rattle.cidr_lookup.specs.Faults.{IsFault}
 use Rattle.cidr_lookup.specs.FaultLaws.{no_fault}
 use Rattle.cidr_lookup.specs.Keys.{key_networks}
 use Rattle.cidr_lookup.specs.Tables.{IsLookupTable}
-use Rattle.cidr_lookup.specs.declared.checking.Fault.{Fault}
-use Rattle.cidr_lookup.specs.declared.checking.Fault.TheVariants.{Keys}
+use Rattle.cidr_lookup.specs.declared.checking.WordsFault.{WordsFault}
+use Rattle.cidr_lookup.specs.declared.checking.WordsFault.TheVariants.{Keys}
 use Rattle.cidr_lookup.specs.declared.key.Key.{Key}
 use Rattle.cidr_lookup.specs.declared.table.TableError.TheVariants.{NoMemory}
 use Rattle.cidr_uses.proofs.lookup_tables.built_is_accepted.Goals as goal
 
-accepted : {T : Type 0} (result : Result T Fault) (steps : ℕ) (networks : List (ℕ × ℕ)) (first first' words words' : List ℕ) → first' ≡ first → words' ≡ words
+accepted : {T : Type 0} (result : Result T WordsFault) (steps : ℕ) (networks : List (ℕ × ℕ)) (first first' words words' : List ℕ) → first' ≡ first → words' ≡ words
     → IsLookupTable 32 4 steps networks first words → length networks < 2 ^ 31 → length first < 2 ^ 30 → length words < 2 ^ 30
     → IfErr result (IsFault 32 4 steps networks first' words') → IfErr result (λ fault. fault ≡ Keys NoMemory)
 accepted (Ok value) steps networks first first' words words' f ws good few less less' wrong = wrong

@@ -4,7 +4,6 @@ use cidr_support::vec::Vec;
 use crate::lookup::{covers, upto};
 use crate::merging::{next_of, next_shared};
 use crate::rests::{half, skip};
-use crate::search::known;
 use crate::set::{NetworkSet, joined};
 use cidr::NetworkBits;
 use cidr_table::is_inside;
@@ -184,7 +183,6 @@ impl<C: NetworkBits + Copy> NetworkSet<C> {
     /// `AllocError` where memory runs out.
     #[inline]
     pub fn complement_in(&self, network: &C) -> Result<NetworkSet<C>, AllocError> {
-        known(network);
         let mut rest = Vec::new(self.networks.allocator().clone());
         push_rest(&mut rest, network, self.as_slice())?;
         Ok(NetworkSet { networks: rest })
@@ -306,6 +304,5 @@ fn first_inside<C: NetworkBits + Copy>(networks: &[C], outer: &C) -> Option<C> {
 /// Whether one of the networks has an address in common with this one.
 #[inline]
 fn meets<C: NetworkBits + Copy>(networks: &[C], network: &C) -> bool {
-    known(network);
     covers(networks, network) || first_inside(networks, network).is_some()
 }

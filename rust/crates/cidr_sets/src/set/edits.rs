@@ -4,7 +4,6 @@ use cidr_support::vec::Vec;
 use crate::lookup::{covers, upto};
 use crate::neighbours::{inside_of, joined_with};
 use crate::replacing::{cut, put, replace};
-use crate::search::known;
 use crate::set::NetworkSet;
 use crate::set::algebra::push_rest;
 use cidr::NetworkBits;
@@ -33,7 +32,6 @@ impl<C: NetworkBits + Copy> NetworkSet<C> {
     /// `AllocError` where memory runs out.
     #[inline]
     pub fn insert(&mut self, network: C) -> Result<(), AllocError> {
-        known(&network);
         if covers(self.as_slice(), &network) {
             return Ok(());
         }
@@ -63,7 +61,6 @@ impl<C: NetworkBits + Copy> NetworkSet<C> {
     /// `AllocError` where memory runs out.
     #[inline]
     pub fn remove(&mut self, network: &C) -> Result<(), AllocError> {
-        known(network);
         if covers(self.as_slice(), network) {
             return split(&mut self.networks, network);
         }
@@ -75,7 +72,6 @@ impl<C: NetworkBits + Copy> NetworkSet<C> {
 
 /// Puts what is left of the network that contains another in its place.
 fn split<C: NetworkBits + Copy>(networks: &mut Vec<C>, network: &C) -> Result<(), AllocError> {
-    known(network);
     let end = upto(networks.as_slice(), network);
     let outer = networks[end - 1];
     let alloc = networks.allocator().clone();

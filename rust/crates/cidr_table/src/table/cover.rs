@@ -64,7 +64,6 @@ pub fn least_cover_in_place<C: NetworkBits + Copy>(networks: &mut [C]) -> usize 
     let mut n = 0;
     for i in 0..networks.len() {
         let key = networks[i];
-        known(&key);
         if !is_covered(networks, n, &key) {
             networks[n] = key;
             n = merge(networks, n + 1);
@@ -81,19 +80,12 @@ fn least_cover<C: NetworkBits + Copy, V>(rows: &[(C, V)], out: &mut [C]) -> usiz
     let mut n = 0;
     for row in rows {
         let key = &row.0;
-        known(key);
         if !is_covered(out, n, key) {
             out[n] = *key;
             n = merge(out, n + 1);
         }
     }
     n
-}
-
-/// Has no more than 129 bits, which a proof gets from the call.
-#[inline]
-fn known<C: BitString>(key: &C) {
-    key.len();
 }
 
 /// Whether one of the first `count` networks holds a key that is behind them all: if any, it is the last.

@@ -295,7 +295,7 @@ pub fn line_parts<'a, M: Memory>(
     }
 }
 
-/// The operand at a place, from 0 on, or what stands for it.
+/// The operand at an index, counted from 0, or what stands for it.
 #[inline]
 fn operand_or<'a>(operands: &[&'a str], place: usize, otherwise: &'a str) -> &'a str {
     match operands.get(place) {
@@ -347,7 +347,7 @@ fn taken_value<'a>(
 
 /// The value of an option, if it is given: the error is that it is given twice.
 #[inline]
-fn value_of<'a>(
+fn option_value<'a>(
     command: Verb,
     name: &str,
     values: &[&'a str],
@@ -456,9 +456,9 @@ fn chosen_style<'a>(
 /// How networks are written, by the options with a value.
 #[inline]
 fn style_in_values<'a>(command: Verb, values: &[&'a str]) -> Result<Option<Style<'a>>, Misuse<'a>> {
-    let name = value_of(command, "--format", values)?;
-    let prefix = value_of(command, "--prefix", values)?;
-    let suffix = value_of(command, "--suffix", values)?;
+    let name = option_value(command, "--format", values)?;
+    let prefix = option_value(command, "--prefix", values)?;
+    let suffix = option_value(command, "--suffix", values)?;
     chosen_style(command, name, prefix, suffix)
 }
 
@@ -489,7 +489,7 @@ fn chosen_line_format<'a>(command: Verb, name: Option<&'a str>) -> Result<LineFo
 /// The same by the options with a value.
 #[inline]
 fn line_format_in<'a>(command: Verb, values: &[&'a str]) -> Result<LineFormat, Misuse<'a>> {
-    let name = value_of(command, "--format", values)?;
+    let name = option_value(command, "--format", values)?;
     chosen_line_format(command, name)
 }
 
@@ -516,7 +516,7 @@ fn lists_command<'a>(
     files: &'a [&'a str],
 ) -> Result<Command<'a>, Misuse<'a>> {
     let verb = Verb::Lists(operation);
-    let net = value_of(verb, "--in", values)?;
+    let net = option_value(verb, "--in", values)?;
     let style = style_in_values(verb, values)?;
     Ok(made_command(operation, net, style, files))
 }
@@ -539,7 +539,7 @@ fn extent_by<'a>(all: bool, count: Option<&'a str>) -> Result<Extent<'a>, Misuse
 fn free_command<'a>(parts: &'a Parts<'a>) -> Result<Command<'a>, Misuse<'a>> {
     let operands = parts.operands.as_slice();
     let all = has(parts.options.as_slice(), "--all");
-    let count = value_of(Verb::Free, "--count", parts.values.as_slice())?;
+    let count = option_value(Verb::Free, "--count", parts.values.as_slice())?;
     let extent = extent_by(all, count)?;
     let style = style_in_values(Verb::Free, parts.values.as_slice())?;
     Ok(Command::Free(
@@ -600,7 +600,7 @@ fn without_value<'a>(
     why: Misfit,
     values: &[&'a str],
 ) -> Result<(), Misuse<'a>> {
-    let found = value_of(command, option, values)?;
+    let found = option_value(command, option, values)?;
     not_given(command, option, why, found)
 }
 
@@ -652,7 +652,7 @@ fn question_by<'a>(
 fn acl_command<'a>(parts: &'a Parts<'a>) -> Result<Command<'a>, Misuse<'a>> {
     let operands = parts.operands.as_slice();
     let shadowed = has(parts.options.as_slice(), "--shadowed");
-    let old = value_of(Verb::Acl, "--diff", parts.values.as_slice())?;
+    let old = option_value(Verb::Acl, "--diff", parts.values.as_slice())?;
     let question = question_by(shadowed, old, parts.values.as_slice())?;
     Ok(Command::Acl(question, operand_or(operands, 0, "")))
 }
@@ -696,8 +696,8 @@ fn choice_by<'a>(
 /// The same by the parts of a line.
 fn choice_in<'a>(command: Verb, parts: &'a Parts<'a>) -> Result<Choice<'a>, Misuse<'a>> {
     let values = parts.values.as_slice();
-    let number = value_of(command, "--field", values)?;
-    let separator = value_of(command, "--separator", values)?;
+    let number = option_value(command, "--field", values)?;
+    let separator = option_value(command, "--separator", values)?;
     choice_by(
         command,
         number,
@@ -789,7 +789,7 @@ fn list_form_in<'a>(command: Verb, parts: &'a Parts<'a>) -> Result<ListForm, Mis
     if asks_help(options) || takes_value(command, "--table-separator") {
         return Ok(ListForm::Networks(bits_of(options)));
     }
-    match value_of(command, "--form", parts.values.as_slice())? {
+    match option_value(command, "--form", parts.values.as_slice())? {
         Some(name) => named_list_form(command, options, name),
         None => Ok(ListForm::Networks(bits_of(options))),
     }
@@ -826,7 +826,7 @@ fn split_numbers(numbers: &str) -> (&str, &str) {
     }
 }
 
-/// The place, from 0 on, of the field of a number.
+/// The index, counted from 0, of the field of a number.
 #[inline]
 fn place_by(number: &str) -> Option<u64> {
     place_of(number)
@@ -901,9 +901,9 @@ fn layout_by<'a>(
 /// The same by the options with a value.
 #[inline]
 fn layout_in<'a>(command: Verb, values: &[&'a str]) -> Result<RowLayout, Misuse<'a>> {
-    let name = value_of(command, "--form", values)?;
-    let separator = value_of(command, "--table-separator", values)?;
-    let numbers = value_of(command, "--table-fields", values)?;
+    let name = option_value(command, "--form", values)?;
+    let separator = option_value(command, "--table-separator", values)?;
+    let numbers = option_value(command, "--table-fields", values)?;
     layout_by(command, name, separator, numbers)
 }
 
@@ -1092,7 +1092,7 @@ pub fn target_of<'a>(command: Verb, parts: &Parts<'a>) -> Result<Option<&'a str>
     if asks_help(parts.options.as_slice()) {
         return Ok(None);
     }
-    let target = value_of(command, "-o", parts.values.as_slice())?;
+    let target = option_value(command, "-o", parts.values.as_slice())?;
     let options = parts.options.as_slice();
     target_by(
         command,

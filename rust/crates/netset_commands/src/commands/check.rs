@@ -9,10 +9,10 @@ use cidr::IpCidr;
 use cidr_io::block::Block;
 use cidr_io::decimal::decimal_text;
 use cidr_io::memory::Memory;
-use cidr_io::shown::Part;
+use cidr_io::shown::MessagePart;
 use cidr_io::sink::{OutputFailed, Sink};
 use cidr_lists::entries::{Entry, entry_at};
-use cidr_lists::findings::{Finding, Kind, Note, find};
+use cidr_lists::findings::{Finding, FindingKind, Note, find};
 use cidr_lists::near::{Near, near_at, near_lines};
 
 /// The parts of the line of a finding: its place and what is found.
@@ -21,16 +21,16 @@ pub fn found_parts<'a>(
     number: &'a str,
     words: &'a str,
     text: &'a str,
-) -> [Part<'a>; 6] {
+) -> [MessagePart<'a>; 6] {
     let colon: &'a str = ":";
     let end: &'a str = "\n";
     [
-        Part::Shown(file),
-        Part::Plain(colon),
-        Part::Plain(number),
-        Part::Plain(words),
-        Part::Plain(text),
-        Part::Plain(end),
+        MessagePart::Shown(file),
+        MessagePart::Plain(colon),
+        MessagePart::Plain(number),
+        MessagePart::Plain(words),
+        MessagePart::Plain(text),
+        MessagePart::Plain(end),
     ]
 }
 
@@ -41,18 +41,18 @@ fn placed_parts<'a>(
     words: &'a str,
     other: &'a str,
     line: &'a str,
-) -> [Part<'a>; 8] {
+) -> [MessagePart<'a>; 8] {
     let colon: &'a str = ":";
     let end: &'a str = "\n";
     [
-        Part::Shown(file),
-        Part::Plain(colon),
-        Part::Plain(number),
-        Part::Plain(words),
-        Part::Shown(other),
-        Part::Plain(colon),
-        Part::Plain(line),
-        Part::Plain(end),
+        MessagePart::Shown(file),
+        MessagePart::Plain(colon),
+        MessagePart::Plain(number),
+        MessagePart::Plain(words),
+        MessagePart::Shown(other),
+        MessagePart::Plain(colon),
+        MessagePart::Plain(line),
+        MessagePart::Plain(end),
     ]
 }
 
@@ -116,7 +116,7 @@ fn tell<S: Sink>(
     entries: &[Entry<'_>],
     near: &[Near],
     index: usize,
-    kind: Kind,
+    kind: FindingKind,
 ) -> Result<(), OutputFailed> {
     let entry = entry_at(entries, index);
     let Some(note) = find(kind, entries, near_at(near, entries, index), index, entry) else {
@@ -135,11 +135,11 @@ fn tell_line<S: Sink>(
     near: &[Near],
     index: usize,
 ) -> Result<(), OutputFailed> {
-    tell(messages, out, entries, near, index, Kind::HostBits)?;
-    tell(messages, out, entries, near, index, Kind::Form)?;
-    tell(messages, out, entries, near, index, Kind::Same)?;
-    tell(messages, out, entries, near, index, Kind::Outer)?;
-    tell(messages, out, entries, near, index, Kind::Half)?;
+    tell(messages, out, entries, near, index, FindingKind::HostBits)?;
+    tell(messages, out, entries, near, index, FindingKind::Form)?;
+    tell(messages, out, entries, near, index, FindingKind::Same)?;
+    tell(messages, out, entries, near, index, FindingKind::Outer)?;
+    tell(messages, out, entries, near, index, FindingKind::Half)?;
     Ok(())
 }
 

@@ -2,7 +2,7 @@
 
 use crate::commands::combine::combination;
 use crate::commands::operations::Operation;
-use crate::commands::single::network_of;
+use crate::commands::single::network_operand;
 use crate::errors::CommandError;
 use crate::input::files::Sources;
 use crate::input::several::read_several;
@@ -22,7 +22,7 @@ pub fn not_in<'a, M: Memory, F: Sources, O: Sink>(
     files: &'a [&'a str],
     out: &mut O,
 ) -> Result<Verdict, CommandError<'a>> {
-    let network = network_of(net)?;
+    let network = network_operand(net)?;
     let several = read_several(memory, sources, files)?;
     let rest = combination(Operation::Not, several);
     let rest = memory.watch(rest)?;

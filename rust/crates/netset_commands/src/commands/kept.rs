@@ -4,7 +4,7 @@ use cidr_support::vec::Vec;
 use crate::commands::look::{address_asked, verdict_of};
 use crate::commands::matching::{is_line, next_part};
 use crate::errors::{CommandError, Reason};
-use crate::input::table::Networks;
+use crate::input::table::RowLookUps;
 use crate::output::answers::{Verdict, by_output};
 use crate::output::printing::catch_up;
 use cidr_support::arrayvec::ArrayString;
@@ -52,7 +52,7 @@ fn push_kept<S: Sink>(
 
 /// The longest network that an address is in, as it is printed, and its value.
 #[inline]
-fn network_of<'t, T: Networks>(
+fn network_found<'t, T: RowLookUps>(
     table: &'t T,
     address: &IpAddr,
 ) -> Option<(ArrayString<43>, &'t [u8])> {
@@ -64,18 +64,18 @@ fn network_of<'t, T: Networks>(
 
 /// The longest network of the address that a line has, if it has one, as it is printed, and its value.
 #[inline]
-fn network_asked<'t, T: Networks>(
+fn network_asked<'t, T: RowLookUps>(
     table: &'t T,
     asked: &Option<IpAddr>,
 ) -> Option<(ArrayString<43>, &'t [u8])> {
     match asked {
-        Some(address) => network_of(table, address),
+        Some(address) => network_found(table, address),
         None => None,
     }
 }
 
 /// Appends a line that has this address, or none, to a block, with the network of the address; tells whether it has one.
-fn keep_line<T: Networks, S: Sink>(
+fn keep_line<T: RowLookUps, S: Sink>(
     table: &T,
     place: Asked,
     line: &[u8],
@@ -98,7 +98,7 @@ fn keep_line<T: Networks, S: Sink>(
 /// The object of an address, with the longest network that it is in, and whether there is one. The error is that an
 /// allocation fails.
 #[inline]
-fn object_of<T: Networks>(
+fn object_of<T: RowLookUps>(
     alloc: Global,
     table: &T,
     address: &IpAddr,
@@ -111,7 +111,7 @@ fn object_of<T: Networks>(
 
 /// Appends the object of an address to a block; tells whether a network has the address.
 #[inline]
-fn tell_address<'a, T: Networks, M: Memory, S: Sink>(
+fn tell_address<'a, T: RowLookUps, M: Memory, S: Sink>(
     memory: &mut M,
     table: &T,
     address: &IpAddr,
@@ -128,7 +128,7 @@ fn tell_address<'a, T: Networks, M: Memory, S: Sink>(
 
 /// The same of the address that a line has, if it has one.
 #[inline]
-fn tell_object<'a, T: Networks, M: Memory, S: Sink>(
+fn tell_object<'a, T: RowLookUps, M: Memory, S: Sink>(
     memory: &mut M,
     table: &T,
     asked: &Option<IpAddr>,
@@ -143,7 +143,7 @@ fn tell_object<'a, T: Networks, M: Memory, S: Sink>(
 
 /// Appends what is told of a line that has this address, or none, to a block; tells whether a network has the address.
 #[inline]
-fn tell_line<'a, T: Networks, M: Memory, S: Sink>(
+fn tell_line<'a, T: RowLookUps, M: Memory, S: Sink>(
     memory: &mut M,
     table: &T,
     telling: Telling,
@@ -165,7 +165,7 @@ fn tell_line<'a, T: Networks, M: Memory, S: Sink>(
 /// Appends what is told of the line of a part up to a line feed or to the end, if it is one, to a block; tells whether a
 /// network has its address.
 #[inline]
-fn tell_part<'a, T: Networks, M: Memory, S: Sink>(
+fn tell_part<'a, T: RowLookUps, M: Memory, S: Sink>(
     memory: &mut M,
     table: &T,
     telling: Telling,
@@ -229,7 +229,7 @@ fn stop<'a, S: Sink>(
 
 /// Reads a file line by line, and writes what is told of each: the line with the longest network of its address, or the
 /// object of its address; also of those before a line in error. An output that has failed before gets nothing.
-pub fn tell_lines<'a, T: Networks, M: Memory, R: Source, S: Sink>(
+pub fn tell_lines<'a, T: RowLookUps, M: Memory, R: Source, S: Sink>(
     memory: &mut M,
     table: &T,
     telling: Telling,

@@ -3,11 +3,11 @@
 use crate::commands::kept::{tell_lines, write_header};
 use crate::commands::matching::{has, next_part};
 use crate::commands::picking::{Choice, asked_of};
-use crate::errors::{CommandError, ReadError, Reason};
-use crate::input::begun::Given;
+use crate::errors::{CommandError, ListReadError, Reason};
+use crate::input::begun::FileContent;
 use crate::input::files::Sources;
 use crate::input::stored::Stored;
-use crate::input::table::{Answer, LookUps, Networks, give_table, unread};
+use crate::input::table::{Answer, LookUps, RowLookUps, give_table, unread};
 use crate::output::answers::Verdict;
 use crate::output::printing::catch_up;
 use cidr_support::arrayvec::ArrayVec;
@@ -25,7 +25,7 @@ use cidr_lists::objects::{Telling, telling_by};
 /// Why look-ups end early.
 pub enum LookError {
     /// A line is in error or can't be read.
-    Reading(ReadError),
+    Reading(ListReadError),
     /// The output has failed.
     Output,
 }
@@ -73,14 +73,14 @@ fn read_group<M: Memory, R: Source>(
     first: u64,
     reader: &mut LineReader<R>,
     asked: &mut ArrayVec<Option<IpAddr>, GROUP>,
-) -> Result<Option<u64>, ReadError> {
+) -> Result<Option<u64>, ListReadError> {
     for number in first..u64::MAX {
         if asked.is_full() || (number > first && !reader.has_line()) {
             return Ok(Some(number));
         }
         let has_more = reader.read_line(memory)?;
         if let Err(e) = ask_line(place, reader.line(), asked) {
-            return Err(ReadError::Line(number, e));
+            return Err(ListReadError::Line(number, e));
         }
         if !has_more {
             return Ok(None);
@@ -179,7 +179,7 @@ fn look_lines<T: LookUps, M: Memory, R: Source, S: Sink>(
             Err(e) => return Err(LookError::Reading(e)),
         }
     }
-    Err(LookError::Reading(ReadError::Input))
+    Err(LookError::Reading(ListReadError::Input))
 }
 
 /// Looks up the address of each line and writes their lines in blocks, also those before a line in error; tells whether
@@ -216,7 +216,7 @@ pub fn verdict_of(found: bool) -> Verdict {
 
 /// Looks up the addresses of what is left of a file in a table, and tells them: by themselves, with their lines or as
 /// objects.
-fn look_left<'a, T: Networks, M: Memory, R: Source, O: Sink>(
+fn look_left<'a, T: RowLookUps, M: Memory, R: Source, O: Sink>(
     memory: &mut M,
     table: &T,
     telling: Telling,
@@ -250,7 +250,7 @@ fn behind_header<'a>(error: CommandError<'a>) -> CommandError<'a> {
 
 /// The same as `look_left` of a file whose first line is a header: its addresses are not looked up, and where lines are
 /// told it is written as it is. One that is too long is in error.
-fn look_behind<'a, T: Networks, M: Memory, R: Source, O: Sink>(
+fn look_behind<'a, T: RowLookUps, M: Memory, R: Source, O: Sink>(
     memory: &mut M,
     table: &T,
     telling: Telling,
@@ -282,7 +282,7 @@ fn look_behind<'a, T: Networks, M: Memory, R: Source, O: Sink>(
 }
 
 /// Looks up the addresses of a file in a table, and tells them. Its first line is a header or not.
-fn look_in<'a, T: Networks, M: Memory, F: Sources, O: Sink>(
+fn look_in<'a, T: RowLookUps, M: Memory, F: Sources, O: Sink>(
     memory: &mut M,
     sources: &F,
     table: &T,
@@ -322,8 +322,10 @@ pub fn look<'a, M: Memory, F: Sources, O: Sink>(
     let telling = telling_by(form.values, keeps);
     let headed = has(options, "--header");
     match give_table(memory, sources, form, table)? {
-        Given::Lines(rows) => look_in(memory, sources, &rows, telling, place, headed, file, out),
-        Given::Stored(bytes) => {
+        FileContent::Lines(rows) => look_in(
+            memory, sources, &rows, telling, place, headed, file, out,
+        ),
+        FileContent::Stored(bytes) => {
             let stored = Stored::check(memory, table, bytes.as_slice())?;
             stored.check_values(form.values, table)?;
             look_in(memory, sources, &stored, telling, place, headed, file, out)

@@ -8,7 +8,7 @@ use crate::output::answers::{Verdict, by_output};
 use crate::output::printing::catch_up;
 use cidr_io::block::Block;
 use cidr_io::decimal::decimal_text;
-use cidr_io::lines::{LineReader, ReadError, is_too_long};
+use cidr_io::lines::{LineReadError, LineReader, is_too_long};
 use cidr_io::memory::Memory;
 use cidr_io::sink::{OutputFailed, Sink};
 use cidr_io::source::Source;
@@ -331,8 +331,8 @@ pub fn next_part<'a, M: Memory, R: Source>(
 ) -> Result<bool, CommandError<'a>> {
     match reader.read_line(memory) {
         Ok(has_more) => Ok(has_more),
-        Err(ReadError::NoMemory) => Err(CommandError::NoMemory),
-        Err(ReadError::Failed) => Err(CommandError::Input(file, Reason::Unknown)),
+        Err(LineReadError::NoMemory) => Err(CommandError::NoMemory),
+        Err(LineReadError::Failed) => Err(CommandError::Input(file, Reason::Unknown)),
     }
 }
 
@@ -465,7 +465,7 @@ pub fn match_each<'a, M: Memory, F: Sources, O: Sink>(
     out: &mut O,
 ) -> Result<Verdict, CommandError<'a>> {
     let column = column_of(choice)?;
-    let sets = read_addresses(memory, sources, list)?;
-    let matcher = matcher_of(&sets, column, options);
+    let addresses = read_addresses(memory, sources, list)?;
+    let matcher = matcher_of(&addresses, column, options);
     match_files(memory, sources, &matcher, files, out)
 }

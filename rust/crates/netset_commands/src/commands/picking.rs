@@ -13,7 +13,7 @@ pub enum Choice<'a> {
     Field(&'a str, Option<&'a str>),
 }
 
-/// The place, from 0 on, of the field of a number.
+/// The index, counted from 0, of the field of a number.
 #[inline]
 pub fn place_of(number: &str) -> Option<u64> {
     match number.parse::<u64>() {

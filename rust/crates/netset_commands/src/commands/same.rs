@@ -5,7 +5,7 @@ use crate::errors::CommandError;
 use crate::input::files::Sources;
 use crate::input::numbers::Numbers;
 use crate::input::table::read_table;
-use crate::input::tables::Table;
+use crate::input::tables::PlainTable;
 use crate::output::answers::{Verdict, by_output};
 use cidr_support::arrayvec::ArrayString;
 use cidr::{FamilyCidr, Ipv4Cidr, Ipv6Cidr};
@@ -44,7 +44,11 @@ fn listed<C: FamilyCidr>(
 
 /// The networks of each family for which two tables have different values.
 #[inline]
-fn compare<'a>(alloc: Global, old: &'a Table, new: &'a Table) -> Result<Differing<'a>, AllocError> {
+fn compare<'a>(
+    alloc: Global,
+    old: &'a PlainTable,
+    new: &'a PlainTable,
+) -> Result<Differing<'a>, AllocError> {
     let numbers = Numbers::of_tables(alloc, old, new)?;
     let old_values = old.values.as_slice();
     let new_values = new.values.as_slice();
@@ -92,7 +96,7 @@ fn push_number<S: Sink>(
 
 /// Appends the lines of the values that two tables have for a network.
 #[inline]
-fn push_row<C: FamilyCidr, S: Sink>(
+fn push_differences<C: FamilyCidr, S: Sink>(
     block: &mut Block,
     out: &mut S,
     numbers: &Numbers<'_>,
@@ -112,7 +116,7 @@ fn write_rows<C: FamilyCidr, S: Sink>(
 ) -> Result<(), OutputFailed> {
     let mut block = Block::new();
     for row in rows {
-        push_row(&mut block, out, numbers, *row)?;
+        push_differences(&mut block, out, numbers, *row)?;
     }
     block.write(out)
 }

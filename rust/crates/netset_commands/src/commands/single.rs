@@ -71,7 +71,7 @@ fn show<'a, S: Sink>(text: &'a str, out: &mut S) -> Result<Verdict, CommandError
 
 /// The network that an argument is.
 #[inline]
-pub fn network_of<'a>(text: &'a str) -> Result<IpCidr, CommandError<'a>> {
+pub fn network_operand<'a>(text: &'a str) -> Result<IpCidr, CommandError<'a>> {
     match text.parse() {
         Ok(network) => Ok(network),
         Err(e) => Err(CommandError::Argument(text, ArgumentError::Network(wrong_with(text), e))),
@@ -89,7 +89,7 @@ fn index_of(text: &str) -> Option<u128> {
 
 /// The command `nth`.
 fn nth<'a, S: Sink>(net: &'a str, place: &'a str, out: &mut S) -> Result<Verdict, CommandError<'a>> {
-    let network = network_of(net)?;
+    let network = network_operand(net)?;
     let Some(index) = index_of(place) else {
         return Err(CommandError::Argument(place, ArgumentError::Index));
     };

@@ -5,7 +5,7 @@ use crate::errors::{CommandError, FileError};
 use crate::input::files::Sources;
 use crate::input::numbers::Numbers;
 use crate::input::table::read_table;
-use crate::input::tables::Table;
+use crate::input::tables::PlainTable;
 use crate::output::answers::{Verdict, by_output};
 use cidr_support::arrayvec::ArrayString;
 use cidr::{FamilyCidr, Ipv4Cidr, Ipv6Cidr, NetworkBits};
@@ -14,7 +14,7 @@ use cidr_io::block::Block;
 use cidr_io::memory::Memory;
 use cidr_io::sink::{OutputFailed, Sink};
 use cidr_lists::forms::RowForm;
-use cidr_lists::rows::{Span, value_of};
+use cidr_lists::rows::{Span, value_at_span};
 use cidr_table::LpmTable;
 use cidr_support::alloc::{AllocError, Global};
 
@@ -83,7 +83,11 @@ struct Fewest<'a> {
 
 /// Those of a table.
 #[inline]
-fn fewest_of<'a>(alloc: Global, table: &'a Table, holes: bool) -> Result<Fewest<'a>, AllocError> {
+fn fewest_of<'a>(
+    alloc: Global,
+    table: &'a PlainTable,
+    holes: bool,
+) -> Result<Fewest<'a>, AllocError> {
     let numbers = Numbers::of_table(alloc, table)?;
     let all = table.values.as_slice();
     let ipv4 = numbers.table(alloc, &table.v4, all)?;
@@ -104,7 +108,7 @@ fn told_value<'n>(numbers: &Numbers<'n>, value: Option<usize>) -> &'n [u8] {
 
 /// Appends the line of a row to a block.
 #[inline]
-fn push_row<S: Sink>(
+fn push_table_row<S: Sink>(
     block: &mut Block,
     out: &mut S,
     network: ArrayString<43>,
@@ -125,7 +129,7 @@ fn push_rows<C: FamilyCidr, S: Sink>(
     rows: &[(C, Option<usize>)],
 ) -> Result<(), OutputFailed> {
     for row in rows {
-        push_row(
+        push_table_row(
             block,
             out,
             row.0.to_text_with_length(),
@@ -161,7 +165,7 @@ fn write_fewest<S: Sink>(out: &mut S, fewest: &Fewest<'_>) -> Result<(), OutputF
 #[inline]
 fn has_value<C>(rows: &[(C, Span)], all: &[u8], value: &[u8]) -> bool {
     for row in rows {
-        if value_of(all, row.1) == value {
+        if value_at_span(all, row.1) == value {
             return true;
         }
     }
@@ -170,7 +174,7 @@ fn has_value<C>(rows: &[(C, Span)], all: &[u8], value: &[u8]) -> bool {
 
 /// Whether a table has the value that stands for a hole.
 #[inline]
-fn has_hole(table: &Table) -> bool {
+fn has_hole(table: &PlainTable) -> bool {
     let all = table.values.as_slice();
     if has_value(rows_of(&table.v4), all, b"-") {
         return true;
@@ -180,7 +184,7 @@ fn has_hole(table: &Table) -> bool {
 
 /// Whether there may be holes, and the table has that value.
 #[inline]
-fn is_refused(holes: bool, table: &Table) -> bool {
+fn is_refused(holes: bool, table: &PlainTable) -> bool {
     if holes { has_hole(table) } else { false }
 }
 
@@ -188,7 +192,7 @@ fn is_refused(holes: bool, table: &Table) -> bool {
 #[inline]
 fn tell_fewest<'a, M: Memory, S: Sink>(
     memory: &mut M,
-    table: &Table,
+    table: &PlainTable,
     holes: bool,
     out: &mut S,
 ) -> Result<Verdict, CommandError<'a>> {

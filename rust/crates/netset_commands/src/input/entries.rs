@@ -1,8 +1,8 @@
 //! Reading the lines of lists that have a network or a host.
 
 use cidr_support::vec::Vec;
-use crate::errors::{CommandError, ReadError, Reason};
-use crate::input::begun::Given;
+use crate::errors::{CommandError, ListReadError, Reason};
+use crate::input::begun::FileContent;
 use crate::input::files::Sources;
 use crate::input::keeping::Said;
 use cidr_io::lines::{LineReader, is_too_long};
@@ -13,14 +13,14 @@ use cidr_lists::errors::LineError;
 use cidr_support::alloc::AllocError;
 
 /// Adds the entry that a line has, if it has one.
-pub fn add_line<'a, M: Memory>(
+pub fn add_entry_line<'a, M: Memory>(
     memory: &mut M,
     place: Place<'a>,
     line: &[u8],
     entries: &mut Vec<Entry<'a>>,
-) -> Result<(), ReadError> {
+) -> Result<(), ListReadError> {
     if is_too_long(line) {
-        return Err(ReadError::Line(place.number, LineError::TooLong));
+        return Err(ListReadError::Line(place.number, LineError::TooLong));
     }
     match entry_of(place, line) {
         Ok(Some(entry)) => {
@@ -28,7 +28,7 @@ pub fn add_line<'a, M: Memory>(
             Ok(())
         }
         Ok(None) => Ok(()),
-        Err(e) => Err(ReadError::Line(place.number, e)),
+        Err(e) => Err(ListReadError::Line(place.number, e)),
     }
 }
 
@@ -38,15 +38,15 @@ fn add_lines<'a, M: Memory, S: Source>(
     reader: &mut LineReader<S>,
     file: &'a str,
     entries: &mut Vec<Entry<'a>>,
-) -> Result<(), ReadError> {
+) -> Result<(), ListReadError> {
     for number in 1..u64::MAX {
         let has_more = reader.read_line(memory)?;
-        add_line(memory, Place { file, number }, reader.line(), entries)?;
+        add_entry_line(memory, Place { file, number }, reader.line(), entries)?;
         if !has_more {
             return Ok(());
         }
     }
-    Err(ReadError::Input)
+    Err(ListReadError::Input)
 }
 
 /// Reads a list in blocks, to its end or to its first line in error, and adds its entries.
@@ -56,7 +56,7 @@ fn add_list<'a, M: Memory, S: Source>(
     source: S,
     file: &'a str,
     entries: &mut Vec<Entry<'a>>,
-) -> Result<(), ReadError> {
+) -> Result<(), ListReadError> {
     let mut reader = LineReader::new(memory, source)?;
     add_lines(memory, &mut reader, file, entries)
 }
@@ -74,9 +74,9 @@ fn add_opened<'a, M: Memory, F: Sources>(
     };
     match add_list(memory, reader, file, entries) {
         Ok(()) => Ok(()),
-        Err(ReadError::Line(number, e)) => Err(CommandError::Line(file, number, e)),
-        Err(ReadError::Input) => Err(CommandError::Input(file, Reason::Unknown)),
-        Err(ReadError::NoMemory) => Err(CommandError::NoMemory),
+        Err(ListReadError::Line(number, e)) => Err(CommandError::Line(file, number, e)),
+        Err(ListReadError::Input) => Err(CommandError::Input(file, Reason::Unknown)),
+        Err(ListReadError::NoMemory) => Err(CommandError::NoMemory),
     }
 }
 
@@ -113,7 +113,7 @@ fn add_file<'a, M: Memory, F: Sources>(
     entries: &mut Vec<Entry<'a>>,
 ) -> Result<(), CommandError<'a>> {
     match sources.kept(file) {
-        Some(Given::Lines(Said::Hosts(kept))) => {
+        Some(FileContent::Lines(Said::Hosts(kept))) => {
             add_kept(memory, file, kept.as_slice(), entries)?;
             Ok(())
         }

@@ -1,7 +1,7 @@
 //! The files of a run and its standard input.
 
 use crate::errors::Reason;
-use crate::input::begun::Given;
+use crate::input::begun::FileContent;
 use crate::input::keeping::Said;
 use crate::output::terminal::{Progress, Watched};
 use cidr_io::source::Source;
@@ -31,7 +31,7 @@ pub trait Sources: Sized {
 
     /// What the lines of the file of this name say, if they are read already and none is in error, or its bytes, if they are
     /// and it begins as a file of look-ups.
-    fn kept(&self, name: &str) -> Option<&Given<Said>>;
+    fn kept(&self, name: &str) -> Option<&FileContent<Said>>;
 }
 
 /// The files of a run, and how their lists are read.
@@ -55,7 +55,7 @@ impl<F: Files> Sources for ReadBy<'_, F> {
     }
 
     #[inline]
-    fn kept(&self, _name: &str) -> Option<&Given<Said>> {
+    fn kept(&self, _name: &str) -> Option<&FileContent<Said>> {
         None
     }
 }

@@ -1,7 +1,7 @@
 //! Lists without their lines in error.
 
 use crate::errors::Reason;
-use crate::input::begun::Given;
+use crate::input::begun::FileContent;
 use crate::input::files::Sources;
 use crate::input::keeping::{Kept, Said, list_named};
 use cidr_io::source::Source;
@@ -50,7 +50,7 @@ impl<'a, F: Sources> Sources for GoodLists<'a, F> {
     }
 
     #[inline]
-    fn kept(&self, _name: &str) -> Option<&Given<Said>> {
+    fn kept(&self, _name: &str) -> Option<&FileContent<Said>> {
         None
     }
 }

@@ -1,6 +1,6 @@
 //! Reading lists of networks.
 
-use crate::errors::ReadError;
+use crate::errors::ListReadError;
 use cidr_io::lines::{LineReader, is_too_long};
 use cidr_io::memory::Memory;
 use cidr_io::source::Source;
@@ -9,15 +9,15 @@ use cidr_lists::lists::Lists;
 use cidr_lists::records::{ListForm, content_in};
 
 /// Adds the networks that a line says.
-pub fn add_line<M: Memory>(
+pub fn add_list_line<M: Memory>(
     memory: &mut M,
     list_form: ListForm,
     number: u64,
     line: &[u8],
     lists: &mut Lists,
-) -> Result<(), ReadError> {
+) -> Result<(), ListReadError> {
     if is_too_long(line) {
-        return Err(ReadError::Line(number, LineError::TooLong));
+        return Err(ListReadError::Line(number, LineError::TooLong));
     }
     match content_in(list_form, line) {
         Ok(content) => {
@@ -25,7 +25,7 @@ pub fn add_line<M: Memory>(
             memory.watch(pushed)?;
             Ok(())
         }
-        Err(e) => Err(ReadError::Line(number, e)),
+        Err(e) => Err(ListReadError::Line(number, e)),
     }
 }
 
@@ -35,15 +35,15 @@ fn read_lines<M: Memory, S: Source>(
     list_form: ListForm,
     reader: &mut LineReader<S>,
     lists: &mut Lists,
-) -> Result<(), ReadError> {
+) -> Result<(), ListReadError> {
     for number in 1..u64::MAX {
         let has_more = reader.read_line(memory)?;
-        add_line(memory, list_form, number, reader.line(), lists)?;
+        add_list_line(memory, list_form, number, reader.line(), lists)?;
         if !has_more {
             return Ok(());
         }
     }
-    Err(ReadError::Input)
+    Err(ListReadError::Input)
 }
 
 /// Reads a list in blocks, to its end or to its first line in error, and adds its networks.
@@ -53,7 +53,7 @@ pub fn read_list<M: Memory, S: Source>(
     list_form: ListForm,
     source: S,
     lists: &mut Lists,
-) -> Result<(), ReadError> {
+) -> Result<(), ListReadError> {
     let mut reader = LineReader::new(memory, source)?;
     read_lines(memory, list_form, &mut reader, lists)
 }

@@ -2,9 +2,9 @@
 //! numbers: equal bytes have the same number here, and others another one.
 
 use cidr_support::vec::Vec;
-use crate::input::tables::Table;
+use crate::input::tables::PlainTable;
 use cidr::FamilyCidr;
-use cidr_lists::rows::{Span, value_of};
+use cidr_lists::rows::{Span, value_at_span};
 use cidr_table::LpmTable;
 use cidr_support::alloc::{AllocError, Global};
 
@@ -27,14 +27,14 @@ fn push_values<'a, C>(
     all: &'a [u8],
 ) -> Result<(), AllocError> {
     for row in rows {
-        values.push(value_of(all, row.1))?;
+        values.push(value_at_span(all, row.1))?;
     }
     Ok(())
 }
 
 /// Appends the values of a table.
 #[inline]
-fn push_table<'a>(values: &mut Vec<&'a [u8]>, table: &'a Table) -> Result<(), AllocError> {
+fn push_table<'a>(values: &mut Vec<&'a [u8]>, table: &'a PlainTable) -> Result<(), AllocError> {
     let all = table.values.as_slice();
     push_values(values, table.v4.iter().as_slice(), all)?;
     push_values(values, table.v6.iter().as_slice(), all)
@@ -50,7 +50,7 @@ impl<'a> Numbers<'a> {
 
     /// The numbers of the values of a table. The error is that there is no memory.
     #[inline]
-    pub fn of_table(alloc: Global, table: &'a Table) -> Result<Numbers<'a>, AllocError> {
+    pub fn of_table(alloc: Global, table: &'a PlainTable) -> Result<Numbers<'a>, AllocError> {
         let mut values = Vec::new(alloc);
         push_table(&mut values, table)?;
         Ok(Numbers::of_values(values))
@@ -60,8 +60,8 @@ impl<'a> Numbers<'a> {
     #[inline]
     pub fn of_tables(
         alloc: Global,
-        one: &'a Table,
-        other: &'a Table,
+        one: &'a PlainTable,
+        other: &'a PlainTable,
     ) -> Result<Numbers<'a>, AllocError> {
         let mut values = Vec::new(alloc);
         push_table(&mut values, one)?;
@@ -98,7 +98,7 @@ impl<'a> Numbers<'a> {
         for row in table.iter().as_slice() {
             // the call tells the proof that the prefix length fits
             row.0.network_length();
-            let number = self.number(value_of(all, row.1));
+            let number = self.number(value_at_span(all, row.1));
             rows.push((row.0, number))?;
         }
         Ok(LpmTable::from_rows(rows))

@@ -2,27 +2,27 @@
 
 use cidr_support::vec::Vec;
 use cidr::{Ipv4Cidr, Ipv6Cidr};
-use cidr_lists::rows::{Rows, Span};
+use cidr_lists::rows::{RowList, Span};
 use cidr_lookup::{Keyed, ReadyTable, TableError};
 use cidr_table::LpmTable;
 use cidr_support::alloc::{AllocError, Global};
 
 /// The networks of each family, each with the span of its value, and the bytes of all values.
-pub struct Table {
+pub struct PlainTable {
     /// The networks of IPv4.
     pub v4: LpmTable<Ipv4Cidr, Span>,
     /// The networks of IPv6.
     pub v6: LpmTable<Ipv6Cidr, Span>,
-    /// The bytes of all values, for `value_of` of `cidr_lists`.
+    /// The bytes of all values, for `value_at_span` of `cidr_lists`.
     pub values: Vec<u8>,
 }
 
-impl Table {
+impl PlainTable {
     /// The table of these rows, of which the last one of each network counts. It sorts them, O(n log n).
     #[inline]
-    pub fn of_rows(rows: Rows) -> Table {
-        let Rows { v4, v6, values } = rows;
-        Table {
+    pub fn of_rows(rows: RowList) -> PlainTable {
+        let RowList { v4, v6, values } = rows;
+        PlainTable {
             v4: LpmTable::from_rows(v4),
             v6: LpmTable::from_rows(v6),
             values,
@@ -78,8 +78,8 @@ impl SearchedTable {
     /// The table of these rows, of which the last one of each network counts, made ready for look-ups as `ReadyTable` of
     /// `cidr_lookup` is. The error is that there is no memory.
     #[inline]
-    pub fn of_rows(alloc: Global, rows: Rows) -> Result<SearchedTable, AllocError> {
-        let Table { v4, v6, values } = Table::of_rows(rows);
+    pub fn of_rows(alloc: Global, rows: RowList) -> Result<SearchedTable, AllocError> {
+        let PlainTable { v4, v6, values } = PlainTable::of_rows(rows);
         let v4 = Searched::new(alloc, v4)?;
         let v6 = Searched::new(alloc, v6)?;
         Ok(SearchedTable { v4, v6, values })

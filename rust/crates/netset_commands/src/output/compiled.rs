@@ -1,10 +1,10 @@
 //! Tables as files of look-ups.
 
 use cidr_support::vec::Vec;
-use crate::input::tables::Table;
+use crate::input::tables::PlainTable;
 use cidr::{FamilyCidr, Ipv4Cidr, Ipv6Cidr};
-use cidr_files::{Family, Ipv4Bytes, Ipv6Bytes, Rows, WriteError, written};
-use cidr_lists::rows::{Span, value_of};
+use cidr_files::{FileAddress, FileRows, Ipv4Bytes, Ipv6Bytes, WriteError, written};
+use cidr_lists::rows::{Span, value_at_span};
 use cidr_lookup::{Key, TableError};
 use cidr_support::alloc::{AllocError, Global};
 
@@ -19,8 +19,8 @@ struct Columns<W> {
 impl<W> Columns<W> {
     /// The same, lent.
     #[inline]
-    fn rows(&self) -> Rows<'_, W> {
-        Rows {
+    fn rows(&self) -> FileRows<'_, W> {
+        FileRows {
             keys: self.keys.as_slice(),
             offsets: self.offsets.as_slice(),
             values: self.values.as_slice(),
@@ -29,7 +29,7 @@ impl<W> Columns<W> {
 }
 
 /// The rows of one family, whose values stand among those of all; `None` where these are more bytes than an offset counts.
-fn columns_of<W: Family, C: FamilyCidr>(
+fn columns_of<W: FileAddress, C: FamilyCidr>(
     alloc: Global,
     rows: &[(C, Span)],
     all: &[u8],
@@ -41,7 +41,7 @@ fn columns_of<W: Family, C: FamilyCidr>(
     for row in rows {
         let key = Key::<W>::of(&row.0);
         keys.push(key)?;
-        values.extend_from_slice(value_of(all, row.1))?;
+        values.extend_from_slice(value_at_span(all, row.1))?;
         let end = values.len();
         if end >= 1 << 32 {
             return Ok(None);
@@ -57,7 +57,7 @@ fn columns_of<W: Family, C: FamilyCidr>(
 
 /// The bytes of a file of look-ups that has the rows of a table; `None` where it is too large for one: where a family has
 /// 2^31 rows or more, values of 2^32 bytes or more, or look-ups of 2^30 words or more. The error is that there is no memory.
-pub fn compiled(alloc: Global, table: &Table) -> Result<Option<Vec<u8>>, AllocError> {
+pub fn compiled(alloc: Global, table: &PlainTable) -> Result<Option<Vec<u8>>, AllocError> {
     let all = table.values.as_slice();
     let made = columns_of::<Ipv4Bytes, Ipv4Cidr>(alloc, table.v4.iter().as_slice(), all)?;
     let Some(ipv4) = made else {

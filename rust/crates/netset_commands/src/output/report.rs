@@ -5,7 +5,7 @@ use crate::output::answers::Verdict;
 use cidr_support::arrayvec::ArrayString;
 use cidr_io::block::Block;
 use cidr_io::decimal::decimal_text;
-use cidr_io::shown::{Part, excerpt};
+use cidr_io::shown::{MessagePart, excerpt};
 use cidr_io::sink::{OutputFailed, Sink};
 use cidr_lists::errors::{LineError, wrong_words};
 
@@ -55,7 +55,7 @@ pub fn write_line<S: Sink>(out: &mut S, parts: &[&str]) -> Result<(), OutputFail
 
 /// Writes a message of several parts, and flushes. A sink that has failed before gets nothing.
 #[inline]
-fn write_message<S: Sink>(out: &mut S, parts: &[Part<'_>]) -> Result<(), OutputFailed> {
+fn write_message<S: Sink>(out: &mut S, parts: &[MessagePart<'_>]) -> Result<(), OutputFailed> {
     if out.failed() {
         return Err(OutputFailed);
     }
@@ -65,29 +65,29 @@ fn write_message<S: Sink>(out: &mut S, parts: &[Part<'_>]) -> Result<(), OutputF
 }
 
 /// The parts of the line of a line in error.
-fn fault_parts<'a>(file: &'a str, number: &'a str, message: &'a str) -> [Part<'a>; 6] {
+fn fault_parts<'a>(file: &'a str, number: &'a str, message: &'a str) -> [MessagePart<'a>; 6] {
     let colon: &'a str = ":";
     let gap: &'a str = ": ";
     let end: &'a str = "\n";
     [
-        Part::Shown(file),
-        Part::Plain(colon),
-        Part::Plain(number),
-        Part::Plain(gap),
-        Part::Plain(message),
-        Part::Plain(end),
+        MessagePart::Shown(file),
+        MessagePart::Plain(colon),
+        MessagePart::Plain(number),
+        MessagePart::Plain(gap),
+        MessagePart::Plain(message),
+        MessagePart::Plain(end),
     ]
 }
 
 /// The parts of the line of a file that can't be read.
-fn unread_parts<'a>(name: &'a str, why: &'a str) -> [Part<'a>; 4] {
+fn unread_parts<'a>(name: &'a str, why: &'a str) -> [MessagePart<'a>; 4] {
     let gap: &'a str = ": ";
     let end: &'a str = "\n";
     [
-        Part::Shown(name),
-        Part::Plain(gap),
-        Part::Plain(why),
-        Part::Plain(end),
+        MessagePart::Shown(name),
+        MessagePart::Plain(gap),
+        MessagePart::Plain(why),
+        MessagePart::Plain(end),
     ]
 }
 
@@ -123,8 +123,8 @@ fn file_message(error: FileError) -> &'static str {
 
 /// The parts of the line of a file of look-ups.
 #[inline]
-fn file_parts<'a>(name: &'a str, words: &'a str) -> [Part<'a>; 2] {
-    [Part::Shown(name), Part::Plain(words)]
+fn file_parts<'a>(name: &'a str, words: &'a str) -> [MessagePart<'a>; 2] {
+    [MessagePart::Shown(name), MessagePart::Plain(words)]
 }
 
 /// Appends the line of a line in error to a block, as far as the sink takes lines.

@@ -1,4 +1,4 @@
-use Rattle.std.proofs.Common.{arith, sym, subst}
+use Rattle.std.proofs.Common.{sym, subst}
 use Rattle.cidr.specs.model.Network.{width_of, first_of}
 use Rattle.cidr_ext.specs.model.Inside.{host_mask_of}
 use Rattle.cidr_ext.specs.texts.MaskText.{IsMaskText}
@@ -18,4 +18,4 @@ returns-clause-read g c = λ some below.
     let f = g.C.PrivCidr.family_of c.args.self.now in
     let p = g.C.PrivCidr.prefix c.args.self.now in
     subst (λ t. IsMaskText f t p) (sym (returns-clause-text g c))
-    (host_mask_printed f p (omega (arith, c.network_length-len.ensures.value, c.network_length-len.ensures.fits)) some below)
+    (host_mask_printed f p c.length_is_within_the_width.ensures some below)

@@ -1,4 +1,4 @@
-use Rattle.std.proofs.Common.{arith, sym, subst}
+use Rattle.std.proofs.Common.{sym, subst}
 use Rattle.cidr.specs.model.Network.{width_of, first_of, mask_of}
 use Rattle.cidr_ext.specs.texts.MaskText.{IsMaskText}
 use Rattle.cidr_ext.proofs.MaskTexts.{mask_printed, printed}
@@ -16,4 +16,4 @@ pub returns-clause-read : goal.returns-clause-read
 returns-clause-read g c =
     let f = g.C.PrivCidr.family_of c.args.self.now in
     let p = g.C.PrivCidr.prefix c.args.self.now in
-    subst (λ t. IsMaskText f t p) (sym (returns-clause-text g c)) (mask_printed f p (omega (arith, c.network_length-len.ensures.value, c.network_length-len.ensures.fits)))
+    subst (λ t. IsMaskText f t p) (sym (returns-clause-text g c)) (mask_printed f p c.length_is_within_the_width.ensures)

@@ -1,4 +1,3 @@
-use Rattle.std.proofs.Common.{arith}
 use Rattle.cidr_ext.proofs.Addresses.{position_fits, position_at}
 use Rattle.cidr_ext.proofs.numbered.AnyCidrExt.position.Goals as goal
 
@@ -9,7 +8,7 @@ overflow_sub-result g c =
     (g.C.Address.PrivUnspecAddress.bits c.args.address.now) (g.C.Address.PrivUnspecAddress.bits c.first_address.result)
     c.to_number.result c.to_number-2.result c.contains.result c.contains.ensures c.if-not-contains.false
     c.to_number.ensures.value c.to_number.ensures.width c.first_address.ensures.value c.to_number-2.ensures.value
-    (omega (arith, c.network_length-len.ensures.value, c.network_length-len.ensures.fits))
+    c.length_is_within_the_width.ensures
 
 pub returns : goal.returns
 returns g c =
@@ -18,4 +17,4 @@ returns g c =
     (g.C.Address.PrivUnspecAddress.bits c.args.address.now) (g.C.Address.PrivUnspecAddress.bits c.first_address.result)
     c.to_number.result c.to_number-2.result c.contains.result c.contains.ensures c.if-not-contains.false
     c.to_number.ensures.value c.to_number.ensures.width c.first_address.ensures.value c.to_number-2.ensures.value
-    (omega (arith, c.network_length-len.ensures.value, c.network_length-len.ensures.fits))
+    c.length_is_within_the_width.ensures

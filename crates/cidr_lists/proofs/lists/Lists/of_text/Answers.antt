@@ -8,21 +8,21 @@ use Rattle.cidr_lists.proofs.lists.Lists.of_text.Goals as goal
 pub loop-lists-init : goal.loop-lists-init
 loop-lists-init c = none_read c.args.host_bits c.args.text.now c.new-lists.result c.new-lists.ensures.v4 c.new-lists.ensures.v6
 
-pub returns-in_err-add_line : goal.returns-in_err-add_line
-returns-in_err-add_line c =
+pub returns-in_err-add_list_line : goal.returns-in_err-add_list_line
+returns-in_err-add_list_line c =
     let (y, is, same) = err_from_is_err_and c.from_residual.result c.from_residual.ensures.1 in
     let text = text_by c.args.host_bits c.args.text.now in
     passed_on (HaveNetworks text) (IsListError text) _ y _ is same
     (line_in_error c.args.host_bits c.args.text.now c.loop-lists.rest.now c.split_at.result.0.now c.line_len.result c.loop-lists.number c.loop-lists.lists
-    c.add_line.new.lists c.line_len.ensures.first c.split_at.ensures.front c.loop-lists.invariant _ c.line_len.ensures.fits c.in_err-add_line.ensures)
+    c.add_list_line.new.lists c.line_len.ensures.first c.split_at.ensures.front c.loop-lists.invariant _ c.line_len.ensures.fits c.in_err-add_list_line.ensures)
 
 pub returns-in_default : goal.returns-in_default
 returns-in_default c =
     let rest = c.loop-lists.rest.now in
     last_read c.args.host_bits c.args.text.now rest c.split_at.result.0.now c.line_len.result c.loop-lists.number c.loop-lists.lists
-    c.add_line.new.lists c.line_len.ensures.first c.split_at.ensures.front c.loop-lists.invariant
+    c.add_list_line.new.lists c.line_len.ensures.first c.split_at.ensures.front c.loop-lists.invariant
     (all_of rest c.line_len.result c.line_len.ensures.fits (rw c.split_at.ensures.back at c.in_default.ensures.cases))
-    c.in_ok-add_line.ensures
+    c.in_ok-add_list_line.ensures
 
 pub loop-lists-preserved : goal.loop-lists-preserved
 loop-lists-preserved c =
@@ -30,4 +30,4 @@ loop-lists-preserved c =
     let split = rw c.split_at.ensures.back at c.in-Some.ensures.cases.0 in
     let next = next_is rest c.in-Some.next.now c.line_len.result c.in-Some.field-0-0.now c.line_len.ensures.fits split in
     line_read c.args.host_bits c.args.text.now rest c.split_at.result.0.now c.line_len.result c.loop-lists.number c.loop-lists.lists
-    c.add_line.new.lists c.line_len.ensures.first c.split_at.ensures.front c.loop-lists.invariant c.in-Some.next.now next.0 next.1 c.in_ok-add_line.ensures
+    c.add_list_line.new.lists c.line_len.ensures.first c.split_at.ensures.front c.loop-lists.invariant c.in-Some.next.now next.0 next.1 c.in_ok-add_list_line.ensures

@@ -1,5 +1,5 @@
 use Rattle.std.proofs.Common.{subst, List, length}
-use Rattle.cidr_lookup.specs.Rows.{IsCountRefused, numbered_rows}
+use Rattle.cidr_lookup.specs.Rows.{HaveTooManyWords, IsCountRefused, numbered_rows}
 use Rattle.cidr_lookup.specs.Tables.{IsLookupTable}
 use Rattle.cidr_lookup.proofs.ready.ReadyTable.new.Goals as goal
 
@@ -12,3 +12,8 @@ invariant_of-result g c =
 pub returns-in-Err-clause-refused : goal.returns-in-Err-clause-refused
 returns-in-Err-clause-refused g c =
     subst (λ (xs : List (g.row.C.Denot × g.row.V.Denot)). IsCountRefused (length xs) c.in-Err.error) c.rows_of.ensures.rows c.in-Err.ensures.refused
+
+pub returns-in-Err-clause-large : goal.returns-in-Err-clause-large
+returns-in-Err-clause-large g c = λ e.
+    subst (λ (xs : List (g.row.C.Denot × g.row.V.Denot)). HaveTooManyWords g.C.BitString.bits g.C.Number.Address.width g.C.Number.Address.padding g.C.Number.Address.steps xs)
+    c.rows_of.ensures.rows (c.in-Err.ensures.large e)

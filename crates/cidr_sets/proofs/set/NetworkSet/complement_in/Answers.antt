@@ -14,7 +14,7 @@ returns-clause-set g c =
     let f = g.C.BitString.bits in
     let reduced : IsReduced 129 (map f c.as_slice.result.now) = rw c.as_slice.ensures.networks c.as_slice.ensures.reduced in
     rw (← c.as_slice.ensures.networks)
-    (complement_set (f c.args.network.now) c.known.ensures (map f c.as_slice.result.now) reduced (map f c.push_rest.new.out.items) _
+    (complement_set (f c.args.network.now) c.has_at_most_129_bits.ensures (map f c.as_slice.result.now) reduced (map f c.push_rest.new.out.items) _
     (rw c.new-rest.ensures.items at c.in_ok-push_rest.ensures))
 
 pub invariant_of-result : goal.invariant_of-result

@@ -12,5 +12,5 @@ returns-clause-addresses g c =
     let k = f c.args.network.now in
     let told = returns-clause-networks g c in (
       λ h. full_from_covers 129 s k (told.0 h),
-      λ h. told.1 (covers_from_full 129 s k c.probe.ensures.reduced c.known.ensures h),
+      λ h. told.1 (covers_from_full 129 s k c.probe.ensures.reduced c.has_at_most_129_bits.ensures h),
     )

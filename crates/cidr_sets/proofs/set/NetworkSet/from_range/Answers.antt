@@ -11,7 +11,7 @@ use Rattle.cidr_sets.proofs.set.NetworkSet.from_range.Goals.{in-Less+in_ok-push_
 pub overflow_add-len : goal.overflow_add-len
 overflow_add-len g c =
     let f = g.C.BitString.bits in
-    omega (arith, c.known.ensures, shared_within c.shared_prefix_len-len.result (f c.single-first.result) (f c.single-last.result) c.shared_prefix_len-len.ensures)
+    omega (arith, c.has_at_most_129_bits.ensures, shared_within c.shared_prefix_len-len.result (f c.single-first.result) (f c.single-last.result) c.shared_prefix_len-len.ensures)
 
 pub returns-clause-set : goal.returns-clause-set
 returns-clause-set g c =
@@ -23,8 +23,8 @@ returns-clause-set g c =
     let A = g.C.Addressed.IsAddress in
     let ax : A (f x) = rw c.single-first.ensures.bits c.single-first.ensures.address in
     let ay : A (f y) = rw c.single-last.ensures.bits c.single-last.ensures.address in
-    let sx = c.known.ensures in
-    let sy = c.known-2.ensures in
+    let sx = c.has_at_most_129_bits.ensures in
+    let sy = c.has_at_most_129_bits-2.ensures in
     let out = map f c.reduced.result in
     let told = c.reduced.ensures.set in
     let none = c.new-networks.ensures.items in

@@ -13,7 +13,7 @@ returns-then-covers-clause-ok g c =
     let p = f c.args.network in
     let same = c.as_slice.ensures.networks in
     let reduced = c.as_slice.ensures.reduced in
-    union_held (map f c.args.self.now) reduced p c.known.ensures (subst (λ l. Covers (map f l) p) same (c.covers.ensures.0 c.if-covers.true))
+    union_held (map f c.args.self.now) reduced p c.has_at_most_129_bits.ensures (subst (λ l. Covers (map f l) p) same (c.covers.ensures.0 c.if-covers.true))
 
 pub joined_with-whole-requires-clause-apart : goal.joined_with-whole-requires-clause-apart
 joined_with-whole-requires-clause-apart g c d =

@@ -22,7 +22,7 @@ returns-clause-ok g c =
     let end = c.inside_of-start.result.1 in
     let same = c.as_slice-2.ensures.networks in
     let reduced : IsReduced 129 (map f xs) = subst (λ l. IsReduced 129 (map f l)) (sym same) c.as_slice-2.ensures.reduced in
-    let rest = without_inside (map f xs) reduced p c.known.ensures (map f (take start xs)) (map f (drop end xs))
+    let rest = without_inside (map f xs) reduced p c.has_at_most_129_bits.ensures (map f (take start xs)) (map f (drop end xs))
     c.inside_of-start.ensures.parted
     (λ d. not_from_Decides c.covers.result c.covers.ensures c.if-covers.false
     (subst (λ l. Covers (map f l) p) (sym c.as_slice.ensures.networks) (subst (λ l. Covers (map f l) p) same d))) in

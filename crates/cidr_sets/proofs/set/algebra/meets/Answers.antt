@@ -6,7 +6,7 @@ use Rattle.cidr_sets.proofs.set.algebra.meets.Goals as goal
 pub returns-then-covers : goal.returns-then-covers
 returns-then-covers g c =
     let f = g.C.BitString.bits in (
-      λ t. meets_covered (map f c.args.networks.now) (f c.args.network.now) c.known.ensures (c.covers.ensures.0 c.if-covers.true),
+      λ t. meets_covered (map f c.args.networks.now) (f c.args.network.now) c.has_at_most_129_bits.ensures (c.covers.ensures.0 c.if-covers.true),
       λ m. c.if-covers.true,
     )
 

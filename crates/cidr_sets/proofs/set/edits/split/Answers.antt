@@ -55,7 +55,7 @@ returns-clause-ok g c =
     subst (λ k. IsParted s q (take i s) (drop k s)) after (parted_at s c.requires.reduced q i low here) in
     let new = map f c.push_rest.new.out.items in
     let cut : IsDifferenceStep q [] new (p ∷ []) (map f c.in_ok-push_rest.field-0.now) = search rules in
-    let rest = without_part s c.requires.reduced p c.known.ensures q (take i s) (drop end s) new _ parted (i, low, here) inside cut in
+    let rest = without_part s c.requires.reduced p c.has_at_most_129_bits.ensures q (take i s) (drop end s) new _ parted (i, low, here) inside cut in
     let left : IsDifference 129 s (p ∷ []) (map f (take i xs ++ c.push_rest.new.out.items ++ drop end xs)) =
     subst (IsDifference 129 s (p ∷ []))
     (ap₂ (λ u v. u ++ new ++ v) (take-map f i xs) (drop-map f end xs) ∙ sym (map_three f (take i xs) c.push_rest.new.out.items (drop end xs))) rest in

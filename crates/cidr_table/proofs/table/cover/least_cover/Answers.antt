@@ -29,7 +29,7 @@ merge-n-requires-clause-pushed g c =
     key_pushed g.C.BitString.bits g.C.Ord.cmp g.met.C.NetworkBits.ordered 129 (keys_of c.args.rows.now)
     c.requires.sorted l.out l.row-index l.n l.invariant c.row-item.result.0 (key_within c.args.rows.now l.row-index c.loop-row-test.true)
     (key_read c.args.rows.now l.row-index c.row-item.result c.loop-row-test.true c.row-item.is)
-    room c.is_covered.result c.is_covered.ensures c.if-not-is_covered.true c.known.ensures
+    room c.is_covered.result c.is_covered.ensures c.if-not-is_covered.true c.has_at_most_129_bits.ensures
 
 pub loop-row-preserved : goal.loop-row-preserved
 loop-row-preserved g c =

@@ -35,7 +35,7 @@ merge-n-requires-clause-pushed g c =
     let room : l.n < length l.networks = omega (arith, l.invariant.passed.fits) in
     key_pushed g.C.BitString.bits g.C.Ord.cmp g.met.C.NetworkBits.ordered 129 keys c.requires l.networks l.i l.n
     l.invariant.passed key (search rules) (same_first l.networks keys l.i key l.invariant.rest c.index-networks-i.is)
-    room c.is_covered.result c.is_covered.ensures c.if-not-is_covered.true c.known.ensures
+    room c.is_covered.result c.is_covered.ensures c.if-not-is_covered.true c.has_at_most_129_bits.ensures
 
 pub loop-i-preserved : goal.loop-i-preserved
 loop-i-preserved g c =

@@ -1,19 +1,19 @@
 use Rattle.std.proofs.Common.{◌≡◌, ◌∙◌, ap, codes, List, Option, Result, Ok, ℕ}
 use Rattle.std.proofs.lemmas.Result.{err_from_is_err_and}
-use Rattle.netset_commands.specs.Arguments.{Parts, and_then, choice_by, choice_in, value_of}
+use Rattle.netset_commands.specs.Arguments.{Parts, and_then, choice_by, choice_in, option_value}
 use Rattle.netset_commands.specs.Command.{given, given_parts}
 use Rattle.netset_commands.specs.Matching.{has}
 use Rattle.netset_commands.specs.declared.commands.table.Verb.{Verb}
 use Rattle.netset_commands.proofs.commands.arguments.choice_in.Goals as goal
 
 -- behind the value of --field, and behind both
-behind_field : (command : Verb) (parts : Parts) (number : Option (List ℕ)) → value_of command (codes "--field") parts.values ≡ Ok number
-    → choice_in command parts ≡ and_then (value_of command (codes "--separator") parts.values) (λ separator. choice_by command number (has (codes "--any") parts.options) separator)
+behind_field : (command : Verb) (parts : Parts) (number : Option (List ℕ)) → option_value command (codes "--field") parts.values ≡ Ok number
+    → choice_in command parts ≡ and_then (option_value command (codes "--separator") parts.values) (λ separator. choice_by command number (has (codes "--any") parts.options) separator)
 behind_field command parts number is =
-    ap (λ (r : Result (Option (List ℕ)) (List ℕ)). and_then r (λ n. and_then (value_of command (codes "--separator") parts.values) (λ separator. choice_by command n (has (codes "--any") parts.options) separator))) is
+    ap (λ (r : Result (Option (List ℕ)) (List ℕ)). and_then r (λ n. and_then (option_value command (codes "--separator") parts.values) (λ separator. choice_by command n (has (codes "--any") parts.options) separator))) is
 
-behind_both : (command : Verb) (parts : Parts) (number separator : Option (List ℕ)) → value_of command (codes "--field") parts.values ≡ Ok number
-    → value_of command (codes "--separator") parts.values ≡ Ok separator → choice_in command parts ≡ choice_by command number (has (codes "--any") parts.options) separator
+behind_both : (command : Verb) (parts : Parts) (number separator : Option (List ℕ)) → option_value command (codes "--field") parts.values ≡ Ok number
+    → option_value command (codes "--separator") parts.values ≡ Ok separator → choice_in command parts ≡ choice_by command number (has (codes "--any") parts.options) separator
 behind_both command parts number separator is also =
     behind_field command parts number is
     ∙ ap (λ (r : Result (Option (List ℕ)) (List ℕ)). and_then r (λ text. choice_by command number (has (codes "--any") parts.options) text)) also
@@ -22,7 +22,7 @@ pub returns-in_err-number : goal.returns-in_err-number
 returns-in_err-number c =
     let (y, is, same) = err_from_is_err_and c.from_residual.result c.from_residual.ensures.1 in
     let parts = given_parts c.args.parts.now in
-    rw (is, same) (ap (λ (r : Result (Option (List ℕ)) (List ℕ)). and_then r (λ n. and_then (value_of c.args.command (codes "--separator") parts.values) (λ separator. choice_by c.args.command n (has (codes "--any") parts.options) separator)))
+    rw (is, same) (ap (λ (r : Result (Option (List ℕ)) (List ℕ)). and_then r (λ n. and_then (option_value c.args.command (codes "--separator") parts.values) (λ separator. choice_by c.args.command n (has (codes "--any") parts.options) separator)))
     (rw c.as_slice-values.ensures.value at c.in_err-number.ensures))
 
 pub returns-in_err-separator : goal.returns-in_err-separator

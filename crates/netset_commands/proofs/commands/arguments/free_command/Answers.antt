@@ -1,7 +1,7 @@
 use Rattle.std.proofs.Common.{◌≡◌, ap, sym, codes, drop, ℕ, List, [], Option, option_map, Result, Ok, ◌∙◌}
 use Rattle.std.proofs.lemmas.Result.{err_from_is_err_and}
 use Rattle.cidr_lists.specs.Formats.{Style, style_in}
-use Rattle.netset_commands.specs.Arguments.{Parts, and_then, extent_by, free_request, operand_or, style_in_values, value_of}
+use Rattle.netset_commands.specs.Arguments.{Parts, and_then, extent_by, free_request, operand_or, style_in_values, option_value}
 use Rattle.netset_commands.specs.Command.{extent_of, given_parts}
 use Rattle.netset_commands.specs.Commands.{Free, Request}
 use Rattle.netset_commands.specs.Free.{Extent}
@@ -17,16 +17,16 @@ module _ (parts : Parts) where
   abbrev behind : Extent → Result Request (List ℕ)
   behind extent = and_then (style_in_values verb.Free parts.values) (made extent)
 
-  behind_count : (found : Result (Option (List ℕ)) (List ℕ)) → value_of verb.Free (codes "--count") parts.values ≡ found
+  behind_count : (found : Result (Option (List ℕ)) (List ℕ)) → option_value verb.Free (codes "--count") parts.values ≡ found
       → free_request parts ≡ and_then (and_then found (λ count. extent_by (has (codes "--all") parts.options) count)) behind
   behind_count found is =
       ap (λ (r : Result (Option (List ℕ)) (List ℕ)). and_then (and_then r (λ count. extent_by (has (codes "--all") parts.options) count)) behind) is
 
-  behind_extent : (found : Option (List ℕ)) (extent : Result Extent (List ℕ)) → value_of verb.Free (codes "--count") parts.values ≡ Ok found
+  behind_extent : (found : Option (List ℕ)) (extent : Result Extent (List ℕ)) → option_value verb.Free (codes "--count") parts.values ≡ Ok found
       → extent_by (has (codes "--all") parts.options) found ≡ extent → free_request parts ≡ and_then extent behind
   behind_extent found extent is made_of = behind_count (Ok found) is ∙ ap (λ (r : Result Extent (List ℕ)). and_then r behind) made_of
 
-  behind_style : (found : Option (List ℕ)) (extent : Extent) (style : Result (Option Style) (List ℕ)) → value_of verb.Free (codes "--count") parts.values ≡ Ok found
+  behind_style : (found : Option (List ℕ)) (extent : Extent) (style : Result (Option Style) (List ℕ)) → option_value verb.Free (codes "--count") parts.values ≡ Ok found
       → extent_by (has (codes "--all") parts.options) found ≡ Ok extent → style_in_values verb.Free parts.values ≡ style
       → free_request parts ≡ and_then style (made extent)
   behind_style found extent style is made_of told =

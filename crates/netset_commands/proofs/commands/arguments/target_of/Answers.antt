@@ -1,6 +1,6 @@
 use Rattle.std.proofs.Common.{◌≡◌, ◌∙◌, ap, codes, sym, false, List, ℕ, Ok, Option, Result}
 use Rattle.std.proofs.lemmas.Result.{err_from_is_err_and}
-use Rattle.netset_commands.specs.Arguments.{Parts, and_then, asks_help, target_by, target_in, value_of}
+use Rattle.netset_commands.specs.Arguments.{Parts, and_then, asks_help, target_by, target_in, option_value}
 use Rattle.netset_commands.specs.Command.{given, given_parts}
 use Rattle.netset_commands.specs.Matching.{has}
 use Rattle.netset_commands.specs.declared.commands.table.Verb.{Verb}
@@ -8,7 +8,7 @@ use Rattle.netset_commands.proofs.Parts.{if_false}
 use Rattle.netset_commands.proofs.commands.arguments.target_of.Goals as goal
 
 -- no page is asked for, and this is the value of -o
-target_found : (command : Verb) (parts : Parts) (target : Option (List ℕ)) → asks_help parts.options ≡ false → value_of command (codes "-o") parts.values ≡ Ok target
+target_found : (command : Verb) (parts : Parts) (target : Option (List ℕ)) → asks_help parts.options ≡ false → option_value command (codes "-o") parts.values ≡ Ok target
     → target_in command parts ≡ target_by command (has (codes "-k") parts.options) (has (codes "--skip-bad") parts.options) target
 target_found command parts target none is =
     if_false (asks_help parts.options) _ _ none

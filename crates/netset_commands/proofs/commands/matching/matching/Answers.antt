@@ -1,11 +1,14 @@
-use Rattle.std.proofs.Common.{inl, inr, refl, map, [], ◌∷◌}
+use Rattle.std.proofs.Common.{inl, inr, refl, ap, subst, codes, map, ℕ, List, [], ◌∷◌}
 use Rattle.std.proofs.lemmas.Result.{err_from_is_err_and}
 use Rattle.netset_commands.proofs.EachFile.{first_not_read}
 use Rattle.netset_commands.proofs.Listed.{no_list}
-use Rattle.netset_commands.proofs.Matched.{matched_file}
+use Rattle.netset_commands.proofs.Matched.{matched_file, of_matcher}
 use Rattle.netset_commands.proofs.Causes.{argument_cause}
 use Rattle.netset_commands.specs.Causes.{FileFails}
 use Rattle.netset_commands.specs.Command.{choice_of}
+use Rattle.cidr_lists.specs.Sets.{IsInSets}
+use Rattle.netset_commands.specs.Gathering.{StreamsFile, label_of}
+use Rattle.netset_commands.specs.Matching.{Picks, has, written_of}
 use Rattle.netset_commands.specs.Program.{IsUnread}
 use Rattle.netset_commands.proofs.commands.matching.matching.Goals as goal
 
@@ -27,15 +30,15 @@ pub returns-clause-answers : goal.returns-clause-answers
 returns-clause-answers g c =
     matched_file (g.F.Sources.contents c.args.sources.now) (choice_of c.args.choice) c.in_ok-column.column (map (λ w. w.now) c.args.options.now) c.args.list.now c.args.file.now c.in_ok-sets.sets
     (g.O.Sink.state c.args.out.now) (g.O.Sink.state c.match_file.new.out) c.match_file.result c.in_ok-column.ensures c.in_ok-sets.ensures.reads
-    (rw (
-      c.matcher_of-matcher.ensures.sets,
-      c.matcher_of-matcher.ensures.column,
-      c.matcher_of-matcher.ensures.anywhere,
-      c.matcher_of-matcher.ensures.inverted,
-      c.matcher_of-matcher.ensures.headed,
-      c.matcher_of-matcher.ensures.written,
-      c.matcher_of-matcher.ensures.name,
-    ) at c.match_file.ensures.streams)
+    (subst (λ (label : List ℕ). StreamsFile (has (codes "--header") (map (λ w. w.now) c.args.options.now))
+    (Picks (has (codes "--any") (map (λ w. w.now) c.args.options.now)) c.in_ok-column.column (IsInSets c.in_ok-sets.sets) (has (codes "-v") (map (λ w. w.now) c.args.options.now)))
+    label (written_of (map (λ w. w.now) c.args.options.now)) c.args.file.now (g.F.Sources.contents c.args.sources.now c.args.file.now)
+    (g.O.Sink.state c.args.out.now) (g.O.Sink.state c.match_file.new.out) c.match_file.result) (ap label_of c.matcher_of-matcher.ensures.name)
+    (of_matcher (λ headed anywhere column sets inverted written. StreamsFile headed (Picks anywhere column (IsInSets sets) inverted) (label_of c.matcher_of-matcher.result.name) written
+    c.args.file.now (g.F.Sources.contents c.args.sources.now c.args.file.now) (g.O.Sink.state c.args.out.now) (g.O.Sink.state c.match_file.new.out) c.match_file.result)
+    _ _ _ _ _ _ _ _ _ _ _ _
+    c.matcher_of-matcher.ensures.headed c.matcher_of-matcher.ensures.anywhere c.matcher_of-matcher.ensures.column c.matcher_of-matcher.ensures.sets
+    c.matcher_of-matcher.ensures.inverted c.matcher_of-matcher.ensures.written c.match_file.ensures.streams))
 
 pub returns-in_err-sets-clause-cause : goal.returns-in_err-sets-clause-cause
 returns-in_err-sets-clause-cause g c =

@@ -11,14 +11,14 @@ use Rattle.netset_commands.proofs.commands.smallest.has_value.Goals as goal
 pub loop-row-preserved : goal.loop-row-preserved
 loop-row-preserved g c =
     let P : g.row.C.Denot × Span → Type 0 = λ row. value_at c.args.all.now row.1 ≢ c.args.value.now in
-    let same = bytes_eq-Decides c.value_of.result.now c.args.value.now in
+    let same = bytes_eq-Decides c.value_at_span.result.now c.args.value.now in
     All-more P c.args.rows.now c.loop-row.row-index c.row-item.result c.loop-row-test.true c.loop-row.invariant
-    (subst P c.row-item.is (λ is. true≢false (sym (same.1 (c.value_of.ensures ∙ is)) ∙ (sym c.eq.ensures ∙ c.if-eq.false))))
+    (subst P c.row-item.is (λ is. true≢false (sym (same.1 (c.value_at_span.ensures ∙ is)) ∙ (sym c.eq.ensures ∙ c.if-eq.false))))
 
 pub returns-then-eq : goal.returns-then-eq
 returns-then-eq g c =
-    let same = bytes_eq-Decides c.value_of.result.now c.args.value.now in
-    let value : value_at c.args.all.now c.row-item.result.1 ≡ c.args.value.now = sym c.value_of.ensures ∙ same.0 (sym c.eq.ensures ∙ c.if-eq.true) in
+    let same = bytes_eq-Decides c.value_at_span.result.now c.args.value.now in
+    let value : value_at c.args.all.now c.row-item.result.1 ≡ c.args.value.now = sym c.value_at_span.ensures ∙ same.0 (sym c.eq.ensures ∙ c.if-eq.true) in
     (λ _. value_found c.args.all.now c.args.value.now c.args.rows.now c.loop-row.row-index c.row-item.result c.loop-row-test.true c.row-item.is value, λ _. refl)
 
 pub returns : goal.returns

@@ -17,31 +17,31 @@ returns-in_err-has_more-clause-adds g c =
     reading_stopped c.args.file.now c.args.reader.now.left c.args.entries.now.items c.loop-number.entries.items _ _ _ is same
     (no_line c.in_err-has_more.field-0.0)
 
-pub returns-in_err-add_line-clause-adds : goal.returns-in_err-add_line-clause-adds
-returns-in_err-add_line-clause-adds g c =
-    let (y, is, same) = err_from_is_err_and c.from_residual-in_err-add_line.result c.from_residual-in_err-add_line.ensures.1 in
-    line_failed c.args.file.now c.args.reader.now.left c.args.entries.now.items c.loop-number.entries.items c.add_line.new.entries.items
+pub returns-in_err-add_entry_line-clause-adds : goal.returns-in_err-add_entry_line-clause-adds
+returns-in_err-add_entry_line-clause-adds g c =
+    let (y, is, same) = err_from_is_err_and c.from_residual-in_err-add_entry_line.result c.from_residual-in_err-add_entry_line.ensures.1 in
+    line_failed c.args.file.now c.args.reader.now.left c.args.entries.now.items c.loop-number.entries.items c.add_entry_line.new.entries.items
     c.loop-number.number c.read_line.new.self.line _ _ _ is same
     (stops_at (HasAdded c.args.file.now c.args.entries.now.items) c.args.reader.now.left c.loop-number.reader.left
     c.read_line.new.self.left c.loop-number.entries.items c.loop-number.number c.read_line.new.self.line c.in_ok-has_more.has_more
     c.loop-number.invariant c.in_ok-has_more.ensures.line)
-    (rw c.line.ensures at c.in_err-add_line.ensures.adds)
+    (rw c.line.ensures at c.in_err-add_entry_line.ensures.adds)
 
 pub returns-then-not-has_more-clause-adds : goal.returns-then-not-has_more-clause-adds
 returns-then-not-has_more-clause-adds g c =
     last_read (HasAdded c.args.file.now c.args.entries.now.items) c.args.reader.now.left c.loop-number.reader.left
-    c.read_line.new.self.left c.loop-number.entries.items c.add_line.new.entries.items c.loop-number.number c.read_line.new.self.line
+    c.read_line.new.self.left c.loop-number.entries.items c.add_entry_line.new.entries.items c.loop-number.number c.read_line.new.self.line
     c.in_ok-has_more.has_more c.if-not-has_more.true c.loop-number.invariant c.in_ok-has_more.ensures.line
-    (line_added c.args.file.now c.args.entries.now.items c.loop-number.entries.items c.add_line.new.entries.items c.loop-number.number c.read_line.new.self.line
-    (rw c.line.ensures at c.in_ok-add_line.ensures.adds))
+    (line_added c.args.file.now c.args.entries.now.items c.loop-number.entries.items c.add_entry_line.new.entries.items c.loop-number.number c.read_line.new.self.line
+    (rw c.line.ensures at c.in_ok-add_entry_line.ensures.adds))
 
 pub loop-number-preserved : goal.loop-number-preserved
 loop-number-preserved g c =
     line_read (HasAdded c.args.file.now c.args.entries.now.items) c.args.reader.now.left c.loop-number.reader.left
-    c.read_line.new.self.left c.loop-number.entries.items c.add_line.new.entries.items c.loop-number.number c.read_line.new.self.line
+    c.read_line.new.self.left c.loop-number.entries.items c.add_entry_line.new.entries.items c.loop-number.number c.read_line.new.self.line
     c.in_ok-has_more.has_more c.if-not-has_more.false c.loop-number.invariant c.in_ok-has_more.ensures.line
-    (line_added c.args.file.now c.args.entries.now.items c.loop-number.entries.items c.add_line.new.entries.items c.loop-number.number c.read_line.new.self.line
-    (rw c.line.ensures at c.in_ok-add_line.ensures.adds))
+    (line_added c.args.file.now c.args.entries.now.items c.loop-number.entries.items c.add_entry_line.new.entries.items c.loop-number.number c.read_line.new.self.line
+    (rw c.line.ensures at c.in_ok-add_entry_line.ensures.adds))
 
 pub returns-in_err-has_more-clause-cause : goal.returns-in_err-has_more-clause-cause
 returns-in_err-has_more-clause-cause g c =
@@ -51,10 +51,10 @@ returns-in_err-has_more-clause-cause g c =
     c.loop-number.number c.loop-number.invariant)
     c.in_err-has_more.ensures.failed c.in_err-has_more.ensures.refused)
 
-pub returns-in_err-add_line-clause-cause : goal.returns-in_err-add_line-clause-cause
-returns-in_err-add_line-clause-cause g c =
-    let (y, is, same) = err_from_is_err_and c.from_residual-in_err-add_line.result c.from_residual-in_err-add_line.ensures.1 in
-    rw (is, same) (line_cause (TextFails c.args.reader.now.left) (g.M.Memory.refused c.add_line.new.memory) c.in_err-add_line.field-0.0 c.in_err-add_line.ensures.cause)
+pub returns-in_err-add_entry_line-clause-cause : goal.returns-in_err-add_entry_line-clause-cause
+returns-in_err-add_entry_line-clause-cause g c =
+    let (y, is, same) = err_from_is_err_and c.from_residual-in_err-add_entry_line.result c.from_residual-in_err-add_entry_line.ensures.1 in
+    rw (is, same) (line_cause (TextFails c.args.reader.now.left) (g.M.Memory.refused c.add_entry_line.new.memory) c.in_err-add_entry_line.field-0.0 c.in_err-add_entry_line.ensures.cause)
 
 pub returns-clause-cause : goal.returns-clause-cause
 returns-clause-cause g c =

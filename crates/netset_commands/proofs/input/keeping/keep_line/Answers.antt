@@ -1,5 +1,5 @@
 use Rattle.std.proofs.Common.{refl, Err}
-use Rattle.netset_commands.specs.declared.errors.ReadError.TheVariants.{Line}
+use Rattle.netset_commands.specs.declared.errors.ListReadError.TheVariants.{Line}
 use Rattle.netset_commands.proofs.Telling.{line_faulty, same_kind}
 use Rattle.netset_commands.proofs.input.keeping.keep_line.Goals as goal
 

@@ -3,7 +3,7 @@ use Rattle.std.proofs.lemmas.Result.{err_from_is_err_and}
 use Rattle.netset_commands.specs.Causes.{TextFails}
 use Rattle.netset_commands.specs.Keeping.{IsKept}
 use Rattle.netset_commands.specs.Reading.{read_error}
-use Rattle.netset_commands.specs.declared.errors.ReadError.TheVariants.{Input, NoMemory}
+use Rattle.netset_commands.specs.declared.errors.ListReadError.TheVariants.{Input, NoMemory}
 use Rattle.netset_commands.proofs.Causes.{line_cause, no_line_cause, reading_stopped}
 use Rattle.netset_commands.proofs.LinesRead.{left_known, numbers_used}
 use Rattle.netset_commands.proofs.Telling.{keeping_done, keeping_more, keeping_started, keeping_stopped}

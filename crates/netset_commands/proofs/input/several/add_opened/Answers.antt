@@ -1,5 +1,5 @@
 use Rattle.std.proofs.Common.{refl, Err}
-use Rattle.netset_commands.specs.declared.errors.ReadError.TheVariants.{Line}
+use Rattle.netset_commands.specs.declared.errors.ListReadError.TheVariants.{Line}
 use Rattle.netset_commands.proofs.Causes.{file_fails, not_opened}
 use Rattle.netset_commands.proofs.EachFile.{list_read}
 use Rattle.netset_commands.proofs.input.several.add_opened.Goals as goal

@@ -9,7 +9,7 @@ from_number-requires g c = subst (λ (w : ℕ). c.number.result < 2 ^ w) c.requi
 
 pub loop-row-preserved : goal.loop-row-preserved
 loop-row-preserved g c =
-    network_pushed g.C.BitString.bits g.W.Address.width g.W.Address.value g.W.Family.numbers (parts_in c.args.part.now) c.addresses-addresses.result.now
+    network_pushed g.C.BitString.bits g.W.Address.width g.W.Address.value g.W.FileAddress.numbers (parts_in c.args.part.now) c.addresses-addresses.result.now
     c.args.networks.now.items c.loop-row.networks.items c.push.new.self.items c.loop-row.row c.from.result c.index-addresses-row.result c.new_host-network.result
     c.clip.new.self c.addresses-addresses.ensures (omega (arith, c.loop-row-test.true, c.min-row-end.ensures))
     (omega (arith, c.loop-row-test.true, c.min-row-end.ensures)) c.index-addresses-row.is c.from.ensures
@@ -18,6 +18,6 @@ loop-row-preserved g c =
 
 pub returns : goal.returns
 returns g c =
-    networks_pushed g.C.BitString.bits g.W.Address.width g.W.Address.value g.W.Family.numbers (parts_in c.args.part.now) c.addresses-addresses.result.now
+    networks_pushed g.C.BitString.bits g.W.Address.width g.W.Address.value g.W.FileAddress.numbers (parts_in c.args.part.now) c.addresses-addresses.result.now
     c.args.networks.now.items c.loop-row.networks.items c.min-row-end.result c.loop-row.row c.addresses-addresses.ensures c.min-row-end.ensures
     c.loop-row-test.false c.loop-row.invariant

@@ -6,4 +6,4 @@ use Rattle.netset_commands.proofs.input.stored.push_networks.Given as goal
 abbrev pub invariant-loop-row : goal.invariant-loop-row
 invariant-loop-row g l =
     map g.C.BitString.bits l.networks.items
-    ≡ map g.C.BitString.bits l.fn.networks.items ++ map (prefix_bits g.W.Address.width) (take l.row (stored_networks g.W.Family.numbers (parts_in l.part)))
+    ≡ map g.C.BitString.bits l.fn.networks.items ++ map (prefix_bits g.W.Address.width) (take l.row (stored_networks g.W.FileAddress.numbers (parts_in l.part)))

@@ -17,9 +17,9 @@ loop-row-preserved g c =
     let same : c.as_slice-row-items.result.now ≡ rows = c.as_slice-row-items.ensures.value ∙ c.iter.ensures.rest in
     let P : g.row.C.Denot × ℕ → Type 0 = λ row. length (g.C.BitString.bits row.0) ≤ width_of g.C.FamilyCidr.FAMILY in
     record {
-      rows = numbered_more c.args.self.now c.args.all.now rows c.loop-row.row-index c.number-number.result c.row-item.result c.value_of.result.now c.loop-row.rows.items
+      rows = numbered_more c.args.self.now c.args.all.now rows c.loop-row.row-index c.number-number.result c.row-item.result c.value_at_span.result.now c.loop-row.rows.items
           c.push.new.self.items (subst (λ l. c.loop-row.row-index < length l) same c.loop-row-test.true)
-          (subst (λ l. c.row-item.result ≡ get_or l c.loop-row.row-index c.row-item.result) same c.row-item.is) c.value_of.ensures c.number-number.ensures
+          (subst (λ l. c.row-item.result ≡ get_or l c.loop-row.row-index c.row-item.result) same c.row-item.is) c.value_at_span.ensures c.number-number.ensures
           c.in_ok-push.ensures.items c.loop-row.invariant.rows;
       fit = subst (All P) (sym c.in_ok-push.ensures.items)
           (All-push P c.loop-row.rows.items (c.row-item.result.0, c.number-number.result) c.loop-row.invariant.fit

@@ -1,6 +1,0 @@
-use Rattle.std.proofs.Common.{◌≡◌, map, take}
-use Rattle.cidr_lookup.proofs.ready_set.rows_of.Given as goal
-
--- a row of each of the networks so far
-abbrev pub invariant-loop-network : goal.invariant-loop-network
-invariant-loop-network g l = l.rows.items ≡ map (λ (network : g.row.C.Denot). (network, tt)) (take l.network-index l.networks)

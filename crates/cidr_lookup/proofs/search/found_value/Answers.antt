@@ -1,0 +1,105 @@
+use Rattle.std.proofs.Common.{◌≡◌, refl, sym, ap, ap₂, subst, ◌∙◌, arith, ℕ, ◌+◌, ◌-◌, ◌*◌, ◌/◌, ◌%◌, ◌^◌, ◌<◌, List, [], length, get_or, count_ones}
+use Rattle.std.proofs.lemmas.Nat.{pow_pos, div_below}
+use Rattle.cidr_lookup.specs.Nodes.{IsEntry}
+use Rattle.cidr_lookup.specs.Searching.{IsValueAt}
+use Rattle.cidr_lookup.specs.Tables.{IsAnswer}
+use Rattle.cidr_lookup.proofs.Changes.{list_has, ordered}
+use Rattle.cidr_lookup.proofs.Entries.{Leads, each, grows, leads, led, list_of, next, part_at, some_left}
+use Rattle.cidr_lookup.proofs.search.found_value.Goals as goal
+
+pub returns-then-shift-width : goal.returns-then-shift-width
+returns-then-shift-width g c = λ networks table. absurd (omega (arith, table.some))
+
+pub returns-then-width-shift-gt64 : goal.returns-then-width-shift-gt64
+returns-then-width-shift-gt64 g c = λ networks table. absurd (omega (arith, table.few))
+
+-- the first bits choose an entry
+within : (number shift steps count size at : ℕ) → shift ≡ 6 * steps → at ≡ number / 2 ^ shift → number < 2 ^ size → count * 2 ^ (6 * steps) ≡ 2 ^ size → at < count
+within number shift steps count size at e is fits all =
+    let less : number / 2 ^ (6 * steps) < count = div_below number (2 ^ (6 * steps)) count (pow_pos (6 * steps)) (omega arith) in
+    omega (arith, less, ap (λ s. number / 2 ^ s) e)
+
+pub returns-then-at-len : goal.returns-then-at-len
+returns-then-at-len g c = λ networks table.
+    let number = g.A.Address.value c.args.address * 2 ^ g.A.Address.padding in
+    let fits : number < 2 ^ (g.A.Address.width + g.A.Address.padding) = omega (arith, c.padded.ensures.value, c.padded.ensures.fits) in
+    absurd (omega (arith, c.len.ensures, within number (6 * c.args.steps) c.args.steps (length (g.T.Words.words c.args.first.now)) (g.A.Address.width + g.A.Address.padding) c.block-at.result refl c.block-at.ensures fits table.size))
+
+pub loop-entry-init : goal.loop-entry-init
+loop-entry-init g c = record {
+  fits = omega arith;
+  leads = λ networks table.
+      let number = g.A.Address.value c.args.address * 2 ^ g.A.Address.padding in
+      let Has = IsAnswer g.A.Address.width g.A.Address.padding networks in
+      let first = g.T.Words.words c.args.first.now in
+      let words = g.T.Words.words c.args.words.now in
+      let at = c.block-at.result in
+      let steps = c.args.steps in
+      let one = each (IsEntry Has steps) (grows Has steps) 0 (length first) [] first words table.entries at (omega (arith, c.len.ensures)) in
+      let block : 0 + at ≡ number / 2 ^ (6 * steps) = omega (arith, c.block-at.ensures) in
+      let known : Leads Has words steps (0 + at) (get_or first at 0) = leads Has words steps (0 + at) one.0 (get_or first at 0) one.1 one.2 one.3 one.4 in
+      (steps, refl, subst (λ b. Leads Has words steps b c.word-entry.result) block (subst (λ x. Leads Has words steps (0 + at) x) (sym c.word-entry.ensures) known));
+}
+
+-- where the entry of a part is
+placed : (words : List ℕ) (place part high low digit : ℕ) → high ≡ get_or words (place + 1) 0 → low ≡ get_or words place 0 → digit ≡ part
+    → place + 1 + count_ones ((high * 2 ^ 32 + low) / 2 ^ (63 - digit)) ≡ part_at words place part
+placed words place part high low digit h l d = ap₂ (λ m k. place + 1 + count_ones (m / 2 ^ (63 - k))) (ap₂ (λ x y. x * 2 ^ 32 + y) h l) d
+
+pub returns-then-left-lt6 : goal.returns-then-left-lt6
+returns-then-left-lt6 g c = λ networks table.
+    let number = g.A.Address.value c.args.address * 2 ^ g.A.Address.padding in
+    let h = c.loop-entry.invariant.leads networks table in
+    let some = some_left (IsAnswer g.A.Address.width g.A.Address.padding networks) (g.T.Words.words c.args.words.now) h.0 number c.loop-entry.entry h.2 c.loop-entry-test.true in
+    absurd (omega (arith, h.1, some))
+
+-- an odd entry is that of a list
+pub returns-then-entry-eq1 : goal.returns-then-entry-eq1
+returns-then-entry-eq1 g c = λ networks table.
+    let number = g.A.Address.value c.args.address * 2 ^ g.A.Address.padding in
+    let Has = IsAnswer g.A.Address.width g.A.Address.padding networks in
+    let words = g.T.Words.words c.args.words.now in
+    let h = c.loop-entry.invariant.leads networks table in
+    let block = number / 2 ^ (6 * h.0) in
+    let at = list_of Has words h.0 block c.loop-entry.entry ((c.loop-entry.entry - 2 ^ 31) / 2) h.2 c.loop-entry-test.true c.if-entry-eq1.true refl in
+    let found = c.listed.ensures at.0 at.1 at.3 at.2.1 (ordered Has (block * 2 ^ (6 * h.0)) ((block + 1) * 2 ^ (6 * h.0)) at.0 at.1 at.2.2) in
+    list_has Has h.0 number at.0 at.1 c.listed.result at.2 (subst (λ u. IsValueAt at.0 at.1 u c.listed.result) c.upper.ensures found)
+
+pub returns-then-place-len : goal.returns-then-place-len
+returns-then-place-len g c = λ networks table.
+    let number = g.A.Address.value c.args.address * 2 ^ g.A.Address.padding in
+    let h = c.loop-entry.invariant.leads networks table in
+    let on = next (IsAnswer g.A.Address.width g.A.Address.padding networks) (g.T.Words.words c.args.words.now) h.0 number c.loop-entry.entry ((c.loop-entry.entry - 2 ^ 31) / 2) h.2 c.loop-entry-test.true c.if-entry-eq1.false refl in
+    absurd (omega (arith, on.2.0, c.len-in-loop-entry.ensures))
+
+pub returns-then-next-len : goal.returns-then-next-len
+returns-then-next-len g c = λ networks table.
+    let number = g.A.Address.value c.args.address * 2 ^ g.A.Address.padding in
+    let words = g.T.Words.words c.args.words.now in
+    let h = c.loop-entry.invariant.leads networks table in
+    let on = next (IsAnswer g.A.Address.width g.A.Address.padding networks) words h.0 number c.loop-entry.entry ((c.loop-entry.entry - 2 ^ 31) / 2) h.2 c.loop-entry-test.true c.if-entry-eq1.false refl in
+    let left : c.loop-entry.left - 6 ≡ 6 * on.0 = omega (arith, h.1, on.1) in
+    let at = placed words ((c.loop-entry.entry - 2 ^ 31) / 2) (number / 2 ^ (6 * on.0) % 64) c.from.result c.from-in-loop-entry.result c.digit.result
+    (c.from.ensures ∙ c.word.ensures) (c.from-in-loop-entry.ensures ∙ c.word-in-loop-entry.ensures) (c.digit.ensures ∙ ap (λ s. number / 2 ^ s % 64) left) in
+    absurd (omega (arith, on.2.1, at, c.len-in-loop-entry-2.ensures))
+
+pub loop-entry-preserved : goal.loop-entry-preserved
+loop-entry-preserved g c = record {
+  fits = omega (arith, c.loop-entry.invariant.fits);
+  leads = λ networks table.
+      let number = g.A.Address.value c.args.address * 2 ^ g.A.Address.padding in
+      let words = g.T.Words.words c.args.words.now in
+      let Has = IsAnswer g.A.Address.width g.A.Address.padding networks in
+      let h = c.loop-entry.invariant.leads networks table in
+      let on = next Has words h.0 number c.loop-entry.entry ((c.loop-entry.entry - 2 ^ 31) / 2) h.2 c.loop-entry-test.true c.if-entry-eq1.false refl in
+      let left : c.loop-entry.left - 6 ≡ 6 * on.0 = omega (arith, h.1, on.1) in
+      let at = placed words ((c.loop-entry.entry - 2 ^ 31) / 2) (number / 2 ^ (6 * on.0) % 64) c.from.result c.from-in-loop-entry.result c.digit.result
+      (c.from.ensures ∙ c.word.ensures) (c.from-in-loop-entry.ensures ∙ c.word-in-loop-entry.ensures) (c.digit.ensures ∙ ap (λ s. number / 2 ^ s % 64) left) in
+      (on.0, left, subst (λ x. Leads Has words on.0 (number / 2 ^ (6 * on.0)) x) (ap (λ i. get_or words i 0) (sym at) ∙ sym c.word-entry-in-loop-entry.ensures) on.2.2);
+}
+
+pub returns : goal.returns
+returns g c = λ networks table.
+    let number = g.A.Address.value c.args.address * 2 ^ g.A.Address.padding in
+    let h = c.loop-entry.invariant.leads networks table in
+    led (IsAnswer g.A.Address.width g.A.Address.padding networks) (g.T.Words.words c.args.words.now) h.0 number c.loop-entry.entry h.2 c.loop-entry-test.false
