@@ -21,6 +21,23 @@ export interface ListOptions {
     /** Whether a network may have a mask in place of its prefix length, as 192.0.2.0/255.255.255.0. */
     masks?: boolean;
 }
+export interface PlanOptions extends ListOptions {
+    /** How many lines in error are told at most; without this, all. */
+    most?: number;
+}
+/** The rows of an address plan. A name lies in the text from `begins` up to `ends`: in the string, or in the bytes. */
+export interface Plan {
+    /** The network of each row; of a range each network of the shortest list has one. */
+    readonly networks: NetworkList;
+    /** The number of its line, from 1 on. */
+    readonly lines: Uint32Array;
+    readonly begins: Uint32Array;
+    readonly ends: Uint32Array;
+    /** The lines in error, each with its number as `line`. */
+    readonly faults: PcidrError[];
+    /** How many lines are in error. */
+    readonly wrong: number;
+}
 /** An entry of a registry of IANA. Null is a column that does not apply; `purpose` is one of `Purpose`. */
 export interface SpecialEntry {
     readonly network: Network;

@@ -652,6 +652,59 @@ function bound(c, module) {
         }));
     }
 
+    const ROW = 48, FAULT = 32; // bytes of a row of a plan, and of a line of it that is in error
+    /** Where places in a string's bytes, which ascend but for an end and what follows it, lie in the string. */
+    function placesIn(encoded, places) {
+        let at = 0, place = 0;
+        return places.map((wanted) => {
+            while (at > wanted) if ((encoded[--at] & 192) !== 128) place -= encoded[at] < 240 ? 1 : 2;
+            while (at < wanted) {
+                if ((encoded[at] & 192) !== 128) place += encoded[at] < 240 ? 1 : 2;
+                at++;
+            }
+            return place;
+        });
+    }
+    function readPlan(given, { strict = true, masks = false, most = Infinity } = {}) {
+        if (typeof given !== "string" && !(given instanceof Uint8Array)) throw new TypeError("neither a string nor a Uint8Array");
+        if (most !== Infinity) narrow(most, 32);
+        const encoded = typeof given === "string" ? encoder.encode(given) : given, how = (strict ? 0 : 1) + (masks ? 2 : 0);
+        const isPlain = typeof given !== "string" || encoded.length === given.length, places = (list) => (isPlain ? list : placesIn(encoded, list));
+        let lineCount = 1;
+        for (let feed = -1; (feed = encoded.indexOf(10, feed + 1)) >= 0; ) lineCount++;
+        return lent([encoded], (at) => {
+            for (let room = lineCount + 62, faultRoom = Math.min(lineCount, most); ; ) {
+                const to = taken(room * ROW + faultRoom * FAULT);
+                try {
+                    const wrong = count + 8, faultsAt = to + room * ROW;
+                    const code = c.pcidr_read_plan(at, big(encoded.length), how, to, big(room), count, faultsAt, big(faultRoom), wrong);
+                    look();
+                    if (code === NO_MEMORY) check(code);
+                    const n = counted(), bad = words[wrong >>> 2];
+                    if (n > room) {
+                        room = n;
+                        continue;
+                    }
+                    const values = new Uint8Array(n * WIDE), lines = new Uint32Array(n), begins = new Uint32Array(n), ends = new Uint32Array(n);
+                    for (let i = 0, row = to >>> 2, value = new Uint32Array(values.buffer); i < n; i++, row += ROW / 4) {
+                        for (let k = 0; k < WIDE / 4; k++) value[i * (WIDE / 4) + k] = words[row + k];
+                        lines[i] = words[row + 6];
+                        begins[i] = words[row + 8];
+                        ends[i] = begins[i] + words[row + 10];
+                    }
+                    const faults = Array.from({ length: Math.min(bad, faultRoom) }, (_, i) => {
+                        const fault = (faultsAt >>> 2) + i * (FAULT / 4), [line, begin, length] = [words[fault], words[fault + 2], words[fault + 4]];
+                        const own = c.pcidr_plan_message(at + begin, big(length), how, text, BIG[TEXT]);
+                        return errorOf(own, `line ${line}: ${read(bytes.indexOf(0, text) - text)}`, line);
+                    });
+                    return { networks: listOf(values), lines, begins: places(begins), ends: places(ends), faults, wrong: bad };
+                } finally {
+                    c.free(to);
+                }
+            }
+        });
+    }
+
     // ---- tables: rows of a network and a value, with the longest match
 
     const returned = new FinalizationRegistry((at) => c.free(at));
@@ -854,7 +907,7 @@ function bound(c, module) {
 
     const version = c.pcidr_version();
     return Object.freeze({
-        Address, Host, Network, NetworkList, NetworkSet, StoredTable, Table, deciding, permits, permitted, shadowed, summarizeAddressRange,
+        Address, Host, Network, NetworkList, NetworkSet, StoredTable, Table, deciding, permits, permitted, readPlan, shadowed, summarizeAddressRange,
         textFault, errors, module, version: `${version >>> 16}.${(version >>> 8) & 255}.${version & 255}`,
     });
 }

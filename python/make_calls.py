@@ -6,6 +6,8 @@ from __future__ import annotations
 import re
 import sys
 from pathlib import Path
+from string import ascii_letters
+from textwrap import wrap
 
 HERE = Path(__file__).resolve().parent
 HEADER = HERE.parent / "crates" / "cidr_c" / "include" / "pcidr.h"
@@ -77,9 +79,7 @@ def structs(header: str) -> list[list[str]]:
         lines = [f"class {class_name(name)}(Structure):", f'    """`{name}`."""', ""]
         lines += [f"    {field}: {HINTS.get(kind) or class_name(kind)}" for kind, field in fields]
         typed = [f'("{field}", {kind_of(kind)})' for kind, field in fields]
-        whole = f"    _fields_ = [{', '.join(typed)}]"
-        apart = ["    _fields_ = [", *(f"        {each}," for each in typed), "    ]"]
-        lines += [whole] if len(whole) <= 120 else apart
+        lines += wrap(f"_fields_ = [{', '.join(typed)}]", 140, initial_indent=" " * 4, subsequent_indent=" " * 8)
         made.append(lines)
     return made
 
@@ -104,26 +104,28 @@ def calls(header: str) -> dict[str, tuple[str, list[str]]]:
     return made
 
 
-def wrapped(line: str, parts: list[str]) -> list[str]:
-    """A line that ends in a list, which is one line or has one for each part."""
-    whole = f"{line}[{', '.join(parts)}]),"
-    return [whole] if len(whole) <= 120 else [f"{line}[", *(f"            {part}," for part in parts), "        ]),"]
+def signatures(made: dict[str, tuple[str, list[str]]]) -> list[str]:
+    """The table of results and parameters, of which each has a letter."""
+    kinds = dict.fromkeys(kind for result, parameters in made.values() for kind in (result, *parameters))
+    letters = dict(zip(kinds, ascii_letters, strict=False))
+    words = [f"{name}:{''.join(letters[kind] for kind in (result, *parameters))}" for name, (result, parameters) in made.items()]
+    lines = ['SIGNATURES = """', *wrap(" ".join(words), 140, break_long_words=False, break_on_hyphens=False), '"""', "", ""]
+    lines += ["def signatures() -> dict[str, list[Any]]:", '    """Of each call the result and the parameters."""', "    kinds = {"]
+    lines += [f'        "{letter}": {kind},' for kind, letter in letters.items()]
+    lines += ["    }", '    found = (each.split(":") for each in SIGNATURES.split())']
+    return [*lines, "    return {name: [*map(kinds.__getitem__, letters)] for name, letters in found}"]
 
 
 def stubs(header: str) -> dict[str, str]:
     """The files, by name."""
     bare, made = without_comments(header), calls(without_comments(header))
-    table = ["def signatures() -> dict[str, tuple[Any, list[Any]]]:"]
-    table += ['    """Of each call the result and the parameters."""', "    return {"]
-    for name, (result, parameters) in made.items():
-        table += wrapped(f'        "{name}": ({result}, ', parameters)
     typed = ["class Calls:", '    """The calls, without the `_by_value` behind some names."""', ""]
     typed.append("    if TYPE_CHECKING:")
     for name, (_, parameters) in made.items():
         given = ", ".join("int" if kind in SCALARS.values() else "Any" for kind in parameters)
         typed.append(f"        {name.removesuffix('_by_value')}: Callable[[{given}], int]")
     codes, *others = enums(bare)
-    parts = [[HEAD, *numbers(bare)], codes, *structs(bare), [*table, "    }"], typed]
+    parts = [[HEAD, *numbers(bare)], codes, *structs(bare), signatures(made), typed]
     return {"_calls.py": together(parts), "_purposes.py": together([[HEAD_OF_ENUMS.rstrip("\n")], *others])}
 
 
@@ -133,8 +135,9 @@ def together(parts: list[list[str]]) -> str:
 
 
 def joined(stubs: str) -> list[str]:
-    """The lines of the file, of which one has the whole list of a call or a struct, whose order counts."""
-    return re.sub(r"\[\n[^]]*\]", lambda found: " ".join(found[0].split()), stubs).split("\n")
+    """The lines of the file, of which one has the whole list of a struct, whose order counts, and one each call of the table."""
+    whole = re.sub(r"\[\n[^]]*\]", lambda found: " ".join(found[0].split()), stubs)
+    return re.sub(r'"""\n[^"]*"""', lambda found: "\n".join(found[0].split()), whole).split("\n")
 
 
 def main() -> None:

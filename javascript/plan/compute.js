@@ -63,47 +63,8 @@ export function plainText(text) {
     }).join("");
 }
 
-const TAB = 9, RETURN = 13, SPACE = 32, HASH = 35, COMMA = 44, HYPHEN = 45, SEMICOLON = 59;
-const isBlank = (code) => code === SPACE || code === TAB || code === RETURN || code === 0xa0 || code === 0xfeff;
-
-/** The rows of a plain text: of each the string that is to be a network or a range, where its name begins and ends in the text, and the
- * number of its line from 0 on. */
-export function rowsOf(text) {
-    const strings = [], begins = [], ends = [], lines = [];
-    /** The place behind what is neither blank nor a comma, or behind what is, from a place on. */
-    const behind = (at, end, isGap) => {
-        for (let code; at < end; at++) {
-            code = text.charCodeAt(at);
-            if ((isBlank(code) || code === COMMA) !== isGap) break;
-        }
-        return at;
-    };
-    for (let line = 0, begin = 0; begin < text.length; line++) {
-        let end = begin, code = 0, next = text.indexOf("\n", begin);
-        if (next < 0) next = text.length;
-        while (end < next && (code = text.charCodeAt(end)) !== HASH && code !== SEMICOLON) end++;
-        while (end > begin && isBlank(text.charCodeAt(end - 1))) end--;
-        while (begin < end && isBlank(text.charCodeAt(begin))) begin++;
-        if (begin < end) {
-            let stop = behind(begin, end, false), name = behind(stop, end, true), string = text.slice(begin, stop);
-            // of a range the hyphen may have white space around it
-            const isBefore = name < end && text.charCodeAt(stop - 1) === HYPHEN && stop > begin + 1, isBehind = name < end && text.charCodeAt(name) === HYPHEN;
-            if (isBefore || isBehind) {
-                const last = isBehind ? behind(name + 1, end, true) : name, after = behind(last, end, false), address = text.slice(last, after);
-                if (/^[0-9a-fA-F.:]+$/.test(address)) {
-                    string = `${isBefore ? string.slice(0, -1) : string}-${address}`;
-                    name = behind(after, end, true);
-                }
-            }
-            strings.push(string);
-            begins.push(name);
-            ends.push(end);
-            lines.push(line);
-        }
-        begin = next + 1;
-    }
-    return { strings, begins, ends, lines };
-}
+const COMMA = 44;
+const isGap = (code) => code <= 32 || code === COMMA;
 
 /** Reads a plan, and then what changes in it: it keeps the rows in the order of their lines, so that of a change only the lines that are new
  * are read. What it returns are arrays that can be sent to another thread. */
@@ -151,45 +112,19 @@ export class Reader {
 
     /** The rows of some lines, and what is wrong with the others. */
     #parsed(text, told = () => {}) {
-        const { NetworkList, PcidrError, summarizeAddressRange } = this.#pcidr, { strings, begins, ends, lines } = rowsOf(text), faults = [];
-        told(0.15);
-        const read = NetworkList.readEach(strings), values = read.networks.toValues(), at = new Int32Array(strings.length).fill(-1), ranges = new Map();
-        read.indexes.forEach((index, i) => {
-            if (values[24 * i + 16] === 255) faults.push({ line: lines[index], message: '"any": the network of all addresses is no row of a plan' });
-            else at[index] = i;
-        });
-        for (const { index, error } of read.errors) {
-            const [first, last, more] = strings[index].split("-");
-            try {
-                if (last === undefined || more !== undefined) throw error;
-                const made = summarizeAddressRange(first, last);
-                if (made.length === 0) throw new PcidrError(29, `"${strings[index]}": the first address of the range is above the last one`);
-                ranges.set(index, made.toValues());
-            } catch (refused) {
-                faults.push({ line: lines[index], message: refused.message });
-            }
-        }
-        faults.sort((one, other) => one.line - other.line);
+        told(0.05);
+        // (what web pages have for a space, and some files in front, is white space here, too)
+        const { networks, lines, begins, ends, faults: refused } = this.#pcidr.readPlan(text.replace(/[\u00a0\ufeff]/g, " ")), count = lines.length;
         told(0.5);
-        let count = 0;
-        for (let index = 0; index < strings.length; index++) count += at[index] >= 0 ? 1 : (ranges.get(index)?.length ?? 0) / 24;
-        const rows = { values: new Uint8Array(24 * count), lines: new Uint32Array(count), begins: new Uint32Array(count), ends: new Uint32Array(count), colours: new Uint8Array(count) };
-        let row = 0;
-        for (let index = 0; index < strings.length; index++) {
-            const some = at[index] >= 0 ? values.subarray(24 * at[index], 24 * at[index] + 24) : ranges.get(index);
-            if (some === undefined) continue;
-            let end = begins[index];
-            for (let code; end < ends[index] && !isBlank((code = text.charCodeAt(end))) && code !== COMMA; ) end++;
-            const word = text.slice(begins[index], end);
+        const rows = { values: networks.toValues(), lines: lines.map((line) => line - 1), begins, ends, colours: new Uint8Array(count) };
+        for (let row = 0; row < count; row++) {
+            let end = begins[row];
+            while (end < ends[row] && !isGap(text.charCodeAt(end))) end++;
+            const word = text.slice(begins[row], end);
             if (!this.#groups.has(word)) this.#groups.set(word, this.#groups.size);
-            rows.values.set(some, 24 * row);
-            for (const next = row + some.length / 24; row < next; row++) {
-                rows.lines[row] = lines[index];
-                rows.begins[row] = begins[index];
-                rows.ends[row] = ends[index];
-                rows.colours[row] = this.#groups.get(word) % 8;
-            }
+            rows.colours[row] = this.#groups.get(word) % 8;
         }
+        const faults = refused.map(({ line, message }) => ({ line: line - 1, message: message.slice(message.indexOf(": ") + 2) }));
         return { rows, faults };
     }
 

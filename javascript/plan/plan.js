@@ -1,5 +1,5 @@
 // plan.js: the page. What networks are, contain, leave free and become comes from the library; here are text, drawing and keys.
-import { load, PcidrError } from "pcidr";
+import { load } from "pcidr";
 import { boxes, hilbert, placed, upToLength } from "curve.js";
 import { Reader, applied, isTable, lastUpTo, lineChange, linesOf, within } from "compute.js";
 
@@ -10,7 +10,7 @@ if (typeof document === "undefined") {
     // The same script in a Worker: it reads texts, while the page can be used.
     let reader;
     onmessage = async ({ data }) => {
-        reader ??= new Reader({ ...(await load(moduleBytes())), PcidrError });
+        reader ??= new Reader(await load(moduleBytes()));
         try {
             const plan = data.edits ? reader.change(data.edits, data.view) : reader.read(data.text, data.view, (part) => postMessage({ part }));
             postMessage({ plan }, Object.values(plan).filter(ArrayBuffer.isView).map((array) => array.buffer));
@@ -20,7 +20,7 @@ if (typeof document === "undefined") {
     };
 } else {
     const script = document.currentScript.textContent;
-    load(moduleBytes()).then((pcidr) => page({ ...pcidr, PcidrError }, script));
+    load(moduleBytes()).then((pcidr) => page(pcidr, script));
 }
 
 async function page(pcidr, script) {

@@ -14,7 +14,7 @@ import re
 import sys
 
 WIDTHS = {"uint8_t": 1, "uint32_t": 4, "uint64_t": 8, "size_t": 8, "char": 1, "pcidr_value": 24, "pcidr_halves": 16, "pcidr_special": 32,
-          "pcidr_range": 48, "pcidr_rule": 32, "pcidr_row": 32, "pcidr_table": 48, "pcidr_table_sizes": 32, "pcidr_file": 144, "pcidr_found": 16}
+          "pcidr_range": 48, "pcidr_rule": 32, "pcidr_row": 32, "pcidr_plan_row": 48, "pcidr_plan_fault": 32, "pcidr_table": 48, "pcidr_table_sizes": 32, "pcidr_file": 144, "pcidr_found": 16}
 POINTERS = (0, 16)  # where a pcidr_table has addresses
 r = random.Random(85)
 
@@ -79,8 +79,9 @@ def line():
 
 
 def text(name):
-    many = name in ("pcidr_read_lines", "pcidr_read_list")
-    s = r.choice(("\n", "\n", "\r\n")).join(line() + r.choice(("", "", "  # why", "; x")) * ("list" in name) for _ in range(r.randrange(8))) if many else line()
+    many, is_plan = name in ("pcidr_read_lines", "pcidr_read_list", "pcidr_read_plan"), "plan" in name
+    one = lambda: (line() + r.choice(("", " core", ",a b", " - x", " 10.0.0.1 y")) * is_plan + r.choice(("", "", "  # why", "; x")) * (is_plan or "list" in name))
+    s = r.choice(("\n", "\n", "\r\n")).join(one() for _ in range(r.randrange(8))) if many else one()
     made = s.encode()
     return made + b"\xff" if r.random() < 0.03 else made
 
@@ -254,7 +255,7 @@ def made_call(library, name, parameters):
         elif not is_pointer:
             call.add_number({"len": r.choice((r.randrange(34), r.randrange(256))), "high": r.choice((0, 0, number(64))), "low": r.choice((0, 1, 7, number(64))),
                              "host_bits": r.randrange(6), "code": r.randrange(40), "index": r.choice((0, 1, 9, 200))}[word], width)
-        elif word == "text":
+        elif word == "text" or kind == "char" and const:
             made = text(name)
             counts[word] = len(made)
             call.add_memory(made)

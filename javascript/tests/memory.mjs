@@ -13,23 +13,41 @@ function leb(at) {
     return [n, i];
 }
 const asLeb = (n) => (n < 128 ? [n] : [(n & 127) | 128, ...asLeb(n >>> 7)]);
-/** The module with a memory of at most so many pages more than it begins with. */
-function limited(more) {
-    for (let at = 8; ; ) {
-        const [size, width] = leb(at + 1), begin = at + 1 + width;
-        if (whole[at] === 5) {
-            const least = leb(begin + 2)[0], memory = [1, 1, ...asLeb(least), ...asLeb(least + more)];
-            return Buffer.concat([whole.subarray(0, at), Buffer.from([5, ...asLeb(memory.length), ...memory]), whole.subarray(begin + size)]);
-        }
-        at = begin + size;
+/** The module with a memory that it is given in place of its own, so that it is compiled once; and how many pages that has at first. */
+function withGivenMemory() {
+    const parts = [whole.subarray(0, 8)];
+    let least;
+    for (let at = 8; at < whole.length; ) {
+        const [size, width] = leb(at + 1), begin = at + 1 + width, next = begin + size;
+        if (whole[at] === 2) throw new Error("the module imports something");
+        if (whole[at] === 5) least = leb(begin + 2)[0];
+        else parts.push(whole.subarray(at, next));
+        if (whole[at] === 1) parts.push(null);
+        at = next;
     }
+    // an import: the module "m", the name "m", a memory of at least so many pages
+    const given = [1, 1, 109, 1, 109, 2, 0, ...asLeb(least)];
+    return [new WebAssembly.Module(Buffer.concat(parts.map((part) => part ?? Buffer.from([2, ...asLeb(given.length), ...given])))), least];
+}
+const [module, least] = withGivenMemory();
+let most, memory; // how many pages the memory may have, and the last one
+WebAssembly.Instance = class extends WebAssembly.Instance {
+    constructor(compiled) {
+        memory = new WebAssembly.Memory({ initial: least, maximum: most });
+        super(compiled, { m: { m: memory } });
+    }
+};
+/** Its classes, with a memory of at most so many pages more than it begins with. */
+function limited(more) {
+    most = least + more;
+    return loadSync(module);
 }
 
 const strings = Array.from({ length: 1500 }, (_, i) => `${10 + (i % 3)}.${(i >> 8) & 255}.${i & 255}.0/24`);
 const text = strings.join("\n");
 /** What is done in one module: each call that takes memory. It tells how many were refused. */
 function run(pages) {
-    const { NetworkList, NetworkSet, Table, StoredTable, permitted, summarizeAddressRange, deciding } = loadSync(limited(pages));
+    const { NetworkList, NetworkSet, Table, StoredTable, permitted, summarizeAddressRange, deciding, readPlan } = limited(pages);
     const small = new NetworkSet(["10.0.0.0/9", "192.0.2.0/24"]), list = new NetworkList(strings), table = small && new Table([["10.0.0.0/8", 1]]);
     const kept = list.toValues(), file = table.toFile();
     let refused = 0;
@@ -37,7 +55,7 @@ function run(pages) {
     for (const call of [() => new NetworkSet(list).length, () => new NetworkSet(list).union(list).length, () => small.difference(list).length,
         () => new NetworkSet(list).ranges().length, () => new NetworkSet(list).numAddresses(4), () => new NetworkSet(list).hasEach(list).length,
         () => new Table(strings.map((network) => [network, network])).lookup("10.0.0.1")[1], () => list.longestMatchEach(list)[7],
-        () => NetworkList.fromText(text).length, () => list.toText().length, () => list.order().length, () => list.tableOrder().length, () => list.nearestEach()[0], () => list.covered("10.0.0.0/8").length,
+        () => NetworkList.fromText(text).length, () => readPlan(text).lines.length, () => list.toText().length, () => list.order().length, () => list.tableOrder().length, () => list.nearestEach()[0], () => list.covered("10.0.0.0/8").length,
         () => new Table(strings.map((network) => [network, network])).toFile().length, () => new StoredTable(file).size, () => permitted(rules).length,
         () => deciding(rules, "10.0.0.0/8").length, () => summarizeAddressRange("10.0.0.1", "12.0.0.0").length, () => small.complement().length]) {
         try {
@@ -51,17 +69,32 @@ function run(pages) {
     }
     return refused;
 }
-let runs = 0, refused = 0;
-for (let pages = 0; ; pages++) {
-    let here;
-    try {
-        here = run(pages);
-    } catch (error) {
-        if (!(error instanceof errors.NoMemoryError) || pages > 8) throw error; // not even what is small has room
-        here = 1;
+/** What happens with so many pages more: how many calls are refused, and how large the memory is then. */
+const seen = new Map();
+function at(pages) {
+    if (!seen.has(pages)) {
+        let here = 1;
+        try {
+            here = run(pages);
+        } catch (error) {
+            if (!(error instanceof errors.NoMemoryError) || pages > 8) throw error; // not even what is small has room
+        }
+        seen.set(pages, { here, told: `${here} ${memory.buffer.byteLength}` });
     }
-    runs++;
-    refused += here;
-    if (here === 0) break;
+    return seen.get(pages);
 }
-console.log(`memory refused in ${runs - 1} modules of ${runs} at one growth each: ${refused} calls, and right answers behind each`);
+// where one page more changes nothing, the same growth is refused: from each number of pages on to the next that does
+let changes = 0;
+for (let pages = 0; at(pages).here > 0; changes++) {
+    let step = 1;
+    while (at(pages + step).told === at(pages).told) step *= 2;
+    let low = pages + (step >> 1), high = pages + step;
+    while (high - low > 1) {
+        const middle = (low + high) >> 1;
+        if (at(middle).told === at(pages).told) low = middle;
+        else high = middle;
+    }
+    pages = high;
+}
+const refused = [...seen.values()].reduce((sum, { here }) => sum + here, 0);
+console.log(`memory refused at each of ${changes} growths, in ${seen.size} instances: ${refused} calls, and right answers behind each`);

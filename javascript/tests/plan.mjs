@@ -2,10 +2,10 @@
 import assert from "node:assert/strict";
 import { pathToFileURL } from "node:url";
 import { boxes, hilbert, placed, upToLength } from "../plan/curve.js";
-import { Reader, applied, isTable, lastUpTo, lineChange, linesOf, plainText, rowsOf, within } from "../plan/compute.js";
+import { Reader, applied, isTable, lastUpTo, lineChange, linesOf, plainText, within } from "../plan/compute.js";
 
-const { load, PcidrError } = await import(`${pathToFileURL(process.argv[2])}/pcidr.js`);
-const pcidr = { ...(await load()), PcidrError };
+const { load } = await import(`${pathToFileURL(process.argv[2])}/pcidr.js`);
+const pcidr = await load();
 const { Network, NetworkList } = pcidr, wordsOf = (list) => new Uint32Array(list.toValues().buffer);
 
 // ---- the map: each cell once, within its network's place, and along the curve neighbours touch
@@ -51,13 +51,16 @@ assert.deepEqual([...upToLength(wordsOf(new NetworkList(["::/0", "2001:db8::/33"
 // ---- what a text says
 
 const rows = (text) => {
-    const { strings, begins, ends, lines } = rowsOf(text);
-    return strings.map((string, i) => [string, text.slice(begins[i], ends[i]), lines[i]]);
+    const { networks, lines, begins, ends } = pcidr.readPlan(text);
+    return networks.toStrings().map((network, i) => [network, text.slice(begins[i], ends[i]), lines[i]]);
 };
-assert.deepEqual(rows("10.0.0.0/8 core # x\n\n  # only this\n10.1.0.0-10.1.0.9 dhcp pool \r\n10.2.0.0 - 10.2.0.1\tx\n10.3.0.0- 10.3.0.1\n10.4.0.0 -10.4.0.1,y, z\n::/0\n10.0.0.1 - not - one;\n-"), [
-    ["10.0.0.0/8", "core", 0], ["10.1.0.0-10.1.0.9", "dhcp pool", 3], ["10.2.0.0-10.2.0.1", "x", 4], ["10.3.0.0-10.3.0.1", "", 5], ["10.4.0.0-10.4.0.1", "y, z", 6], ["::/0", "", 7],
-    ["10.0.0.1", "- not - one", 8], ["-", "", 9],
+const told = (text) => pcidr.readPlan(text).faults.map(({ line, message }) => [line, message]);
+assert.deepEqual(rows("10.0.0.0/8 core # x\n\n  # only this\n10.1.0.0-10.1.0.9 dhcp pool \r\n10.2.0.0 - 10.2.0.1\tx\n10.3.0.0- 10.3.0.1\n10.4.0.0 -10.4.0.1,y, z\n::/0\n10.0.0.7 a - b;\n2001:db8::/32,größe 🌍 x\n::1 z"), [
+    ["10.0.0.0/8", "core", 1], ["10.1.0.0/29", "dhcp pool", 4], ["10.1.0.8/31", "dhcp pool", 4], ["10.2.0.0/31", "x", 5], ["10.3.0.0/31", "", 6], ["10.4.0.0/31", "y, z", 7], ["::/0", "", 8],
+    ["10.0.0.7", "a - b", 9], ["2001:db8::/32", "größe 🌍 x", 10], ["::1", "z", 11],
 ]);
+assert.deepEqual(told("10.0.0.1 - not\n-\n::1\n10.0.0.1/8 a\n10.0.0.9-10.0.0.1\n10.0.0.0 255.0.0.0 x").map(([line]) => line), [1, 2, 4, 5, 6]);
+assert.match(told("ok\n10.0.0.1/8 a\n")[1][1], /^line 2: 10\.0\.0\.1\/8: host bits set; the network is 10\.0\.0\.0\/8$/);
 assert.equal(plainText('# export\n\nid,Prefix,site,Name\n1,10.0.0.0/8,s,"a, ""b"""\n\n2,"10.1.0.0/16",s,c;d\n3\n'), '10.0.0.0/8 a, "b"\n10.1.0.0/16 c d\n?\n');
 assert.equal(plainText("network;description\n::/0;x\n"), "::/0 x\n");
 for (const text of ["", "network\n10.0.0.0/8", "10.0.0.0/8,x\n", "\n\n"]) assert.equal(plainText(text), text);

@@ -76,6 +76,26 @@ class Halves(Structure):
     _fields_ = [("high", c_uint64), ("low", c_uint64)]
 
 
+class PlanRow(Structure):
+    """`pcidr_plan_row`."""
+
+    network: Value
+    line: int
+    name: int
+    name_len: int
+    _fields_ = [("network", Value), ("line", c_uint64), ("name", c_size_t), ("name_len", c_size_t)]
+
+
+class PlanFault(Structure):
+    """`pcidr_plan_fault`."""
+
+    line: int
+    text: int
+    text_len: int
+    code: int
+    _fields_ = [("line", c_uint64), ("text", c_size_t), ("text_len", c_size_t), ("code", c_uint32)]
+
+
 class Special(Structure):
     """`pcidr_special`."""
 
@@ -89,18 +109,8 @@ class Special(Structure):
     forwardable: int
     globally_reachable: int
     reserved_by_protocol: int
-    _fields_ = [
-        ("high", c_uint64),
-        ("low", c_uint64),
-        ("rfc", c_uint16),
-        ("len", c_uint8),
-        ("purpose", c_uint8),
-        ("source", c_uint8),
-        ("destination", c_uint8),
-        ("forwardable", c_uint8),
-        ("globally_reachable", c_uint8),
-        ("reserved_by_protocol", c_uint8),
-    ]
+    _fields_ = [("high", c_uint64), ("low", c_uint64), ("rfc", c_uint16), ("len", c_uint8), ("purpose", c_uint8), ("source", c_uint8),
+        ("destination", c_uint8), ("forwardable", c_uint8), ("globally_reachable", c_uint8), ("reserved_by_protocol", c_uint8)]
 
 
 class Range(Structure):
@@ -137,15 +147,8 @@ class Table(Structure):
     steps: int
     rows: int
     family: int
-    _fields_ = [
-        ("first", c_void_p),
-        ("first_len", c_size_t),
-        ("words", c_void_p),
-        ("words_len", c_size_t),
-        ("steps", c_uint32),
-        ("rows", c_uint32),
-        ("family", c_uint32),
-    ]
+    _fields_ = [("first", c_void_p), ("first_len", c_size_t), ("words", c_void_p), ("words_len", c_size_t), ("steps", c_uint32), ("rows",
+        c_uint32), ("family", c_uint32)]
 
 
 class TableSizes(Structure):
@@ -172,19 +175,8 @@ class FileTable(Structure):
     entries: int
     words_len: int
     steps: int
-    _fields_ = [
-        ("first", c_size_t),
-        ("words", c_size_t),
-        ("addresses", c_size_t),
-        ("lengths", c_size_t),
-        ("offsets", c_size_t),
-        ("values", c_size_t),
-        ("values_len", c_size_t),
-        ("rows", c_uint32),
-        ("entries", c_uint32),
-        ("words_len", c_uint32),
-        ("steps", c_uint32),
-    ]
+    _fields_ = [("first", c_size_t), ("words", c_size_t), ("addresses", c_size_t), ("lengths", c_size_t), ("offsets", c_size_t), ("values",
+        c_size_t), ("values_len", c_size_t), ("rows", c_uint32), ("entries", c_uint32), ("words_len", c_uint32), ("steps", c_uint32)]
 
 
 class File(Structure):
@@ -204,202 +196,54 @@ class Found(Structure):
     _fields_ = [("value", c_size_t), ("value_len", c_uint32), ("row", c_uint32)]
 
 
-def signatures() -> dict[str, tuple[Any, list[Any]]]:
+SIGNATURES = """
+version:a read_address:abcd read_loose_address:abcd read_host:abcd read_network:abcd read_short_network:abcd read_masked_network:abcd
+read_reverse_name:abcd read_lines:abcecf read_list:abcaecfgbc read_plan:abcaecfecf plan_message:abcabc print_address:cdbc print_host:cdbc
+print_host_with_length:cdbc print_network:cdbc print_network_with_length:cdbc print_exploded_address:cdbc print_exploded_host:cdbc
+print_with_mask:cdbc print_with_host_mask:cdbc print_host_with_mask:cdbc print_host_with_host_mask:cdbc print_reverse_name:cdbc
+print_reverse_zone:cdcbc print_lines:aecbcf message:cabc text_fault:cbcbc network_to_bytes:cdec host_to_bytes:cdec network_from_bytes:aecdf
+host_from_bytes:aecdf first_by_value:ahd last_by_value:ahd mask_by_value:ahd address_by_value:ahd network_by_value:ahd
+step_up_by_value:ahiid step_down_by_value:ahiid at_by_value:ahiid host_mask_by_value:ahd first_usable_by_value:ahd last_usable_by_value:ahd
+nth_by_value:ahiid supernet_by_value:ahjd parent_by_value:ahd network_halves_by_value:ahdd subnet_by_value:ahjiid sibling_by_value:ahd
+next_network_by_value:ahd previous_network_by_value:ahd ipv6_mapped_by_value:ahd ipv4_mapped_by_value:ahd ipv4_6to4_by_value:ahd
+ipv4_nat64_by_value:ahd usable_count:adf address_count:adk position:addk subnets:adjiiecf mask_length:adl host_mask_length:adl
+special_entry:adm is_global:ad is_private:ad is_loopback:ad is_link_local:ad is_documentation:ad is_unspecified:ad is_multicast:ad check:ad
+contains:add overlaps:add is_sibling_of:add spanning:addd compare:add compare_hosts:add cover:aecf union:aecececf intersection:aecececf
+difference:aecececf symmetric_difference:aecececf union_in_place:aecfec intersection_in_place:aecfec difference_in_place:aecfec
+complement:aecdecf is_subset:aececn is_disjoint:aececn summarize:addecf ranges:aececf count_ipv4:aeck count_ipv6:aeck nth_ipv4:aeciid
+nth_ipv6:aeciid first_free:aecjd best_free:aecjd contains_each:aececec longest_match_each:aececec nearest_each:aecec sort_order:aececf
+table_order:aececf rows_find:aecdf rows_longest:aecdf rows_covered:aecdff rows_covering:aecdecf rows_insert:aecfdf rows_remove:aecfdf
+covering:aecdecf covered:aecdecf permits:aecd permitted:aececf shadowed:aececf deciding:aecdecf smallest:aececf forwards_same:aececn
+ipv4_table_build:aecececo ipv6_table_build:aecececo ipv4_table_check:aecececa ipv6_table_check:aecececa ipv4_table_lookup:aececpd
+ipv6_table_lookup:aececpd ipv4_table_lookup_each:aececpecec ipv6_table_lookup_each:aececpecec file_open:aecq file_check:aec
+file_lookup:aecqdr file_lookup_each:aecqecec set_has:aecqd set_has_each:aecqecec file_write:aececececf set_write:aececf
+"""
+
+
+def signatures() -> dict[str, list[Any]]:
     """Of each call the result and the parameters."""
-    return {
-        "version": (c_uint32, []),
-        "read_address": (c_uint32, [c_char_p, c_size_t, POINTER(Value)]),
-        "read_loose_address": (c_uint32, [c_char_p, c_size_t, POINTER(Value)]),
-        "read_host": (c_uint32, [c_char_p, c_size_t, POINTER(Value)]),
-        "read_network": (c_uint32, [c_char_p, c_size_t, POINTER(Value)]),
-        "read_short_network": (c_uint32, [c_char_p, c_size_t, POINTER(Value)]),
-        "read_masked_network": (c_uint32, [c_char_p, c_size_t, POINTER(Value)]),
-        "read_reverse_name": (c_uint32, [c_char_p, c_size_t, POINTER(Value)]),
-        "read_lines": (c_uint32, [c_char_p, c_size_t, c_void_p, c_size_t, POINTER(c_size_t)]),
-        "read_list": (c_uint32, [
-            c_char_p,
-            c_size_t,
-            c_uint32,
-            c_void_p,
-            c_size_t,
-            POINTER(c_size_t),
-            POINTER(c_uint64),
-            c_char_p,
-            c_size_t,
-        ]),
-        "print_address": (c_size_t, [POINTER(Value), c_char_p, c_size_t]),
-        "print_host": (c_size_t, [POINTER(Value), c_char_p, c_size_t]),
-        "print_host_with_length": (c_size_t, [POINTER(Value), c_char_p, c_size_t]),
-        "print_network": (c_size_t, [POINTER(Value), c_char_p, c_size_t]),
-        "print_network_with_length": (c_size_t, [POINTER(Value), c_char_p, c_size_t]),
-        "print_exploded_address": (c_size_t, [POINTER(Value), c_char_p, c_size_t]),
-        "print_exploded_host": (c_size_t, [POINTER(Value), c_char_p, c_size_t]),
-        "print_with_mask": (c_size_t, [POINTER(Value), c_char_p, c_size_t]),
-        "print_with_host_mask": (c_size_t, [POINTER(Value), c_char_p, c_size_t]),
-        "print_host_with_mask": (c_size_t, [POINTER(Value), c_char_p, c_size_t]),
-        "print_host_with_host_mask": (c_size_t, [POINTER(Value), c_char_p, c_size_t]),
-        "print_reverse_name": (c_size_t, [POINTER(Value), c_char_p, c_size_t]),
-        "print_reverse_zone": (c_size_t, [POINTER(Value), c_size_t, c_char_p, c_size_t]),
-        "print_lines": (c_uint32, [c_void_p, c_size_t, c_char_p, c_size_t, POINTER(c_size_t)]),
-        "message": (c_size_t, [c_uint32, c_char_p, c_size_t]),
-        "text_fault": (c_size_t, [c_char_p, c_size_t, c_char_p, c_size_t]),
-        "network_to_bytes": (c_size_t, [POINTER(Value), c_void_p, c_size_t]),
-        "host_to_bytes": (c_size_t, [POINTER(Value), c_void_p, c_size_t]),
-        "network_from_bytes": (c_uint32, [c_void_p, c_size_t, POINTER(Value), POINTER(c_size_t)]),
-        "host_from_bytes": (c_uint32, [c_void_p, c_size_t, POINTER(Value), POINTER(c_size_t)]),
-        "first_by_value": (c_uint32, [Value, POINTER(Value)]),
-        "last_by_value": (c_uint32, [Value, POINTER(Value)]),
-        "mask_by_value": (c_uint32, [Value, POINTER(Value)]),
-        "address_by_value": (c_uint32, [Value, POINTER(Value)]),
-        "network_by_value": (c_uint32, [Value, POINTER(Value)]),
-        "step_up_by_value": (c_uint32, [Value, c_uint64, c_uint64, POINTER(Value)]),
-        "step_down_by_value": (c_uint32, [Value, c_uint64, c_uint64, POINTER(Value)]),
-        "at_by_value": (c_uint32, [Value, c_uint64, c_uint64, POINTER(Value)]),
-        "host_mask_by_value": (c_uint32, [Value, POINTER(Value)]),
-        "first_usable_by_value": (c_uint32, [Value, POINTER(Value)]),
-        "last_usable_by_value": (c_uint32, [Value, POINTER(Value)]),
-        "nth_by_value": (c_uint32, [Value, c_uint64, c_uint64, POINTER(Value)]),
-        "supernet_by_value": (c_uint32, [Value, c_uint8, POINTER(Value)]),
-        "parent_by_value": (c_uint32, [Value, POINTER(Value)]),
-        "network_halves_by_value": (c_uint32, [Value, POINTER(Value), POINTER(Value)]),
-        "subnet_by_value": (c_uint32, [Value, c_uint8, c_uint64, c_uint64, POINTER(Value)]),
-        "sibling_by_value": (c_uint32, [Value, POINTER(Value)]),
-        "next_network_by_value": (c_uint32, [Value, POINTER(Value)]),
-        "previous_network_by_value": (c_uint32, [Value, POINTER(Value)]),
-        "ipv6_mapped_by_value": (c_uint32, [Value, POINTER(Value)]),
-        "ipv4_mapped_by_value": (c_uint32, [Value, POINTER(Value)]),
-        "ipv4_6to4_by_value": (c_uint32, [Value, POINTER(Value)]),
-        "ipv4_nat64_by_value": (c_uint32, [Value, POINTER(Value)]),
-        "usable_count": (c_uint32, [POINTER(Value), POINTER(c_size_t)]),
-        "address_count": (c_uint32, [POINTER(Value), POINTER(Halves)]),
-        "position": (c_uint32, [POINTER(Value), POINTER(Value), POINTER(Halves)]),
-        "subnets": (c_uint32, [POINTER(Value), c_uint8, c_uint64, c_uint64, c_void_p, c_size_t, POINTER(c_size_t)]),
-        "mask_length": (c_uint32, [POINTER(Value), POINTER(c_uint8)]),
-        "host_mask_length": (c_uint32, [POINTER(Value), POINTER(c_uint8)]),
-        "special_entry": (c_uint32, [POINTER(Value), POINTER(Special)]),
-        "is_global": (c_uint32, [POINTER(Value)]),
-        "is_private": (c_uint32, [POINTER(Value)]),
-        "is_loopback": (c_uint32, [POINTER(Value)]),
-        "is_link_local": (c_uint32, [POINTER(Value)]),
-        "is_documentation": (c_uint32, [POINTER(Value)]),
-        "is_unspecified": (c_uint32, [POINTER(Value)]),
-        "is_multicast": (c_uint32, [POINTER(Value)]),
-        "check": (c_uint32, [POINTER(Value)]),
-        "contains": (c_uint32, [POINTER(Value), POINTER(Value)]),
-        "overlaps": (c_uint32, [POINTER(Value), POINTER(Value)]),
-        "is_sibling_of": (c_uint32, [POINTER(Value), POINTER(Value)]),
-        "spanning": (c_uint32, [POINTER(Value), POINTER(Value), POINTER(Value)]),
-        "compare": (c_uint32, [POINTER(Value), POINTER(Value)]),
-        "compare_hosts": (c_uint32, [POINTER(Value), POINTER(Value)]),
-        "cover": (c_uint32, [c_void_p, c_size_t, POINTER(c_size_t)]),
-        "union": (c_uint32, [c_void_p, c_size_t, c_void_p, c_size_t, c_void_p, c_size_t, POINTER(c_size_t)]),
-        "intersection": (c_uint32, [c_void_p, c_size_t, c_void_p, c_size_t, c_void_p, c_size_t, POINTER(c_size_t)]),
-        "difference": (c_uint32, [c_void_p, c_size_t, c_void_p, c_size_t, c_void_p, c_size_t, POINTER(c_size_t)]),
-        "symmetric_difference": (c_uint32, [
-            c_void_p,
-            c_size_t,
-            c_void_p,
-            c_size_t,
-            c_void_p,
-            c_size_t,
-            POINTER(c_size_t),
-        ]),
-        "union_in_place": (c_uint32, [c_void_p, c_size_t, POINTER(c_size_t), c_void_p, c_size_t]),
-        "intersection_in_place": (c_uint32, [c_void_p, c_size_t, POINTER(c_size_t), c_void_p, c_size_t]),
-        "difference_in_place": (c_uint32, [c_void_p, c_size_t, POINTER(c_size_t), c_void_p, c_size_t]),
-        "complement": (c_uint32, [c_void_p, c_size_t, POINTER(Value), c_void_p, c_size_t, POINTER(c_size_t)]),
-        "is_subset": (c_uint32, [c_void_p, c_size_t, c_void_p, c_size_t, POINTER(c_uint32)]),
-        "is_disjoint": (c_uint32, [c_void_p, c_size_t, c_void_p, c_size_t, POINTER(c_uint32)]),
-        "summarize": (c_uint32, [POINTER(Value), POINTER(Value), c_void_p, c_size_t, POINTER(c_size_t)]),
-        "ranges": (c_uint32, [c_void_p, c_size_t, c_void_p, c_size_t, POINTER(c_size_t)]),
-        "count_ipv4": (c_uint32, [c_void_p, c_size_t, POINTER(Halves)]),
-        "count_ipv6": (c_uint32, [c_void_p, c_size_t, POINTER(Halves)]),
-        "nth_ipv4": (c_uint32, [c_void_p, c_size_t, c_uint64, c_uint64, POINTER(Value)]),
-        "nth_ipv6": (c_uint32, [c_void_p, c_size_t, c_uint64, c_uint64, POINTER(Value)]),
-        "first_free": (c_uint32, [c_void_p, c_size_t, c_uint8, POINTER(Value)]),
-        "best_free": (c_uint32, [c_void_p, c_size_t, c_uint8, POINTER(Value)]),
-        "contains_each": (c_uint32, [c_void_p, c_size_t, c_void_p, c_size_t, c_void_p, c_size_t]),
-        "longest_match_each": (c_uint32, [c_void_p, c_size_t, c_void_p, c_size_t, c_void_p, c_size_t]),
-        "nearest_each": (c_uint32, [c_void_p, c_size_t, c_void_p, c_size_t]),
-        "sort_order": (c_uint32, [c_void_p, c_size_t, c_void_p, c_size_t, POINTER(c_size_t)]),
-        "table_order": (c_uint32, [c_void_p, c_size_t, c_void_p, c_size_t, POINTER(c_size_t)]),
-        "rows_find": (c_uint32, [c_void_p, c_size_t, POINTER(Value), POINTER(c_size_t)]),
-        "rows_longest": (c_uint32, [c_void_p, c_size_t, POINTER(Value), POINTER(c_size_t)]),
-        "rows_covered": (c_uint32, [c_void_p, c_size_t, POINTER(Value), POINTER(c_size_t), POINTER(c_size_t)]),
-        "rows_covering": (c_uint32, [c_void_p, c_size_t, POINTER(Value), c_void_p, c_size_t, POINTER(c_size_t)]),
-        "rows_insert": (c_uint32, [c_void_p, c_size_t, POINTER(c_size_t), POINTER(Value), POINTER(c_size_t)]),
-        "rows_remove": (c_uint32, [c_void_p, c_size_t, POINTER(c_size_t), POINTER(Value), POINTER(c_size_t)]),
-        "covering": (c_uint32, [c_void_p, c_size_t, POINTER(Value), c_void_p, c_size_t, POINTER(c_size_t)]),
-        "covered": (c_uint32, [c_void_p, c_size_t, POINTER(Value), c_void_p, c_size_t, POINTER(c_size_t)]),
-        "permits": (c_uint32, [c_void_p, c_size_t, POINTER(Value)]),
-        "permitted": (c_uint32, [c_void_p, c_size_t, c_void_p, c_size_t, POINTER(c_size_t)]),
-        "shadowed": (c_uint32, [c_void_p, c_size_t, c_void_p, c_size_t, POINTER(c_size_t)]),
-        "deciding": (c_uint32, [c_void_p, c_size_t, POINTER(Value), c_void_p, c_size_t, POINTER(c_size_t)]),
-        "smallest": (c_uint32, [c_void_p, c_size_t, c_void_p, c_size_t, POINTER(c_size_t)]),
-        "forwards_same": (c_uint32, [c_void_p, c_size_t, c_void_p, c_size_t, POINTER(c_uint32)]),
-        "ipv4_table_build": (c_uint32, [
-            c_void_p,
-            c_size_t,
-            c_void_p,
-            c_size_t,
-            c_void_p,
-            c_size_t,
-            POINTER(TableSizes),
-        ]),
-        "ipv6_table_build": (c_uint32, [
-            c_void_p,
-            c_size_t,
-            c_void_p,
-            c_size_t,
-            c_void_p,
-            c_size_t,
-            POINTER(TableSizes),
-        ]),
-        "ipv4_table_check": (c_uint32, [c_void_p, c_size_t, c_void_p, c_size_t, c_void_p, c_size_t, c_uint32]),
-        "ipv6_table_check": (c_uint32, [c_void_p, c_size_t, c_void_p, c_size_t, c_void_p, c_size_t, c_uint32]),
-        "ipv4_table_lookup": (c_uint32, [c_void_p, c_size_t, c_void_p, c_size_t, POINTER(Table), POINTER(Value)]),
-        "ipv6_table_lookup": (c_uint32, [c_void_p, c_size_t, c_void_p, c_size_t, POINTER(Table), POINTER(Value)]),
-        "ipv4_table_lookup_each": (c_uint32, [
-            c_void_p,
-            c_size_t,
-            c_void_p,
-            c_size_t,
-            POINTER(Table),
-            c_void_p,
-            c_size_t,
-            c_void_p,
-            c_size_t,
-        ]),
-        "ipv6_table_lookup_each": (c_uint32, [
-            c_void_p,
-            c_size_t,
-            c_void_p,
-            c_size_t,
-            POINTER(Table),
-            c_void_p,
-            c_size_t,
-            c_void_p,
-            c_size_t,
-        ]),
-        "file_open": (c_uint32, [c_void_p, c_size_t, POINTER(File)]),
-        "file_check": (c_uint32, [c_void_p, c_size_t]),
-        "file_lookup": (c_uint32, [c_void_p, c_size_t, POINTER(File), POINTER(Value), POINTER(Found)]),
-        "file_lookup_each": (c_uint32, [c_void_p, c_size_t, POINTER(File), c_void_p, c_size_t, c_void_p, c_size_t]),
-        "set_has": (c_uint32, [c_void_p, c_size_t, POINTER(File), POINTER(Value)]),
-        "set_has_each": (c_uint32, [c_void_p, c_size_t, POINTER(File), c_void_p, c_size_t, c_void_p, c_size_t]),
-        "file_write": (c_uint32, [
-            c_void_p,
-            c_size_t,
-            c_void_p,
-            c_size_t,
-            c_void_p,
-            c_size_t,
-            c_void_p,
-            c_size_t,
-            POINTER(c_size_t),
-        ]),
-        "set_write": (c_uint32, [c_void_p, c_size_t, c_void_p, c_size_t, POINTER(c_size_t)]),
+    kinds = {
+        "a": c_uint32,
+        "b": c_char_p,
+        "c": c_size_t,
+        "d": POINTER(Value),
+        "e": c_void_p,
+        "f": POINTER(c_size_t),
+        "g": POINTER(c_uint64),
+        "h": Value,
+        "i": c_uint64,
+        "j": c_uint8,
+        "k": POINTER(Halves),
+        "l": POINTER(c_uint8),
+        "m": POINTER(Special),
+        "n": POINTER(c_uint32),
+        "o": POINTER(TableSizes),
+        "p": POINTER(Table),
+        "q": POINTER(File),
+        "r": POINTER(Found),
     }
+    found = (each.split(":") for each in SIGNATURES.split())
+    return {name: [*map(kinds.__getitem__, letters)] for name, letters in found}
 
 
 class Calls:
@@ -416,6 +260,8 @@ class Calls:
         read_reverse_name: Callable[[Any, int, Any], int]
         read_lines: Callable[[Any, int, Any, int, Any], int]
         read_list: Callable[[Any, int, int, Any, int, Any, Any, Any, int], int]
+        read_plan: Callable[[Any, int, int, Any, int, Any, Any, int, Any], int]
+        plan_message: Callable[[Any, int, int, Any, int], int]
         print_address: Callable[[Any, Any, int], int]
         print_host: Callable[[Any, Any, int], int]
         print_host_with_length: Callable[[Any, Any, int], int]

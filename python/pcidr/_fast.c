@@ -17,27 +17,25 @@
 typedef uint32_t (*reader)(const char *, size_t, pcidr_value *);
 typedef size_t (*printer)(const pcidr_value *, char *, size_t);
 typedef uint32_t (*comparer)(const pcidr_value *, const pcidr_value *);
-typedef uint32_t (*part)(pcidr_value, pcidr_value *);
 typedef uint32_t (*question)(const pcidr_value *);
+typedef uint32_t (*part)(pcidr_value, pcidr_value *);
+typedef uint32_t (*step)(pcidr_value, uint64_t, uint64_t, pcidr_value *);
 
-/* Which calls are those of addresses, of hosts and of networks. */
-typedef struct {
-    reader read;
-    printer print;
-    comparer compare;
-} kind;
+/* The calls of the library that are made here, named as those of the header but without the `pcidr_`. */
+#define CALLS(of)                                                                                                      \
+    of(read_address) of(read_host) of(read_network) of(print_address) of(print_host) of(print_network)                 \
+    of(print_host_with_length) of(print_network_with_length) of(print_with_mask) of(print_with_host_mask)              \
+    of(print_host_with_mask) of(print_host_with_host_mask) of(print_exploded_address) of(print_exploded_host)          \
+    of(print_reverse_name) of(compare) of(compare_hosts) of(contains) of(overlaps) of(is_private) of(is_loopback)      \
+    of(is_link_local) of(is_multicast) of(is_unspecified) of(is_documentation) of(is_global) of(first_by_value)        \
+    of(last_by_value) of(mask_by_value) of(host_mask_by_value) of(address_by_value) of(network_by_value)               \
+    of(first_usable_by_value) of(last_usable_by_value) of(next_network_by_value) of(previous_network_by_value)         \
+    of(sibling_by_value) of(ipv6_mapped_by_value) of(ipv4_mapped_by_value) of(ipv4_6to4_by_value)                      \
+    of(ipv4_nat64_by_value) of(step_up_by_value) of(step_down_by_value) of(nth_by_value) of(special_entry)             \
+    of(ipv4_table_lookup) of(ipv6_table_lookup) of(rows_longest) of(file_lookup) of(set_has)
 
-static kind addresses, hosts, networks;
-static comparer contains, overlaps;
-static part first_part, last_part, mask_part, host_mask_part, address_part, network_part, first_usable, last_usable;
-static part next_network, previous_network, sibling, ipv6_mapped, ipv4_mapped, ipv4_6to4, ipv4_nat64;
-static question is_private, is_loopback, is_link_local, is_multicast, is_unspecified, is_documentation, is_global;
-static printer host_with_length, network_with_length, with_mask, with_host_mask, host_with_mask, host_with_host_mask;
-static printer exploded_address, exploded_host, reverse_name;
-static uint32_t (*special_entry)(const pcidr_value *, pcidr_special *);
-static uint32_t (*step_up)(pcidr_value, uint64_t, uint64_t, pcidr_value *);
-static uint32_t (*step_down)(pcidr_value, uint64_t, uint64_t, pcidr_value *);
-static uint32_t (*nth)(pcidr_value, uint64_t, uint64_t, pcidr_value *);
+#define DECLARED(name) static __typeof__(&pcidr_##name) name;
+CALLS(DECLARED)
 
 /* Of the module: the classes, `Value` of `ctypes`, and what is called where there is no quick way. */
 static PyObject *address_class, *network_class, *value_class, *check_code, *network_value, *entry_made, *counts;
@@ -89,32 +87,24 @@ static int copied(PyObject *given, pcidr_value *value) {
     return is_value ? 0 : -1;
 }
 
-/* Raises the exception of an error, which names what was given. */
-static int raised(uint32_t code, PyObject *given) {
-    PyObject *none = PyObject_CallFunction(check_code, "IO", (unsigned)code, given);
+/* Raises the exception of an error, which names what was given, one object or two. */
+static void *raised(uint32_t code, PyObject *given, PyObject *more) {
+    PyObject *number = PyLong_FromUnsignedLong(code);
+    PyObject *none = number ? PyObject_CallFunctionObjArgs(check_code, number, given, more, NULL) : NULL;
+    Py_XDECREF(number);
     Py_XDECREF(none);
-    return -1;
+    return NULL;
 }
 
-/* Reads a string. Half of a pair, which UTF-8 does not have, is passed on for the library to refuse. */
+/* Reads a string, which is no UTF-8 where it has half of a pair. */
 static int read_string(reader read, PyObject *given, pcidr_value *value) {
     Py_ssize_t size;
     const char *text = PyUnicode_AsUTF8AndSize(given, &size);
-    if (text) {
-        uint32_t code = read(text, (size_t)size, value);
-        return code ? raised(code, given) : 0;
-    }
-    PyErr_Clear();
-    PyObject *bytes = PyUnicode_AsEncodedString(given, "utf-8", "surrogatepass");
-    char *begin;
-    if (!bytes) return -1;
-    if (PyBytes_AsStringAndSize(bytes, &begin, &size)) {
-        Py_DECREF(bytes);
-        return -1;
-    }
-    uint32_t code = read(begin, (size_t)size, value);
-    Py_DECREF(bytes);
-    return code ? raised(code, given) : 0;
+    if (!text && !PyErr_ExceptionMatches(PyExc_UnicodeEncodeError)) return -1;
+    if (!text) PyErr_Clear();
+    uint32_t code = text ? read(text, (size_t)size, value) : PCIDR_NOT_UTF8;
+    if (code) raised(code, given, NULL);
+    return code ? -1 : 0;
 }
 
 /* ---- what all have alike */
@@ -168,25 +158,16 @@ static PyObject *shown_become(PyObject *self, PyObject *given) {
     return Py_NewRef(Py_None);
 }
 
-static PyObject *shown_version(PyObject *self, void *unused) {
-    (void)unused;
+/* The version, the prefix length and the largest one, by the letters that stand for them. */
+static PyObject *number_by(PyObject *self, void *letter) {
     uint8_t tag = value_in(self)->tag;
+    int is_wide = tag >= 64;
     if (tag == 255) return Py_NewRef(Py_None);
-    return PyLong_FromLong(tag < 64 ? 4 : 6);
-}
-
-static PyObject *shown_prefixlen(PyObject *self, void *unused) {
-    (void)unused;
-    uint8_t tag = value_in(self)->tag;
-    if (tag == 255) return Py_NewRef(Py_None);
-    return PyLong_FromLong(tag < 64 ? tag : tag - 64);
-}
-
-static PyObject *shown_max_prefixlen(PyObject *self, void *unused) {
-    (void)unused;
-    uint8_t tag = value_in(self)->tag;
-    if (tag == 255) return Py_NewRef(Py_None);
-    return PyLong_FromLong(tag < 64 ? 32 : 128);
+    switch (*(const char *)letter) {
+        case 'v': return PyLong_FromLong(is_wide ? 6 : 4);
+        case 'p': return PyLong_FromLong(is_wide ? tag - 64 : tag);
+        default: return PyLong_FromLong(is_wide ? 128 : 32);
+    }
 }
 
 /* The masks that have been asked for, and the host masks, by the tags of values. */
@@ -197,14 +178,12 @@ static PyObject *part_of(PyObject *self, part call, PyObject *class) {
     pcidr_value out;
     uint32_t code = call(*value_in(self), &out);
     if (!code) return made_of(class, &out);
-    if (code == PCIDR_NONE) return Py_NewRef(Py_None);
-    raised(code, self);
-    return NULL;
+    return code == PCIDR_NONE ? Py_NewRef(Py_None) : raised(code, self, NULL);
 }
 
 /* The mask, or the host mask, of a value, of which there is one object for each prefix length. */
 static PyObject *mask_by(PyObject *self, void *call) {
-    PyObject **kept = &kept_masks[call == &host_mask_part][value_in(self)->tag];
+    PyObject **kept = &kept_masks[call == &host_mask_by_value][value_in(self)->tag];
     if (*kept) return Py_NewRef(*kept);
     PyObject *made = part_of(self, *(part *)call, address_class);
     if (made && !*kept) *kept = Py_NewRef(made);
@@ -236,7 +215,7 @@ static PyObject *string_by(PyObject *self, void *print) {
 /* The name in reverse DNS of a value, which is that of an object or a part of it. */
 static PyObject *name_of(PyObject *self, const pcidr_value *value) {
     char room[PCIDR_NAME_ROOM];
-    size_t length = reverse_name(value, room, sizeof room);
+    size_t length = print_reverse_name(value, room, sizeof room);
     if (length) return string_of(room, length);
     return PyErr_Format(PyExc_ValueError, "%S has no name in reverse DNS", self);
 }
@@ -280,13 +259,13 @@ static PyMethodDef shown_methods[] = {
 
 static PyGetSetDef shown_attributes[] = {
     {"_value", shown_value, NULL, NULL, NULL},
-    {"version", shown_version, NULL, "4 or 6, or None for the network `any`.", NULL},
-    {"prefixlen", shown_prefixlen, NULL, "The prefix length, or None for the network `any`.", NULL},
-    {"max_prefixlen", shown_max_prefixlen, NULL, "The number of bits of an address: 32 or 128.", NULL},
-    {"first", address_by, NULL, "The first address of the network; `any` raises `ValueError`.", &first_part},
-    {"last", address_by, NULL, "The last address of the network, as `first` has the first one.", &last_part},
-    {"netmask", mask_by, NULL, "The mask of the network, as an address; `any` raises `ValueError`.", &mask_part},
-    {"hostmask", mask_by, NULL, "The inverse of the mask, as an address.", &host_mask_part},
+    {"version", number_by, NULL, "4 or 6, or None for the network `any`.", "v"},
+    {"prefixlen", number_by, NULL, "The prefix length, or None for the network `any`.", "p"},
+    {"max_prefixlen", number_by, NULL, "The number of bits of an address: 32 or 128.", "m"},
+    {"first", address_by, NULL, "The first address of the network; `any` raises `ValueError`.", &first_by_value},
+    {"last", address_by, NULL, "The last address of the network, as `first` has the first one.", &last_by_value},
+    {"netmask", mask_by, NULL, "The mask of the network, as an address; `any` raises `ValueError`.", &mask_by_value},
+    {"hostmask", mask_by, NULL, "The inverse of the mask, as an address.", &host_mask_by_value},
     {NULL, NULL, NULL, NULL, NULL},
 };
 
@@ -308,7 +287,7 @@ static PyType_Slot shown_slots[] = {
 
 /* ---- what depends on the kind */
 
-static int filled(PyObject *self, PyObject *arguments, PyObject *named, const kind *of) {
+static int filled(PyObject *self, PyObject *arguments, PyObject *named, reader read) {
     PyObject *given;
     char *names[] = {"given", NULL};
     if (named || PyTuple_Size(arguments) != 1) {
@@ -316,7 +295,7 @@ static int filled(PyObject *self, PyObject *arguments, PyObject *named, const ki
     } else {
         given = PyTuple_GetItem(arguments, 0);
     }
-    if (PyUnicode_Check(given)) return read_string(of->read, given, value_in(self));
+    if (PyUnicode_Check(given)) return read_string(read, given, value_in(self));
     PyObject *value = PyObject_CallMethod(self, "_read_other", "(O)", given);
     int failed = !value || copied(value, value_in(self));
     Py_XDECREF(value);
@@ -328,9 +307,9 @@ static PyObject *printed(PyObject *self, printer print) {
     return string_of(room, print(value_in(self), room, sizeof room));
 }
 
-static PyObject *compared(PyObject *self, PyObject *other, int operation, const kind *of) {
+static PyObject *compared(PyObject *self, PyObject *other, int operation, comparer compare_by) {
     if (Py_TYPE(self) != Py_TYPE(other)) return Py_NewRef(Py_NotImplemented);
-    int order = (int)of->compare(value_in(self), value_in(other)) - 1;
+    int order = (int)compare_by(value_in(self), value_in(other)) - 1;
     switch (operation) {
         case Py_LT: return PyBool_FromLong(order < 0);
         case Py_LE: return PyBool_FromLong(order <= 0);
@@ -340,6 +319,24 @@ static PyObject *compared(PyObject *self, PyObject *other, int operation, const 
         default: return PyBool_FromLong(order >= 0);
     }
 }
+
+/* How values of a kind are made, printed and compared, and the slots for it. */
+#define KIND(name, read, print, compare_by)                                                                            \
+    static int name##_init(PyObject *self, PyObject *arguments, PyObject *named) {                                     \
+        return filled(self, arguments, named, read);                                                                   \
+    }                                                                                                                  \
+    static PyObject *name##_str(PyObject *self) {                                                                      \
+        return printed(self, print);                                                                                   \
+    }                                                                                                                  \
+    static PyObject *name##_compare(PyObject *self, PyObject *other, int operation) {                                  \
+        return compared(self, other, operation, compare_by);                                                           \
+    }
+
+KIND(address, read_address, print_address, compare)
+KIND(host, read_host, print_host, compare_hosts)
+KIND(network, read_network, print_network, compare)
+
+#define SLOTS_OF(name) {Py_tp_init, name##_init}, {Py_tp_str, name##_str}, {Py_tp_richcompare, name##_compare}, {Py_tp_hash, shown_hash}
 
 /* The attributes by which all kinds are asked, which `answer` answers. */
 #define QUESTIONS(answer)                                                                                              \
@@ -352,8 +349,8 @@ static PyObject *compared(PyObject *self, PyObject *other, int operation, const 
 
 /* What addresses and networks have alike. */
 #define MAPPED                                                                                                         \
-    {"ipv6_mapped", same_by, NULL, "That of the IPv4-mapped addresses; None of one of IPv6.", &ipv6_mapped},           \
-    {"ipv4_mapped", same_by, NULL, "The inverse; None of one that isn't in ::ffff:0:0/96.", &ipv4_mapped},             \
+    {"ipv6_mapped", same_by, NULL, "That of the IPv4-mapped addresses; None of IPv6.", &ipv6_mapped_by_value},         \
+    {"ipv4_mapped", same_by, NULL, "The inverse; None outside of ::ffff:0:0/96.", &ipv4_mapped_by_value},              \
     {"reverse_pointer", shown_name, NULL, "Its domain name in reverse DNS.", NULL}
 
 /* What addresses and hosts have alike. */
@@ -367,18 +364,6 @@ static PyObject *compared(PyObject *self, PyObject *other, int operation, const 
 /* What a call says of an address or a network. */
 static PyObject *shown_answer(PyObject *self, void *call) {
     return PyBool_FromLong((*(question *)call)(value_in(self)) == 1);
-}
-
-static int address_init(PyObject *self, PyObject *arguments, PyObject *named) {
-    return filled(self, arguments, named, &addresses);
-}
-
-static PyObject *address_str(PyObject *self) {
-    return printed(self, addresses.print);
-}
-
-static PyObject *address_compare(PyObject *self, PyObject *other, int operation) {
-    return compared(self, other, operation, &addresses);
 }
 
 /* The entries of the registries of IANA that addresses were asked for, each where its block puts it: which one an address has
@@ -400,11 +385,7 @@ static PyObject *address_special_entry(PyObject *self, void *unused) {
     pcidr_special said;
     memset(&said, 0, sizeof said); /* also what lies between its fields, since all is compared */
     uint32_t code = special_entry(value_in(self), &said);
-    if (code == PCIDR_NONE) return Py_NewRef(Py_None);
-    if (code) {
-        raised(code, self);
-        return NULL;
-    }
+    if (code) return code == PCIDR_NONE ? Py_NewRef(Py_None) : raised(code, self, NULL);
     uint8_t tag = (uint8_t)((value_in(self)->tag < 64 ? 0 : 64) + said.len);
     struct kept *kept = kept_at(&said);
     if (kept->entry && kept->tag == tag && !memcmp(&kept->said, &said, sizeof said)) return Py_NewRef(kept->entry);
@@ -421,16 +402,21 @@ static PyObject *address_special_entry(PyObject *self, void *unused) {
     return made;
 }
 
-/* The halves of a number: 1, or 0 where it has none, being below 0 or of more than 128 bits, and -1 after an exception. */
-static int halves_of(PyObject *number, unsigned long long *high, unsigned long long *low) {
+/* Whether a number is below 0, and the halves of how far it is from 0: 1, or 0 where that has more than 128 bits, and -1 after an
+ * exception. */
+static int halves_of(PyObject *number, int *is_below, unsigned long long *high, unsigned long long *low) {
     int beyond;
     long long small = PyLong_AsLongLongAndOverflow(number, &beyond);
-    *high = 0, *low = (unsigned long long)small;
-    if (!beyond) return small >= 0 ? 1 : PyErr_Occurred() ? -1 : 0;
-    if (beyond < 0) return 0;
-    PyObject *bits = PyLong_FromLong(64), *above = bits ? PyNumber_Rshift(number, bits) : NULL;
-    if (above) *low = PyLong_AsUnsignedLongLongMask(number), *high = PyLong_AsUnsignedLongLong(above);
+    *is_below = beyond ? beyond < 0 : small < 0;
+    *high = 0, *low = *is_below ? 0 - (unsigned long long)small : (unsigned long long)small;
+    if (!beyond) return small == -1 && PyErr_Occurred() ? -1 : 1;
+    PyObject *exact = PyNumber_Index(number); /* without the methods of a class below */
+    PyObject *size = exact ? PyNumber_Absolute(exact) : NULL, *bits = PyLong_FromLong(64);
+    PyObject *above = size && bits ? PyNumber_Rshift(size, bits) : NULL;
+    if (above) *low = PyLong_AsUnsignedLongLongMask(size), *high = PyLong_AsUnsignedLongLong(above);
     int fits = above && !PyErr_Occurred(), is_long = above && PyErr_ExceptionMatches(PyExc_OverflowError);
+    Py_XDECREF(exact);
+    Py_XDECREF(size);
     Py_XDECREF(bits);
     Py_XDECREF(above);
     if (is_long) PyErr_Clear();
@@ -440,30 +426,15 @@ static int halves_of(PyObject *number, unsigned long long *high, unsigned long l
 /* The address so many further in its family, by a step of the library in the network of all its addresses. */
 static PyObject *moved(PyObject *self, PyObject *count, int is_back) {
     if (!PyObject_TypeCheck(self, shown_type) || !PyLong_Check(count)) return Py_NewRef(Py_NotImplemented);
-    int beyond;
-    long long steps = PyLong_AsLongLongAndOverflow(count, &beyond);
+    unsigned long long high, low;
+    int is_below, fits = halves_of(count, &is_below, &high, &low);
+    if (fits < 0) return NULL;
     pcidr_value all = *value_in(self), out;
-    uint8_t full = all.tag;
-    unsigned long long high = 0, low = steps < 0 ? 0 - (unsigned long long)steps : (unsigned long long)steps;
-    int is_down = (beyond ? beyond < 0 : steps < 0) != is_back;
-    uint32_t code = PCIDR_WRAPPED;
-    int fits = 1;
-    if (beyond) { /* more than 63 bits */
-        PyObject *exact = PyNumber_Index(count); /* without the methods of a class below */
-        PyObject *positive = exact ? PyNumber_Absolute(exact) : NULL;
-        fits = positive ? halves_of(positive, &high, &low) : -1;
-        Py_XDECREF(exact);
-        Py_XDECREF(positive);
-        if (fits < 0) return NULL;
-    }
-    all.tag = full < 64 ? 0 : 64;
-    if (fits) code = (is_down ? step_down : step_up)(all, high, low, &out);
-    if (code) {
-        PyObject *none = PyObject_CallFunction(check_code, "IOO", (unsigned)code, self, count);
-        Py_XDECREF(none);
-        return NULL;
-    }
-    out.tag = full;
+    all.tag = all.tag < 64 ? 0 : 64;
+    step call = is_below != is_back ? step_down_by_value : step_up_by_value;
+    uint32_t code = fits ? call(all, high, low, &out) : PCIDR_WRAPPED;
+    if (code) return raised(code, self, count);
+    out.tag = value_in(self)->tag;
     return made_of((PyObject *)Py_TYPE(self), &out);
 }
 
@@ -479,10 +450,10 @@ static PyGetSetDef address_attributes[] = {
     QUESTIONS(shown_answer),
     {"is_global", shown_answer, NULL, "Whether it is globally reachable by the registries of IANA.", &is_global},
     MAPPED,
-    {"sixtofour", address_by, NULL, "The IPv4 address of the site of a 6to4 address, or None.", &ipv4_6to4},
-    {"nat64", address_by, NULL, "The IPv4 address in an address of translation, or None.", &ipv4_nat64},
+    {"sixtofour", address_by, NULL, "The IPv4 address of the site of a 6to4 address, or None.", &ipv4_6to4_by_value},
+    {"nat64", address_by, NULL, "The IPv4 address in an address of translation, or None.", &ipv4_nat64_by_value},
     {"special_entry", address_special_entry, NULL, "The entry of the longest block that it is in, or None.", NULL},
-    SHOWN_BY(addresses.print, exploded_address),
+    SHOWN_BY(print_address, print_exploded_address),
     PACKED,
     {NULL, NULL, NULL, NULL, NULL},
 };
@@ -492,10 +463,7 @@ static PyType_Slot address_slots[] = {
     {Py_nb_int, shown_int},
     {Py_nb_add, address_add},
     {Py_nb_subtract, address_subtract},
-    {Py_tp_init, address_init},
-    {Py_tp_str, address_str},
-    {Py_tp_richcompare, address_compare},
-    {Py_tp_hash, shown_hash},
+    SLOTS_OF(address),
     {0, NULL},
 };
 
@@ -506,8 +474,8 @@ typedef struct {
     PyObject **class;
 } keeping;
 
-static keeping its_first = {0, &first_part, &address_class}, its_last = {1, &last_part, &address_class};
-static keeping its_address = {0, &address_part, &address_class}, its_network = {1, &network_part, &network_class};
+static keeping its_first = {0, &first_by_value, &address_class}, its_last = {1, &last_by_value, &address_class};
+static keeping its_address = {0, &address_by_value, &address_class}, its_network = {1, &network_by_value, &network_class};
 
 static PyObject *kept_by(PyObject *self, void *closure) {
     keeping *how = closure;
@@ -524,88 +492,60 @@ static void keeper_dealloc(PyObject *self) {
     shown_dealloc(self);
 }
 
-static int host_init(PyObject *self, PyObject *arguments, PyObject *named) {
-    return filled(self, arguments, named, &hosts);
-}
-
-static PyObject *host_str(PyObject *self) {
-    return printed(self, hosts.print);
-}
-
-static PyObject *host_compare(PyObject *self, PyObject *other, int operation) {
-    return compared(self, other, operation, &hosts);
-}
-
 /* Of a host its address is asked. */
 static PyObject *host_answer(PyObject *self, void *call) {
     pcidr_value address;
-    uint32_t code = address_part(*value_in(self), &address);
-    if (!code) return PyBool_FromLong((*(question *)call)(&address) == 1);
-    raised(code, self);
-    return NULL;
+    uint32_t code = address_by_value(*value_in(self), &address);
+    return code ? raised(code, self, NULL) : PyBool_FromLong((*(question *)call)(&address) == 1);
 }
 
 static PyObject *host_name(PyObject *self, void *unused) {
     (void)unused;
     pcidr_value address;
-    uint32_t code = address_part(*value_in(self), &address);
-    if (!code) return name_of(self, &address);
-    raised(code, self);
-    return NULL;
+    uint32_t code = address_by_value(*value_in(self), &address);
+    return code ? raised(code, self, NULL) : name_of(self, &address);
 }
 
 static PyGetSetDef host_attributes[] = {
     QUESTIONS(host_answer),
-    SHOWN_BY(host_with_length, exploded_host),
+    SHOWN_BY(print_host_with_length, print_exploded_host),
     PACKED,
     {"reverse_pointer", host_name, NULL, "The domain name of the address in reverse DNS.", NULL},
-    {"with_prefixlen", string_by, NULL, "The string with its prefix length, also a full one.", &host_with_length},
-    {"with_netmask", string_by, NULL, "The string with the mask in place of the prefix length.", &host_with_mask},
-    {"with_hostmask", string_by, NULL, "The string with the inverse of the mask in its place.", &host_with_host_mask},
+    {"with_prefixlen", string_by, NULL, "The string with its prefix length, also a full one.", &print_host_with_length},
+    {"with_netmask", string_by, NULL, "The string with the mask in place of the prefix length.", &print_host_with_mask},
+    {"with_hostmask", string_by, NULL, "The string with the inverse of the mask in its place.", &print_host_with_host_mask},
     {"ip", kept_by, NULL, "The address.", &its_address},
     {"network", kept_by, NULL, "The network.", &its_network},
     {NULL, NULL, NULL, NULL, NULL},
 };
 
 static PyType_Slot host_slots[] = {
-    {Py_tp_init, host_init},
+    SLOTS_OF(host),
     {Py_tp_dealloc, keeper_dealloc},
-    {Py_tp_str, host_str},
-    {Py_tp_richcompare, host_compare},
-    {Py_tp_hash, shown_hash},
     {Py_nb_int, shown_int},
     {Py_tp_getset, host_attributes},
     {0, NULL},
 };
 
-static int network_init(PyObject *self, PyObject *arguments, PyObject *named) {
-    return filled(self, arguments, named, &networks);
-}
-
-static PyObject *network_str(PyObject *self) {
-    return printed(self, networks.print);
-}
-
-static PyObject *network_compare(PyObject *self, PyObject *other, int operation) {
-    return compared(self, other, operation, &networks);
+/* Reads a string, or an object of one of the two classes: 1, or 0 for another object, and -1 after an exception. */
+static int is_read(PyObject *given, pcidr_value *value) {
+    PyObject *class = (PyObject *)Py_TYPE(given);
+    if (PyUnicode_Check(given)) return read_string(read_network, given, value) ? -1 : 1;
+    if (class != address_class && class != network_class) return 0;
+    *value = *value_in(given);
+    return 1;
 }
 
 /* What a call says of a network and what stands for another one, or -1 after an exception. */
 static int compared_by(comparer call, PyObject *self, PyObject *inner) {
-    pcidr_value read;
-    const pcidr_value *value = &read;
-    PyObject *class = (PyObject *)Py_TYPE(inner);
-    if (class == address_class || class == network_class) {
-        value = value_in(inner);
-    } else if (PyUnicode_Check(inner)) {
-        if (read_string(networks.read, inner, &read)) return -1;
-    } else {
+    pcidr_value value;
+    int is_done = is_read(inner, &value);
+    if (!is_done) {
         PyObject *given = PyObject_CallFunctionObjArgs(network_value, inner, NULL);
-        int failed = !given || copied(given, &read);
+        is_done = given && !copied(given, &value) ? 1 : -1;
         Py_XDECREF(given);
-        if (failed) return -1;
     }
-    return call(value_in(self), value) == 1;
+    return is_done < 0 ? -1 : call(value_in(self), &value) == 1;
 }
 
 static int network_contains(PyObject *self, PyObject *inner) {
@@ -628,16 +568,16 @@ static PyObject *network_at(PyObject *self, PyObject *index) {
     pcidr_value out;
     PyObject *place = PyNumber_Index(index);
     if (!place) return NULL;
-    int fits = halves_of(place, &high, &low);
-    if (!fits) {
+    int is_below, fits = halves_of(place, &is_below, &high, &low);
+    if (fits >= 0 && is_below) {
         PyObject *all = network_num_addresses(self, NULL), *behind = all ? PyNumber_Add(place, all) : NULL;
-        fits = behind ? halves_of(behind, &high, &low) : -1;
+        fits = behind ? halves_of(behind, &is_below, &high, &low) : -1;
         Py_XDECREF(all);
         Py_XDECREF(behind);
     }
     Py_DECREF(place);
     if (fits < 0) return NULL;
-    if (fits && !nth(*value_in(self), high, low, &out)) return made_of(address_class, &out);
+    if (fits && !is_below && !nth_by_value(*value_in(self), high, low, &out)) return made_of(address_class, &out);
     return PyErr_Format(PyExc_IndexError, "%S has no address %S", self, index);
 }
 
@@ -646,24 +586,23 @@ static PyObject *beside(PyObject *self, part call) {
     pcidr_value out;
     uint32_t code = call(*value_in(self), &out);
     if (!code) return made_of(network_class, &out);
-    if (code == PCIDR_NONE) return PyErr_Format(PyExc_ValueError, "there is no such network beside %S", self);
-    raised(code, self);
-    return NULL;
+    if (code != PCIDR_NONE) return raised(code, self, NULL);
+    return PyErr_Format(PyExc_ValueError, "there is no such network beside %S", self);
 }
 
 static PyObject *network_next(PyObject *self, PyObject *unused) {
     (void)unused;
-    return beside(self, next_network);
+    return beside(self, next_network_by_value);
 }
 
 static PyObject *network_previous(PyObject *self, PyObject *unused) {
     (void)unused;
-    return beside(self, previous_network);
+    return beside(self, previous_network_by_value);
 }
 
 static PyObject *network_sibling(PyObject *self, PyObject *unused) {
     (void)unused;
-    return beside(self, sibling);
+    return beside(self, sibling_by_value);
 }
 
 static PyMethodDef network_methods[] = {
@@ -678,27 +617,24 @@ static PyMethodDef network_methods[] = {
 static PyGetSetDef network_attributes[] = {
     QUESTIONS(shown_answer),
     MAPPED,
-    SHOWN_BY(host_with_length, exploded_host),
-    {"with_prefixlen", string_by, NULL, "The string with its prefix length, also a full one.", &network_with_length},
-    {"with_netmask", string_by, NULL, "The string with the mask in place of the prefix length.", &with_mask},
-    {"with_hostmask", string_by, NULL, "The string with the inverse of the mask in its place.", &with_host_mask},
+    SHOWN_BY(print_host_with_length, print_exploded_host),
+    {"with_prefixlen", string_by, NULL, "The string with its prefix length, also a full one.", &print_network_with_length},
+    {"with_netmask", string_by, NULL, "The string with the mask in place of the prefix length.", &print_with_mask},
+    {"with_hostmask", string_by, NULL, "The string with the inverse of the mask in its place.", &print_with_host_mask},
     {"num_addresses", network_num_addresses, NULL, "The number of addresses.", NULL},
     {"first", kept_by, NULL, "The first address; `any` raises `ValueError`.", &its_first},
     {"last", kept_by, NULL, "The last address, as `first` has the first one.", &its_last},
     {"network_address", kept_by, NULL, "The first address.", &its_first},
     {"broadcast_address", kept_by, NULL, "The last address, which is that of broadcasts in IPv4.", &its_last},
-    {"_first_usable", address_by, NULL, "The first address that a host may have.", &first_usable},
-    {"_last_usable", address_by, NULL, "The last address that a host may have.", &last_usable},
+    {"_first_usable", address_by, NULL, "The first address that a host may have.", &first_usable_by_value},
+    {"_last_usable", address_by, NULL, "The last address that a host may have.", &last_usable_by_value},
     {NULL, NULL, NULL, NULL, NULL},
 };
 
 static PyType_Slot network_slots[] = {
-    {Py_tp_init, network_init},
+    SLOTS_OF(network),
     {Py_tp_dealloc, keeper_dealloc},
     {Py_mp_subscript, network_at},
-    {Py_tp_str, network_str},
-    {Py_tp_richcompare, network_compare},
-    {Py_tp_hash, shown_hash},
     {Py_sq_contains, network_contains},
     {Py_tp_methods, network_methods},
     {Py_tp_getset, network_attributes},
@@ -707,22 +643,15 @@ static PyType_Slot network_slots[] = {
 
 /* ---- look-ups of one address, in the arrays of a table or in the bytes of a file */
 
-typedef uint32_t (*row_of)(const uint32_t *, size_t, const uint32_t *, size_t, const pcidr_table *, const pcidr_value *);
-
-static row_of ipv4_row, ipv6_row;
-static uint32_t (*file_row)(const uint8_t *, size_t, const pcidr_file *, const pcidr_value *, pcidr_found *);
-static uint32_t (*file_has)(const uint8_t *, size_t, const pcidr_file *, const pcidr_value *);
-static uint32_t (*rows_longest)(const pcidr_value *, size_t, const pcidr_value *, size_t *);
+enum { OF_TABLE, OF_ROWS, OF_FILE };
 
 typedef struct {
     PyObject_HEAD
-    PyObject *kept;    /* what has the memory */
-    PyObject *rows[2]; /* of each family; or of rows that change their list, and what has their number */
-    const size_t *count; /* the number of these, or null */
-    pcidr_table tables[2];
-    const uint8_t *bytes; /* or null: then the tables are asked */
-    size_t bytes_len;
-    const pcidr_file *file;
+    int kind;              /* of what it finds rows */
+    PyObject *kept;        /* what has the memory, or null once the collector has it; of rows that change their networks */
+    PyObject *rows[2];     /* of each family; of rows that change their list, and what has their number */
+    const void *places[2]; /* of a table those of each family; of rows that change their number; of a file its bytes, and it */
+    size_t size;           /* of a file, in bytes */
 } finder;
 
 static PyTypeObject *finder_type;
@@ -752,19 +681,12 @@ static void finder_dealloc(PyObject *self) {
     Py_DECREF(type);
 }
 
-/* Which family an address is of, 0 or 1, and its value; 2 where it is no address, or an object of another class; -1
+/* Which family an address is of, 0 or 1, and its value; 2 where it is no address; 3 for an object of another class; -1
  * after an exception. */
 static int asked(PyObject *given, pcidr_value *value) {
-    PyObject *class = (PyObject *)Py_TYPE(given);
-    value->tag = NO_TAG;
-    if (PyUnicode_Check(given)) {
-        if (read_string(networks.read, given, value)) return -1;
-    } else if (class == address_class || class == network_class) {
-        *value = *value_in(given);
-    } else {
-        return 2;
-    }
-    return value->tag == 32 ? 0 : value->tag == 192 ? 1 : 2;
+    int is_done = is_read(given, value);
+    if (is_done < 1) return is_done ? -1 : 3;
+    return value->tag == 32 ? 0 : value->tag == 192 ? 1 : value->tag == NO_TAG ? 3 : 2;
 }
 
 /* Of rows that change, the one of the longest network that a network is in, or None. Nothing else runs meanwhile. */
@@ -772,7 +694,7 @@ static PyObject *row_around(finder *it, const pcidr_value *network) {
     Py_buffer memory; /* which may be another one at each call */
     size_t index;
     if (PyObject_GetBuffer(it->kept, &memory, PyBUF_SIMPLE)) return NULL;
-    uint32_t code = rows_longest(memory.buf, *it->count, network, &index);
+    uint32_t code = rows_longest(memory.buf, *(const size_t *)it->places[0], network, &index);
     PyBuffer_Release(&memory);
     PyObject *row = code ? Py_None : PyList_GetItem(it->rows[0], (Py_ssize_t)index);
     Py_XINCREF(row);
@@ -785,18 +707,18 @@ static PyObject *finder_call(PyObject *self, PyObject *given) {
     pcidr_value value;
     int family = asked(given, &value);
     if (family < 0) return NULL;
-    if (it->count && it->kept && value.tag != NO_TAG) return row_around(it, &value);
-    if (family == 2 || !it->kept || it->count) return Py_NewRef(Py_NotImplemented);
+    if (!it->kept || family > (it->kind == OF_ROWS ? 2 : 1)) return Py_NewRef(Py_NotImplemented);
+    if (it->kind == OF_ROWS) return row_around(it, &value);
     PyObject *rows = it->rows[family];
-    if (it->bytes) {
+    if (it->kind == OF_FILE) {
         pcidr_found found;
-        file_row(it->bytes, it->bytes_len, it->file, &value, &found);
+        file_lookup(it->places[0], it->size, it->places[1], &value, &found);
         PyObject *row = PyLong_FromUnsignedLong(found.row), *made = row ? PyObject_GetItem(rows, row) : NULL;
         Py_XDECREF(row);
         return made;
     }
-    const pcidr_table *of = &it->tables[family];
-    uint32_t row = (family ? ipv6_row : ipv4_row)(of->first, of->first_len, of->words, of->words_len, of, &value);
+    const pcidr_table *of = it->places[family];
+    uint32_t row = (family ? ipv6_table_lookup : ipv4_table_lookup)(of->first, of->first_len, of->words, of->words_len, of, &value);
     PyObject *made = PyTuple_GetItem(rows, row == PCIDR_NO_ROW ? PyTuple_Size(rows) - 1 : (Py_ssize_t)row);
     Py_XINCREF(made);
     return made;
@@ -808,8 +730,8 @@ static PyObject *finder_has(PyObject *self, PyObject *given) {
     pcidr_value value;
     int family = asked(given, &value);
     if (family < 0) return NULL;
-    if (family == 2 || !it->kept || !it->bytes) return Py_NewRef(Py_NotImplemented);
-    return PyBool_FromLong(file_has(it->bytes, it->bytes_len, it->file, &value) == 1);
+    if (!it->kept || family > 1 || it->kind != OF_FILE) return Py_NewRef(Py_NotImplemented);
+    return PyBool_FromLong(set_has(it->places[0], it->size, it->places[1], &value) == 1);
 }
 
 static PyMethodDef finder_methods[] = {
@@ -827,59 +749,20 @@ static PyType_Slot finder_slots[] = {
     {0, NULL},
 };
 
-/* A finder with rows, and what has their memory. */
-static finder *finder_made(PyObject *kept, PyObject *ipv4, PyObject *ipv6) {
-    finder *made = (finder *)PyType_GenericAlloc(finder_type, 0);
-    if (made) made->kept = Py_NewRef(kept), made->rows[0] = Py_NewRef(ipv4), made->rows[1] = Py_NewRef(ipv6);
-    return made;
-}
-
-/* Of a table: of each family its `pcidr_table`, which is copied, and the rows. */
-static PyObject *table_finder(PyObject *module, PyObject *arguments) {
+/* A finder, by all that it has; the places are numbers. */
+static PyObject *finder_made(PyObject *module, PyObject *arguments) {
     (void)module;
     PyObject *kept, *rows[2];
-    Py_buffer tables[2];
-    if (!PyArg_ParseTuple(arguments, "Oy*O!y*O!", &kept, &tables[0], &PyTuple_Type, &rows[0], &tables[1], &PyTuple_Type,
-                          &rows[1]))
-        return NULL;
-    finder *made = finder_made(kept, rows[0], rows[1]);
-    for (int family = 0; family < 2; family++) {
-        pcidr_table *of = made ? &made->tables[family] : NULL;
-        int fits = of && tables[family].len == (Py_ssize_t)sizeof *of;
-        if (fits) memcpy(of, tables[family].buf, sizeof *of);
-        PyBuffer_Release(&tables[family]);
-        if (!of || (fits && PyTuple_Size(rows[family]) == (Py_ssize_t)of->rows + 1)) continue;
-        PyErr_SetString(PyExc_ValueError, "rows and arrays differ");
-        Py_CLEAR(made);
-    }
-    return (PyObject *)made;
-}
-
-/* Of rows that change: the array of their networks, their number, which lies in one place, and the list of the rows. */
-static PyObject *rows_finder(PyObject *module, PyObject *arguments) {
-    (void)module;
-    PyObject *networks, *count, *rows;
-    Py_buffer number;
-    if (!PyArg_ParseTuple(arguments, "OOO!", &networks, &count, &PyList_Type, &rows)) return NULL;
-    if (PyObject_GetBuffer(count, &number, PyBUF_SIMPLE)) return NULL;
-    finder *made = finder_made(networks, rows, count);
-    if (made) made->count = number.buf;
-    PyBuffer_Release(&number);
-    return (PyObject *)made;
-}
-
-/* Of a file: where its bytes and its `pcidr_file` lie, and what has the row of a number, for each family. */
-static PyObject *file_finder(PyObject *module, PyObject *arguments) {
-    (void)module;
-    PyObject *kept, *ipv4, *ipv6;
-    unsigned long long begin, file;
+    unsigned long long places[2];
     Py_ssize_t size;
-    if (!PyArg_ParseTuple(arguments, "OKnKOO", &kept, &begin, &size, &file, &ipv4, &ipv6)) return NULL;
-    finder *made = finder_made(kept, ipv4, ipv6);
-    if (made) {
-        made->bytes = (const uint8_t *)(uintptr_t)begin;
-        made->bytes_len = (size_t)size;
-        made->file = (const pcidr_file *)(uintptr_t)file;
+    int kind;
+    if (!PyArg_ParseTuple(arguments, "iOOOKKn", &kind, &kept, &rows[0], &rows[1], &places[0], &places[1], &size)) return NULL;
+    finder *made = (finder *)PyType_GenericAlloc(finder_type, 0);
+    if (!made) return NULL;
+    made->kind = kind, made->size = (size_t)size, made->kept = Py_NewRef(kept);
+    for (int family = 0; family < 2; family++) {
+        made->rows[family] = Py_NewRef(rows[family]);
+        made->places[family] = (const void *)(uintptr_t)places[family];
     }
     return (PyObject *)made;
 }
@@ -936,37 +819,11 @@ static PyObject *connect(PyObject *module, PyObject *arguments) {
     void *library = dlopen(PyBytes_AsString(encoded), RTLD_NOW | RTLD_LOCAL);
     Py_DECREF(encoded);
     if (!library) return PyErr_Format(PyExc_ImportError, "%s", dlerror());
+#define NAMED(name) {"pcidr_" #name, &name},
     const struct {
         const char *name;
         void *place;
-    } calls[] = {
-        {"pcidr_read_address", &addresses.read},     {"pcidr_read_host", &hosts.read},
-        {"pcidr_read_network", &networks.read},      {"pcidr_print_address", &addresses.print},
-        {"pcidr_print_host", &hosts.print},          {"pcidr_print_network", &networks.print},
-        {"pcidr_compare", &addresses.compare},       {"pcidr_compare_hosts", &hosts.compare},
-        {"pcidr_compare", &networks.compare},        {"pcidr_contains", &contains},
-        {"pcidr_first_by_value", &first_part},       {"pcidr_last_by_value", &last_part},
-        {"pcidr_mask_by_value", &mask_part},         {"pcidr_address_by_value", &address_part},
-        {"pcidr_network_by_value", &network_part},   {"pcidr_step_up_by_value", &step_up},
-        {"pcidr_step_down_by_value", &step_down},    {"pcidr_ipv4_table_lookup", &ipv4_row},
-        {"pcidr_ipv6_table_lookup", &ipv6_row},      {"pcidr_file_lookup", &file_row},
-        {"pcidr_set_has", &file_has},                {"pcidr_host_mask_by_value", &host_mask_part},
-        {"pcidr_is_private", &is_private},           {"pcidr_is_loopback", &is_loopback},
-        {"pcidr_is_link_local", &is_link_local},     {"pcidr_is_multicast", &is_multicast},
-        {"pcidr_is_unspecified", &is_unspecified},   {"pcidr_is_documentation", &is_documentation},
-        {"pcidr_is_global", &is_global},             {"pcidr_print_host_with_length", &host_with_length},
-        {"pcidr_print_network_with_length", &network_with_length},
-        {"pcidr_print_with_mask", &with_mask},       {"pcidr_print_with_host_mask", &with_host_mask},
-        {"pcidr_print_reverse_name", &reverse_name}, {"pcidr_ipv6_mapped_by_value", &ipv6_mapped},
-        {"pcidr_ipv4_mapped_by_value", &ipv4_mapped}, {"pcidr_ipv4_6to4_by_value", &ipv4_6to4},
-        {"pcidr_ipv4_nat64_by_value", &ipv4_nat64},   {"pcidr_next_network_by_value", &next_network},
-        {"pcidr_previous_network_by_value", &previous_network}, {"pcidr_sibling_by_value", &sibling},
-        {"pcidr_first_usable_by_value", &first_usable}, {"pcidr_last_usable_by_value", &last_usable},
-        {"pcidr_print_exploded_address", &exploded_address}, {"pcidr_print_exploded_host", &exploded_host},
-        {"pcidr_print_host_with_mask", &host_with_mask}, {"pcidr_special_entry", &special_entry},
-        {"pcidr_print_host_with_host_mask", &host_with_host_mask}, {"pcidr_nth_by_value", &nth},
-        {"pcidr_overlaps", &overlaps},               {"pcidr_rows_longest", &rows_longest},
-    };
+    } calls[] = {CALLS(NAMED)};
     for (size_t place = 0; place < sizeof calls / sizeof *calls; place++) {
         void *found = dlsym(library, calls[place].name);
         if (!found) return PyErr_Format(PyExc_ImportError, "the library has no %s", calls[place].name);
@@ -978,16 +835,12 @@ static PyObject *connect(PyObject *module, PyObject *arguments) {
 /* Takes the classes and functions of the module. */
 static PyObject *take(PyObject *module, PyObject *arguments) {
     (void)module;
-    PyObject *given[7];
-    if (!PyArg_ParseTuple(arguments, "OOOOOOO!", &given[0], &given[1], &given[2], &given[3], &given[4], &given[5],
-                          &PyTuple_Type, &given[6]))
-        return NULL;
-    PyObject **places[7] = {&address_class, &network_class, &value_class, &check_code,
-                            &network_value, &entry_made,    &counts};
-    for (size_t place = 0; place < 7; place++) {
-        Py_INCREF(given[place]);
-        Py_XDECREF(*places[place]);
-        *places[place] = given[place];
+    PyObject **places[] = {&address_class, &network_class, &value_class, &check_code, &network_value, &entry_made, &counts};
+    for (Py_ssize_t place = 0; place < 7; place++) {
+        PyObject *given = PySequence_GetItem(arguments, place), *before = *places[place];
+        if (!given) return NULL;
+        *places[place] = given;
+        Py_XDECREF(before);
     }
     return Py_NewRef(Py_None);
 }
@@ -995,9 +848,7 @@ static PyObject *take(PyObject *module, PyObject *arguments) {
 static PyMethodDef functions[] = {
     {"connect", connect, METH_VARARGS, "Loads the library."},
     {"register", take, METH_VARARGS, "Takes the classes, functions and counts of the module."},
-    {"table_finder", table_finder, METH_VARARGS, "What looks up addresses in the arrays of a table."},
-    {"file_finder", file_finder, METH_VARARGS, "What looks up addresses in the bytes of a file."},
-    {"rows_finder", rows_finder, METH_VARARGS, "What looks up networks in rows that change."},
+    {"finder", finder_made, METH_VARARGS, "What looks up one address in a table, in rows that change, or in a file."},
     {"put_values", put_values, METH_VARARGS, "Writes the values of a list of objects into memory."},
     {"each_value", each_value, METH_VARARGS, "A list of objects of a class, one for each value in memory."},
     {NULL, NULL, 0, NULL},

@@ -11,7 +11,7 @@ from ctypes import byref
 from itertools import accumulate
 
 from pcidr._calls import Code, File, FileTable, Found, Value
-from pcidr._kinds import file_finder
+from pcidr._kinds import OF_FILE, finder
 from pcidr._library import PACKED, Unpacked, answers, calls, check, message
 
 TYPE_CHECKING = False
@@ -113,7 +113,7 @@ class Stored:
     def finder(self, ipv4: Any, ipv6: Any) -> Any:
         """What looks up one address in C, with what has the row of a number for each family; without it None."""
         place = ctypes.addressof(self._file)
-        return file_finder and file_finder((self.content, self._file), *self._opened[:2], place, ipv4, ipv6)
+        return finder and finder(OF_FILE, (self.content, self._file), ipv4, ipv6, self._opened[0], place, len(self.content))
 
     def check(self) -> None:
         """Raises the error of what is no table."""

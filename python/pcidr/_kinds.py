@@ -9,18 +9,22 @@ if TYPE_CHECKING:
     from typing import Any
 
 __all__ = [
+    "OF_FILE",
+    "OF_ROWS",
+    "OF_TABLE",
     "IS_FAST",
     "OfAddress",
     "OfHost",
     "OfNetwork",
     "Shown",
     "each_of",
-    "file_finder",
+    "finder",
     "register",
-    "rows_finder",
-    "table_finder",
     "values_of",
 ]
+
+# Of what a finder finds rows, as the extension numbers it.
+OF_TABLE, OF_ROWS, OF_FILE = range(3)
 
 # The extension is for Python 3.11 and later, and for one interpreter of a process. PCIDR_CTYPES leaves it aside.
 IS_FAST = sys.version_info >= (3, 11) and not os.environ.get("PCIDR_CTYPES")
@@ -37,12 +41,10 @@ if TYPE_CHECKING or not IS_FAST:
     from pcidr._shown import OfAddress, OfHost, OfNetwork, Shown, each_of, register, values_of
 
     # what looks up an address in C, which is left to the callers here
-    table_finder: Any = None
-    file_finder: Any = None
-    rows_finder: Any = None
+    finder: Any = None
 else:
     from pcidr._calls import Value
-    from pcidr._fast import OfAddress, OfHost, OfNetwork, Shown, file_finder, rows_finder, table_finder
+    from pcidr._fast import OfAddress, OfHost, OfNetwork, Shown, finder
 
     def register(address, network, *others):
         """Takes the classes and functions of the module."""

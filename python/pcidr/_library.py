@@ -18,6 +18,8 @@ from pcidr._calls import (
     TEXT_ROOM,
     Calls,
     Code,
+    PlanFault,
+    PlanRow,
     Range,
     Row,
     Table,
@@ -104,7 +106,7 @@ class _Loaded(Calls):
 
     def _call(self, library: ctypes.CDLL, name: str) -> tuple[Any, list[Any]]:
         """A call, another object at each time, and its parameters."""
-        result, parameters = _known()[name]
+        result, *parameters = _known()[name]
         try:
             call = library[f"pcidr_{name}"]
         except AttributeError as error:
@@ -340,13 +342,21 @@ def filled(kind: type[T], room: int, call: Call, *given: object) -> ctypes.Array
         room = count.value
 
 
+def bytes_in(text: str | Buffer) -> bytes:
+    """The bytes of a text."""
+    return encoded(text) if isinstance(text, str) else bytes(memoryview(text))
+
+
+def way_of(strict: bool, masks: bool) -> int:
+    """How networks of a list are read."""
+    if masks:
+        return HOST_BITS_REFUSED_WITH_MASKS if strict else HOST_BITS_CLEARED_WITH_MASKS
+    return HOST_BITS_REFUSED if strict else HOST_BITS_CLEARED
+
+
 def read_list(text: str | Buffer, strict: bool, masks: bool) -> Values:
     """The networks that a list says; the first line in error raises `ValueError`."""
-    given = encoded(text) if isinstance(text, str) else bytes(memoryview(text))
-    if masks:
-        host_bits = HOST_BITS_REFUSED_WITH_MASKS if strict else HOST_BITS_CLEARED_WITH_MASKS
-    else:
-        host_bits = HOST_BITS_REFUSED if strict else HOST_BITS_CLEARED
+    given, host_bits = bytes_in(text), way_of(strict, masks)
     line, told = ctypes.c_uint64(), ctypes.create_string_buffer(LINE_ROOM)
 
     def call(out: Any, room: int, count: Any) -> int:
@@ -356,6 +366,27 @@ def read_list(text: str | Buffer, strict: bool, masks: bool) -> Values:
         return code
 
     return filled(Value, given.count(b"\n") + 1, call)
+
+
+def read_rows(text: str | Buffer, strict: bool, masks: bool) -> tuple[Values, list[tuple[str, int]], list[tuple[int, str]]]:
+    """The networks of the rows of a plan, of each its name and the number of its line, and its lines in error."""
+    given, host_bits = bytes_in(text), way_of(strict, masks)
+    count, wrong, told = ctypes.c_size_t(), ctypes.c_size_t(), ctypes.create_string_buffer(LINE_ROOM)
+    lines = given.count(b"\n") + 1
+    rows, faults = (PlanRow * lines)(), (PlanFault * lines)()
+    code = calls.read_plan(given, len(given), host_bits, rows, len(rows), count, faults, lines, wrong)
+    if code == Code.NO_ROOM:
+        rows = (PlanRow * count.value)()
+        code = calls.read_plan(given, len(given), host_bits, rows, len(rows), count, faults, lines, wrong)
+    check(code)
+    found, named, bad = (Value * count.value)(), [], []
+    for i in range(count.value):
+        found[i] = rows[i].network
+        named.append((given[rows[i].name : rows[i].name + rows[i].name_len].decode(errors="replace"), rows[i].line))
+    for fault in faults[: wrong.value]:
+        calls.plan_message(given[fault.text : fault.text + fault.text_len], fault.text_len, host_bits, told, LINE_ROOM)
+        bad.append((fault.line, told.value.decode()))
+    return found, named, bad
 
 
 def combined(call: Call, these: Values, those: Values) -> Values:

@@ -5,24 +5,27 @@ import ctypes
 from array import array as pack
 from ctypes import byref
 from functools import partial
-from itertools import count, starmap
+from itertools import count, islice, starmap
 from operator import mul
 
 from pcidr._calls import Value
-from pcidr._kinds import rows_finder
-from pcidr._library import calls, tags_of
+from pcidr._kinds import OF_ROWS, finder
+from pcidr._library import array, calls, filled, tags_of
 
 TYPE_CHECKING = False
 if TYPE_CHECKING:
     from collections.abc import Callable
     from typing import Any, TypeVar
 
-    from pcidr._library import Call, Values
+    from pcidr._library import Buffer, Call, Values
 
     R = TypeVar("R")
 
 _find, _longest, _insert, _remove = map(calls.quick, ("rows_find", "rows_longest", "rows_insert", "rows_remove"))
 _covering, _covered = map(calls.quick, ("rows_covering", "rows_covered"))
+_SIZE = ctypes.sizeof(Value)
+_tuple: Any = tuple  # of any type, which `map` gives away
+_list: Any = list
 
 
 def _words(memory: Any) -> memoryview:
@@ -74,8 +77,8 @@ class Rows:
     def covering(self, network: Value) -> list[Any]:
         """The rows of all networks that this one is in, the longest first."""
         given = self._networks, self._count, byref(network), _ROOM, _MOST, _FIRST
-        found = map(tuple, map(_places, map(slice, map(_end, starmap(_covering, [given])))))
-        rows: list[Any] = next(map(list, map(partial(map, self.rows.__getitem__), found)))
+        found = map(_tuple, map(_places, map(slice, map(_end, starmap(_covering, [given])))))
+        rows: list[Any] = next(map(_list, map(partial(map, self.rows.__getitem__), found)))
         return rows[::-1]
 
     def covered(self, network: Value) -> list[Any]:
@@ -86,6 +89,11 @@ class Rows:
         return rows
 
 
+def _order(networks: Values) -> list[int]:
+    """The indexes of networks, ascending, each once; of one that repeats that of the last one."""
+    return filled(ctypes.c_size_t, len(networks), calls.table_order, networks, len(networks))[:]
+
+
 class ChangingRows(Rows):
     """The same of rows in a list, which change, with room for more networks. Behind its tag each network has the number of its row, by
     the order in which they were added."""
@@ -93,18 +101,53 @@ class ChangingRows(Rows):
     __slots__ = ("find_row", "_room", "_counted", "_added")
     rows: list[Any]
 
-    def __init__(self, networks: Values, order: list[int], rows: list[Any]) -> None:
-        """Of the networks at some places, where they ascend, and their rows."""
-        room = (Value * max(8, len(order)))()
-        super().__init__(room, len(order), rows)
-        if order:
-            words, given, tags = _words(room), _words(networks), tags_of(networks)
-            for half in range(2):
-                words[half : 3 * len(order) : 3] = memoryview(pack("Q", map(given[half::3].__getitem__, order)))
-            words[2 : 3 * len(order) : 3] = memoryview(pack("Q", [tags[place] | place << 8 for place in order]))
-        self._room, self._counted, self._added = ctypes.c_size_t(len(room)), byref(self._count), count(len(networks))
+    def __init__(self, parts: list[Buffer], rows: list[Any], added: int) -> None:
+        """Of the networks that ascend, as parts of bytes, with their numbers, which are below another one."""
+        octets = b"".join(parts)
+        size = len(octets) // _SIZE
+        room = (Value * max(8, size))()
+        ctypes.memmove(room, octets, len(octets))
+        super().__init__(room, size, rows)
+        self._room, self._counted, self._added = ctypes.c_size_t(len(room)), byref(self._count), count(added)
         # what looks up one network in C, where there is the extension
-        self.find_row: Any = rows_finder and rows_finder(room, self._count, rows)
+        self.find_row: Any = finder and finder(OF_ROWS, room, rows, self._count, ctypes.addressof(self._count), 0, 0)
+
+    @classmethod
+    def ordered(cls, networks: Values, rows: list[Any]) -> ChangingRows:
+        """Those of rows in any order, of which the last one of a network counts; its number is that of the first one."""
+        order = first = _order(networks)
+        if len(order) < len(rows):
+            first = [len(rows) - 1 - place for place in _order(array(networks[::-1]))]
+        words = pack("Q", bytes(_SIZE * len(order)))
+        if order:
+            given, tags = _words(networks), tags_of(networks)
+            for half in range(2):
+                words[half::3] = pack("Q", map(given[half::3].__getitem__, order))
+            words[2::3] = pack("Q", [tags[place] | number << 8 for place, number in zip(order, first)])
+        return cls([words.tobytes()], [*map(rows.__getitem__, order)], len(rows))
+
+    def with_others(self, others: ChangingRows) -> ChangingRows:
+        """All rows, with others that come behind them or take the places of those of the same networks, made anew in one pass. Where
+        these rows change meanwhile, what is made is of no use."""
+        size, index, rows = ctypes.c_size_t(self._count.value), ctypes.c_size_t(), self.rows
+        if not size.value:
+            return others
+        octets, added = ctypes.string_at(self._networks, _SIZE * size.value), next(self._added)
+        parts: list[Buffer] = []
+        whole, made, begin, end = memoryview(octets), rows[:0], 0, 0
+        for network, row in zip(others.copy()[0], others.rows):
+            is_new = _find(octets, size, byref(network), byref(index))
+            made += rows[begin : index.value]
+            made.append(row)
+            begin = index.value
+            if is_new:
+                _words(network)[2] += added << 8
+                parts += whole[_SIZE * end : _SIZE * begin], bytes(network)
+                end = begin
+            else:
+                begin += 1
+        made += rows[begin:]
+        return ChangingRows([*parts, whole[_SIZE * end :]], made, added + next(others._added))
 
     def add(self, network: Value, row: Any) -> Any:
         """Puts a row in, if there is none of its network, and returns the one that is there then."""
@@ -119,7 +162,7 @@ class ChangingRows(Rows):
             except IndexError:  # there is no room, or another one has come
                 if self._count.value == self._room.value:
                     next(map(ctypes.resize, (self._networks,), map(mul, map(ctypes.sizeof, (self._networks,)), (2,))))
-                    self._room.value = ctypes.sizeof(self._networks) // ctypes.sizeof(Value)
+                    self._room.value = ctypes.sizeof(self._networks) // _SIZE
 
     def put(self, network: Value, row: Any) -> Any:
         """Puts a row in, in place of that of its network, which is returned."""
@@ -143,13 +186,18 @@ class ChangingRows(Rows):
     def _all(self, network: Value) -> tuple[Any, ...]:
         return self._networks, self._room, self._counted, byref(network)
 
+    def _moment(self) -> tuple[bytes, list[Any]]:
+        """The bytes of the networks and the rows of one moment."""
+        octets, rows = next(zip(map(bytes, (self._networks,)), map(_list, (self.rows,))))
+        return octets[: _SIZE * len(rows)], rows
+
     def copy(self) -> tuple[Values, list[Any]]:
         """The networks and the rows of one moment."""
-        octets, rows = map(partial.__call__, (partial(bytes, self._networks), partial(self.rows.copy)))
+        octets, rows = self._moment()
         return (Value * len(rows)).from_buffer_copy(octets), rows
 
     def last_added(self) -> Any:
         """The row that was added last, or `IndexError`. It goes once through all."""
         networks, rows = self.copy()
-        words = _words(networks)[2::3] if rows else ()
-        return rows[max(range(len(rows)), key=words.__getitem__, default=0)]
+        numbers = _words(networks)[2::3].tolist() if rows else [0]
+        return rows[numbers.index(max(numbers))]

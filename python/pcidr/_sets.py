@@ -21,6 +21,7 @@ from pcidr._library import (
     print_all,
     read_all,
     read_list,
+    read_rows,
     sought,
     tags_of,
 )
@@ -63,6 +64,17 @@ def values_in(given: Iterable[AnyNetwork]) -> Values:
 def parse_networks(texts: Iterable[AnyNetwork]) -> list[Network]:
     """The networks of strings, by one call of the library; the first that is none raises `ValueError`."""
     return each_of(Network, values_in(texts))
+
+
+def read_plan(
+    text: str | Buffer, *, strict: bool = True, masks: bool = False
+) -> tuple[list[tuple[Network, str, int]], list[tuple[int, str]]]:
+    """The rows of an address plan, a string or bytes: a line has a network, an address or a range, as of
+    `NetworkSet.from_text`, and behind white space or a comma a name, which goes on to the comment. Of each row its network, its name
+    and the number of its line; of a range each network of the shortest list has a row. And of each line in error its number and what
+    is wrong with it. A name that is not UTF-8 has U+FFFD for what is not."""
+    networks, named, wrong = read_rows(text, strict, masks)
+    return [(network, *name) for network, name in zip(each_of(Network, networks), named)], wrong
 
 
 def print_networks(networks: Iterable[Network | Address]) -> list[str]:

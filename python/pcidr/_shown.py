@@ -1,7 +1,7 @@
 """What addresses, hosts and networks have of the library, by `ctypes`; `_fast.c` has the same in C."""
 from __future__ import annotations
 
-from operator import index
+from operator import ge, gt, index, le, lt
 
 from pcidr._calls import MASK_ROOM, NAME_ROOM, Code, Special, Value
 from pcidr._library import array, calls, check, key_of, printed, read, sought
@@ -12,11 +12,24 @@ if TYPE_CHECKING:
     from typing import Any, ClassVar, TypeVar
 
     from pcidr._library import Call, Values
+    from pcidr._values import Address, AnyHost, AnyNetwork, Network, SpecialEntry
 
     S = TypeVar("S", bound="Shown")
     M = TypeVar("M", bound="_Mapped")
+    A = TypeVar("A", bound="OfAddress")
 
 _new = object.__new__
+
+
+def _compared(holds: Callable[[int, int], bool]) -> Callable[[Any, Any], bool]:
+    """A comparison, by the order that the library tells: below 1, 1 or above."""
+
+    def compare(self: Any, other: Any) -> bool:
+        if type(other) is not type(self):
+            return NotImplemented
+        return holds(type(self)._order(self._value, other._value), 1)
+
+    return compare
 
 
 class Shown:
@@ -30,7 +43,7 @@ class Shown:
     _whole: ClassVar[Call]
     _exploded: ClassVar[Call]
 
-    def __init__(self, given: Any) -> None:
+    def __init__(self, given: AnyHost) -> None:
         self._value = read(type(self)._read, given) if isinstance(given, str) else self._read_other(given)
 
     @classmethod
@@ -66,31 +79,13 @@ class Shown:
             return key_of(self._value) == key_of(other._value)
         return NotImplemented
 
-    def __lt__(self, other: Any) -> bool:
-        if type(other) is not type(self):
-            return NotImplemented
-        return type(self)._order(self._value, other._value) < 1
+    __lt__, __le__, __gt__, __ge__ = map(_compared, (lt, le, gt, ge))
 
-    def __le__(self, other: Any) -> bool:
-        if type(other) is not type(self):
-            return NotImplemented
-        return type(self)._order(self._value, other._value) <= 1
-
-    def __gt__(self, other: Any) -> bool:
-        if type(other) is not type(self):
-            return NotImplemented
-        return type(self)._order(self._value, other._value) > 1
-
-    def __ge__(self, other: Any) -> bool:
-        if type(other) is not type(self):
-            return NotImplemented
-        return type(self)._order(self._value, other._value) >= 1
-
-    def _part(self, call: Call) -> Any:
+    def _part(self, call: Call) -> Address:
         """The address that a call makes of the value."""
         out = Value()
         check(call(self._value, out), self)
-        return _classes[0]._of(out)
+        return _address(out)
 
     def _by(self, call: Call) -> str:
         """The string that a call prints; `any` has some that are none."""
@@ -128,22 +123,22 @@ class Shown:
         return None if tag == 255 else 32 if tag < 64 else 128
 
     @property
-    def first(self) -> Any:
+    def first(self) -> Address:
         """The first address of the network; `any`, which has addresses of two families, raises `ValueError`."""
         return self._part(calls.first)
 
     @property
-    def last(self) -> Any:
+    def last(self) -> Address:
         """The last address of the network, as `first` has the first one."""
         return self._part(calls.last)
 
     @property
-    def netmask(self) -> Any:
+    def netmask(self) -> Address:
         """The mask of the network, as an address: 255.255.255.0 of a /24. `any` has none, and raises `ValueError`."""
         return self._part(calls.mask)
 
     @property
-    def hostmask(self) -> Any:
+    def hostmask(self) -> Address:
         """The inverse of the mask, as an address: 0.0.0.255 of a /24. `any` has none, and raises `ValueError`."""
         return self._part(calls.host_mask)
 
@@ -240,13 +235,13 @@ class OfAddress(_Mapped, _Addressed):
     _read, _print, _order = calls.read_address, calls.print_address, calls.compare
     _whole, _exploded = calls.print_address, calls.print_exploded_address
 
-    def __add__(self, count: int) -> Any:
+    def __add__(self: A, count: int) -> A:
         return self._moved(index(count)) if isinstance(count, int) else NotImplemented
 
-    def __sub__(self, count: int) -> Any:
+    def __sub__(self: A, count: int) -> A:
         return self._moved(-index(count)) if isinstance(count, int) else NotImplemented
 
-    def _moved(self, count: int) -> Any:
+    def _moved(self: A, count: int) -> A:
         """The address so many further in its family, by a step of the library in the network of all its addresses."""
         value, out = self._value, Value()
         step = calls.step_up if count >= 0 else calls.step_down
@@ -256,7 +251,7 @@ class OfAddress(_Mapped, _Addressed):
         return type(self)._of(Value(out.high, out.low, value.tag))
 
     @property
-    def special_entry(self) -> Any:
+    def special_entry(self) -> SpecialEntry | None:
         """The entry of the longest block for special purposes that it is in, or None."""
         out = Special()
         code = calls.special_entry(self._value, out)
@@ -265,7 +260,8 @@ class OfAddress(_Mapped, _Addressed):
         check(code, self)
         columns = out.source, out.destination, out.forwardable, out.globally_reachable, out.reserved_by_protocol
         tag = (0 if self._value.tag < 64 else 64) + out.len
-        return _functions[2](out.high, out.low, tag, out.purpose, out.rfc, *columns)
+        entry: SpecialEntry = _functions[2](out.high, out.low, tag, out.purpose, out.rfc, *columns)
+        return entry
 
     @property
     def is_global(self) -> bool:
@@ -274,14 +270,14 @@ class OfAddress(_Mapped, _Addressed):
         return self._is(calls.is_global)
 
     @property
-    def sixtofour(self) -> Any:
+    def sixtofour(self) -> Address | None:
         """The IPv4 address of the site of a 6to4 address, of 2002::/16, or None."""
-        return sought(_classes[0]._of, calls.ipv4_6to4, self._value)
+        return sought(_address, calls.ipv4_6to4, self._value)
 
     @property
-    def nat64(self) -> Any:
+    def nat64(self) -> Address | None:
         """The IPv4 address in an address of translation (NAT64), of 64:ff9b::/96, or None."""
-        return sought(_classes[0]._of, calls.ipv4_nat64, self._value)
+        return sought(_address, calls.ipv4_nat64, self._value)
 
 
 class OfHost(_Addressed):
@@ -292,16 +288,16 @@ class OfHost(_Addressed):
     _whole, _exploded = calls.print_host_with_length, calls.print_exploded_host
 
     @property
-    def ip(self) -> Any:
+    def ip(self) -> Address:
         """The address."""
         return self._part(calls.address)
 
     @property
-    def network(self) -> Any:
+    def network(self) -> Network:
         """The network."""
         out = Value()
         check(calls.network(self._value, out))
-        return _classes[1]._of(out)
+        return _network(out)
 
     def _is(self, call: Call) -> bool:
         return call(self.ip._value) == 1
@@ -334,22 +330,23 @@ class OfNetwork(_Mapped):
     _read, _print, _order = calls.read_network, calls.print_network, calls.compare
     _whole, _exploded = calls.print_host_with_length, calls.print_exploded_host
 
-    def __contains__(self, inner: Any) -> bool:
+    def __contains__(self, inner: AnyNetwork) -> bool:
         return calls.contains(self._value, _functions[1](inner)) == 1
 
-    def overlaps(self, other: Any) -> bool:
+    def overlaps(self, other: AnyNetwork) -> bool:
         """Whether an address is in both."""
         return calls.overlaps(self._value, _functions[1](other)) == 1
 
-    def _at(self, number: Any) -> Any:
+    def _at(self, number: int) -> Address:
         """The address at an index, which counts from the end where it is below 0."""
         place, out = index(number), Value()
         place += self.num_addresses if place < 0 else 0
         if not 0 <= place < 1 << 128 or calls.nth(self._value, place >> 64, place % (1 << 64), out):
             raise IndexError(f"{self} has no address {number}")
-        return _classes[0]._of(out)
+        return _address(out)
 
-    __getitem__ = _at
+    def __getitem__(self, number: int) -> Address:
+        return self._at(number)
 
     @property
     def num_addresses(self) -> int:
@@ -357,40 +354,40 @@ class OfNetwork(_Mapped):
         return _counts[self._value.tag]
 
     @property
-    def network_address(self) -> Any:
+    def network_address(self) -> Address:
         """The first address."""
         return self._part(calls.first)
 
     @property
-    def broadcast_address(self) -> Any:
+    def broadcast_address(self) -> Address:
         """The last address, which is that of broadcasts in IPv4."""
         return self._part(calls.last)
 
     @property
-    def _first_usable(self) -> Any:
+    def _first_usable(self) -> Address:
         """The first address that a host may have."""
         return self._part(calls.first_usable)
 
     @property
-    def _last_usable(self) -> Any:
+    def _last_usable(self) -> Address:
         """The last address that a host may have."""
         return self._part(calls.last_usable)
 
-    def _beside(self, call: Call) -> Any:
-        made = sought(_classes[1]._of, call, self._value)
+    def _beside(self, call: Call) -> Network:
+        made = sought(_network, call, self._value)
         if made is None:
             raise ValueError(f"there is no such network beside {self}")
         return made
 
-    def next(self) -> Any:
+    def next(self) -> Network:
         """The network of the same length behind it; the last one raises `ValueError`."""
         return self._beside(calls.next_network)
 
-    def previous(self) -> Any:
+    def previous(self) -> Network:
         """The network of the same length before it; the first one raises `ValueError`."""
         return self._beside(calls.previous_network)
 
-    def sibling(self) -> Any:
+    def sibling(self) -> Network:
         """The other half of the network that is twice as large; 0.0.0.0/0 and ::/0 raise `ValueError`."""
         return self._beside(calls.sibling)
 
@@ -410,6 +407,16 @@ class OfNetwork(_Mapped):
         return self._by(calls.print_with_host_mask)
 
 
+def _address(value: Value) -> Address:
+    made: Address = _classes[0]._of(value)
+    return made
+
+
+def _network(value: Value) -> Network:
+    made: Network = _classes[1]._of(value)
+    return made
+
+
 def _name(shown: Shown, value: Value) -> str:
     """The name in reverse DNS of a value, which is that of an object or a part of it."""
     name = printed(calls.print_reverse_name, value, NAME_ROOM)
@@ -420,7 +427,7 @@ def _name(shown: Shown, value: Value) -> str:
 
 # The classes of addresses and of networks; functions: `check`, the value of what stands for a network, and the entry of a
 # registry; and by the tags the numbers of addresses.
-_classes: list[type[Shown]] = []
+_classes: list[Any] = []
 _functions: list[Callable[..., Any]] = []
 _counts: list[int] = []
 

@@ -5,12 +5,12 @@ import ctypes
 import os
 import threading
 from collections.abc import ItemsView, Mapping, MutableMapping, Sequence, ValuesView
-from itertools import chain
-from operator import index as integer
+from itertools import chain, compress
+from operator import attrgetter, index as integer, is_
 
 from pcidr._calls import NO_ROW, Row, Value
 from pcidr._files import file_of, opened, restored, write
-from pcidr._kinds import each_of, table_finder
+from pcidr._kinds import OF_TABLE, each_of, finder
 from pcidr._library import ADDRESS_TAGS, Arrays, answers, array, calls, check, filled, tags_of
 from pcidr._rows import ChangingRows, Rows
 from pcidr._sets import listed, values_in
@@ -51,7 +51,9 @@ class _Snapshot:
         none = rows[0] if rows and rows[0][0].version is None else None
         self.parts = {tag: _part(family, networks, rows, none) for tag, family in ((32, 4), (192, 6))}
         # what looks up one address in C, where there is the extension
-        self.find = _finder(*self.parts.values())
+        parts = list(self.parts.values())
+        arrays, rows, places = zip(*((part.arrays, part.rows, ctypes.addressof(part.arrays.table)) for part in parts))
+        self.find = finder and finder(OF_TABLE, arrays, *rows, *places, 0)
 
     def lookup_each(self, asked: Values) -> list[tuple[Network, Any] | None]:
         """The longest matches of many."""
@@ -83,11 +85,6 @@ def _part(family: int, networks: Values, rows: list[tuple[Network, Any]], none: 
 # with half of a change.
 _changing = threading.RLock()
 os.register_at_fork(before=_changing.acquire, after_in_parent=_changing.release, after_in_child=_changing.release)
-
-
-def _finder(ipv4: _Part, ipv6: _Part) -> Any:
-    kept = ipv4.arrays, ipv6.arrays
-    return table_finder and table_finder(kept, ipv4.arrays.table, ipv4.rows, ipv6.arrays.table, ipv6.rows)
 
 
 _ABSENT: Any = object()
@@ -160,7 +157,7 @@ class _Rows(Mapping[Network, "V"]):
 
     def _row(self, network: object) -> tuple[Network, V] | None:
         value = _value_or_none(network)
-        row: tuple[Network, V] | None = value and self._in_order.find(value)
+        row: tuple[Network, V] | None = None if value is None else self._in_order.find(value)
         return row
 
     def __iter__(self) -> Iterator[Network]:
@@ -253,14 +250,6 @@ class Matches(Sequence["tuple[Network, V] | None"]):
         return f"<{type(self).__name__} of {len(self)} addresses>"
 
 
-def _held(networks: Values, values: list[Any]) -> ChangingRows:
-    """Rows in order, of which the last one of a network counts."""
-    order = filled(ctypes.c_size_t, len(values), calls.table_order, networks, len(values))[:]
-    rows = [*zip(each_of(Network, networks), values)]
-    return ChangingRows(networks, order, [*map(rows.__getitem__, order)])
-
-
-
 class Table(_Rows["V"], MutableMapping[Network, "V"]):
     """A table of networks with a value each: ``Table({"10.0.0.0/8": 1})``, a mapping that can be changed as a `dict`.
 
@@ -271,8 +260,7 @@ class Table(_Rows["V"], MutableMapping[Network, "V"]):
 
     Any threads may look up in a table and change it at once, and an interrupt leaves it as it was before the change or
     after it. Each call sees all of a change or nothing of it. Look-ups and walks take no lock, but for the copy of the
-    rows that is made for that form; a walk goes on with the rows that it began with. `update` is as many changes as rows,
-    or one where there are none before.
+    rows that is made for that form; a walk goes on with the rows that it began with. `update` is one change.
     """
 
     def __init__(self, rows: Given[V] = ()) -> None:
@@ -280,7 +268,7 @@ class Table(_Rows["V"], MutableMapping[Network, "V"]):
 
     def _fill(self, networks: Values, values: list[V]) -> None:
         """Takes rows, of which the last one of a network counts."""
-        self._held = _held(networks, values)
+        self._held = _ordered(networks, values)
         # Another object before each change, so that an interrupt behind it is no harm, and after it.
         self._version = object()
         self._snapshot: _Snapshot | None = None
@@ -370,23 +358,28 @@ class Table(_Rows["V"], MutableMapping[Network, "V"]):
         self._put(network_value(network), value)
 
     def update(self, rows: Any = (), /, **named: V) -> None:
-        """Sets rows, given as to `Table`, one after the other; a table without rows takes all of them by one change."""
-        for given in [_given(rows), _given(named)]:
-            if not self._take(*given):
-                for network, value in zip(*given):
-                    self._put(network, value)
+        """Sets rows, given as to `Table`, by one change: of one row as an index makes it, and of more in one pass through all rows."""
+        for networks, values in [_given(rows), _given(named)]:
+            if len(values) == 1:
+                self._put(networks[0], values[0])
+            elif values:
+                self._merge(_ordered(networks, values))
 
-    def _take(self, networks: Values, values: list[V]) -> bool:
-        """Takes rows where there are none, and says whether there were none."""
-        if self._held.rows:
-            return False
-        held = _held(networks, values)
+    def _merge(self, others: ChangingRows) -> None:
         with _changing:
-            _kept = self._snapshot
-            if self._held.rows:
-                return False
-            self._changed(setattr, self, "_held", held)
-        return True
+            _kept = self._snapshot, self._held
+            is_done = False
+            while not is_done:  # where a handler of a signal, or a finalizer, makes a change meanwhile, all is done anew
+                self._version = version = object()
+                is_done = self._swap(version, self._held.with_others(others))
+            self._version, self._snapshot = object(), None
+            self._since += len(others.rows)
+
+    def _swap(self, version: object, held: ChangingRows) -> bool:
+        """Puts other rows in the place of these, if there has been no change since a version: by one expression in C, as in
+        `_rows`."""
+        unchanged = compress((self,), map(is_, (version,), map(attrgetter("_version"), (self,))))
+        return next(map(setattr, unchanged, ("_held",), (held,)), self) is None
 
     def setdefault(self, network: AnyNetwork, default: Any = None, /) -> V:
         """The value of exactly this network, which becomes the default where there is none."""
@@ -417,7 +410,7 @@ class Table(_Rows["V"], MutableMapping[Network, "V"]):
         if row is not None:
             return row[1]
         if default is _ABSENT:
-            raise _missing(value)
+            raise _missing(network_value(network))
         return default
 
     def __delitem__(self, network: AnyNetwork) -> None:
@@ -440,7 +433,7 @@ class Table(_Rows["V"], MutableMapping[Network, "V"]):
         """Deletes all rows, by one change."""
         with _changing:
             _kept = self._snapshot, self._held
-            self._changed(setattr, self, "_held", ChangingRows(array([]), [], []))
+            self._changed(setattr, self, "_held", ChangingRows([], [], 0))
 
     def __len__(self) -> int:
         return len(self._held.rows)
@@ -450,24 +443,26 @@ class Table(_Rows["V"], MutableMapping[Network, "V"]):
 
     def lookup(self, asked: AnyNetwork) -> tuple[Network, V] | None:
         """The longest network that the address is in, with its value, or None."""
-        made, held, found = self._snapshot, self._held, NotImplemented
-        is_made = made is not None and made.version is self._version
-        if is_made and made.find:
-            found = made.find.row(asked)
-        elif not is_made:
+        made, held = self._snapshot, self._held
+        found: Any = NotImplemented
+        if made is None or made.version is not self._version:
+            made = None
             self._since += 1
-        is_small = is_made or self._since < len(held.rows)
-        if found is NotImplemented and is_small and held.find_row:
+        elif made.find:
+            found = made.find.row(asked)
+        is_searched = made is not None or self._since < len(held.rows)
+        if found is NotImplemented and is_searched and held.find_row:
             found = held.find_row.row(asked)
-        if found is not NotImplemented:
-            row_found: tuple[Network, V] | None = found
-            return row_found
-        value = network_value(asked)
-        if value.tag not in ADDRESS_TAGS or not is_made and is_small:
-            return held.longest(value)
-        part = self._now().parts[value.tag]
-        row = part.arrays.row(value)
-        return part.rows[-1 if row == NO_ROW else row]
+        if found is NotImplemented:
+            value = network_value(asked)
+            if value.tag not in ADDRESS_TAGS or made is None and is_searched:
+                found = held.longest(value)
+            else:
+                part = self._now().parts[value.tag]
+                row = part.arrays.row(value)
+                found = part.rows[-1 if row == NO_ROW else row]
+        row_found: tuple[Network, V] | None = found
+        return row_found
 
     def lookup_each(self, asked: Iterable[AnyNetwork]) -> list[tuple[Network, V] | None]:
         """The same as `lookup` for each of many, by one call of the library for each family."""
@@ -559,8 +554,9 @@ class StoredTable(_Rows[bytes]):
     same rows, and can be changed.
 
     Its rows stay in the bytes of the file, of which each look-up reads some; of those that were found last, at most 131,072
-    of a family are kept as objects. For networks that are no addresses it makes an array of all networks, of 24 bytes each, once. Any threads may look up in it, and a child after `fork`, too. It is pickled by its
-    bytes, which are checked again if they were before, and a map lasts until it is no longer used.
+    of a family are kept as objects. For networks that are no addresses it makes an array of all networks, of 24 bytes each,
+    once. Any threads may look up in it, and a child after `fork`, too. It is pickled by its bytes, which are checked again if
+    they were before, and a map lasts until it is no longer used.
     """
 
     __slots__ = ("_file", "_is_checked", "_kept", "_find", "_made", "__weakref__")
@@ -666,6 +662,11 @@ def _stored_value(network: Network, value: object) -> bytes:
         return value.encode()
     except UnicodeEncodeError as error:
         raise ValueError(f"the value of {network} is not Unicode: {value!r}") from error
+
+
+def _ordered(networks: Values, values: list[Any]) -> ChangingRows:
+    """Rows in order, of which the last one of a network counts."""
+    return ChangingRows.ordered(networks, [*zip(each_of(Network, networks), values)])
 
 
 def _given(rows: Given[V]) -> tuple[Values, list[V]]:

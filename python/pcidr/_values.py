@@ -127,27 +127,6 @@ class _Common(Shown):
 
     __slots__ = ()
 
-    if TYPE_CHECKING:
-
-        def __init__(self, given: AnyHost) -> None:
-            ...
-
-        @property
-        def first(self) -> Address:
-            ...
-
-        @property
-        def last(self) -> Address:
-            ...
-
-        @property
-        def netmask(self) -> Address:
-            ...
-
-        @property
-        def hostmask(self) -> Address:
-            ...
-
     @classmethod
     def _read_other(cls, given: Any) -> Value:
         if isinstance(given, (bytes, bytearray)):
@@ -209,26 +188,6 @@ class Address(_Common, OfAddress):
 
     __slots__ = ()
 
-    if TYPE_CHECKING:
-
-        def __add__(self, count: int) -> Address:
-            ...
-
-        def __sub__(self, count: int) -> Address:
-            ...
-
-        @property
-        def special_entry(self) -> SpecialEntry | None:
-            ...
-
-        @property
-        def sixtofour(self) -> Address | None:
-            ...
-
-        @property
-        def nat64(self) -> Address | None:
-            ...
-
     @classmethod
     def from_int(cls, number: int, version: int) -> Address:
         """The address of a family, 4 or 6, with this number; one that it doesn't have raises `ValueError`."""
@@ -257,16 +216,6 @@ class Host(_Common, OfHost):
     way to write it. `ipaddress` calls it an interface."""
 
     __slots__ = ()
-
-    if TYPE_CHECKING:
-
-        @property
-        def ip(self) -> Address:
-            ...
-
-        @property
-        def network(self) -> Network:
-            ...
 
     def __init__(self, given: AnyHost) -> None:
         try:
@@ -300,34 +249,6 @@ class Network(_Common, OfNetwork):
     """
 
     __slots__ = ()
-
-    if TYPE_CHECKING:
-
-        @property
-        def network_address(self) -> Address:
-            ...
-
-        @property
-        def broadcast_address(self) -> Address:
-            ...
-
-        def __contains__(self, inner: AnyNetwork) -> bool:
-            ...
-
-        def __getitem__(self, index: int) -> Address:
-            ...
-
-        def overlaps(self, other: AnyNetwork) -> bool:
-            ...
-
-        def next(self) -> Network:
-            ...
-
-        def previous(self) -> Network:
-            ...
-
-        def sibling(self) -> Network:
-            ...
 
     def __init__(self, given: AnyHost, strict: bool = True) -> None:
         try:

@@ -1033,6 +1033,7 @@ class Memory(unittest.TestCase):
         self.assertLess(after[0] - before[0], 50_000)
         self.assertLess(after[1] - before[1], 4_000)
 
+    @unittest.skipIf(os.environ.get("PCIDR_SHORT"), "millions of calls, which another Python makes")
     def test_ten_million_calls(self):
         """They leave the process as large as it was after the first ones. By `ctypes` they are a million."""
         table, held = Table({"10.0.0.0/8": 1, "::/0": 2}), NetworkSet(["10.0.0.0/8", "::/64"])

@@ -353,6 +353,7 @@ class Tables(unittest.TestCase):
             "setdefault without one": lambda rows, key: rows.setdefault(key),
             "update": lambda rows, key: rows.update({key: "updated", names[0]: "first"}),
             "update with pairs": lambda rows, key: rows.update([(key, 1), (key, 2)]),
+            "update with others between": lambda rows, key: rows.update([(key, 1), (names[0], 3), (names[1], 4), (key, 2)]),
             "del": lambda rows, key: rows.__delitem__(key),
             "get": lambda rows, key: rows.get(key, default="none") if isinstance(rows, Table) else rows.get(key, "none"),
             "in": lambda rows, key: key in rows,
@@ -381,6 +382,27 @@ class Tables(unittest.TestCase):
         self.assertNotEqual(ours.get("10.0.0.0/8"), "first")
         ours.clear()
         self.assertEqual((len(ours), list(ours.items()), ours.lookup("::")), (0, [], None))
+
+    def test_updates_of_many_rows(self):
+        """Tables that lists of rows are put into, one after the other, have the rows of a dict, which go as they came."""
+        lengths = [(width, length) for width in (32, 128) for length in range(1, 33)] * 8
+        numbers = [(RANDOM.getrandbits(length) << width - length, width, length) for width, length in lengths]
+        names = [str(Network((number.to_bytes(width // 8, "big"), length))) for number, width, length in numbers]
+        for count in (0, 1, 2, 5, 60, 300):
+            ours, theirs = Table(), {}
+            for turn in range(6):
+                rows = [(RANDOM.choice(names), (turn, place)) for place in range(count if turn % 2 else 7)]
+                ours.update(rows)
+                theirs.update(rows)
+                self.assertEqual({str(network): value for network, value in ours.items()}, theirs)
+                self.assertEqual(list(ours), sorted(ours))
+                self.assertEqual({name: ours.get(name) for name in names}, {name: theirs.get(name) for name in names})
+                asked = [name.split("/")[0] for name in RANDOM.sample(names, 30)]
+                self.assertEqual(ours.lookup_each(asked), [ours.lookup(address) for address in asked])
+                self.assertEqual(ours.lookup_each(asked), [next(iter(ours.covering(address)), None) for address in asked])
+            while theirs:
+                network, value = ours.popitem()
+                self.assertEqual((str(network), value), theirs.popitem())
 
     def test_views(self):
         table = Table({"::/0": 1, "10.0.0.0/8": 2})

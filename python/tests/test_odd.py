@@ -117,6 +117,30 @@ class Odd(unittest.TestCase):
         held.update()
         self.assertEqual(held.to_strings(), ["10.0.0.0/8", "192.0.2.0/24", "::/0"])
 
+    def test_what_ipaddress_takes(self):
+        """The calls that the page names as errors here, which `ipaddress` takes."""
+        interface, wide = ipaddress.ip_interface("10.0.0.1/8"), ipaddress.IPv4Network
+        host, address, network = Host("10.0.0.1/8"), Address("10.0.0.1"), Network("10.0.0.0/8")
+        pairs = [
+            (lambda: ipaddress.ip_network(5), lambda: Network(5)),
+            (lambda: ipaddress.ip_network((5, 32)), lambda: Network((5, 32))),
+            (lambda: ipaddress.ip_network(("10.0.0.1",)), lambda: Network(("10.0.0.1",))),
+            # `ipaddress` takes it, and then has that length of each network that is as long, since it keeps the first one
+            (lambda: None, lambda: Network(("0.0.0.0", True))),
+            (lambda: wide(address="10.0.0.0"), lambda: Network(address="10.0.0.0")),
+            (lambda: ipaddress.ip_address("fe80::1%eth0"), lambda: Address("fe80::1%eth0")),
+            (lambda: interface + 1, lambda: host + 1),
+            (lambda: interface in wide("10.0.0.0/8"), lambda: host in network),
+            (lambda: interface < interface.ip, lambda: host < address),
+            (lambda: list(ipaddress.collapse_addresses([interface])), lambda: pcidr.collapse_addresses([interface])),
+            (lambda: list(ipaddress.summarize_address_range(interface, interface)), lambda: pcidr.summarize_address_range(host, host)),
+            (lambda: f"{interface:x}", lambda: f"{host:x}"),
+        ]
+        for place, (theirs, ours) in enumerate(pairs):
+            theirs()
+            with self.assertRaises((TypeError, ValueError), msg=place):
+                ours()
+
 
 if __name__ == "__main__":
     unittest.main()

@@ -265,6 +265,18 @@ class Batches(unittest.TestCase):
         self.assertEqual(pcidr.parse_networks([]), [])
         self.assertEqual(pcidr.print_networks([]), [])
 
+    def test_a_plan_has_rows_and_lines_in_error(self):
+        rows, wrong = pcidr.read_plan("10.0.0.0/8 core # x\n\n10.1.0.6 - 10.1.0.9 größe, 2\nx y\n::1,z\n10.0.0.1/8\n10.0.0.0 255.0.0.0 m")
+        said = [("10.0.0.0/8", "core", 1), ("10.1.0.6/31", "größe, 2", 3), ("10.1.0.8/31", "größe, 2", 3), ("::1", "z", 5)]
+        self.assertEqual(rows, [(Network(network), name, line) for network, name, line in said])
+        self.assertEqual([line for line, _ in wrong], [4, 6, 7])
+        self.assertIn("the network is 10.0.0.0/8", wrong[1][1])
+        self.assertEqual(pcidr.read_plan(b"10.0.0.1/8 \xff", strict=False), ([(Network("10.0.0.0/8"), "\ufffd", 1)], []))
+        self.assertEqual(pcidr.read_plan("10.0.0.0/255.0.0.0 a", masks=True), ([(Network("10.0.0.0/8"), "a", 1)], []))
+        self.assertEqual(pcidr.read_plan(""), ([], []))
+        rows, wrong = pcidr.read_plan("10.0.0.1-10.255.255.254 a\n" * 3)  # more rows than lines
+        self.assertEqual((len(rows), wrong, {line for _, _, line in rows}), (3 * 46, [], {1, 2, 3}))
+
 
 if __name__ == "__main__":
     unittest.main()

@@ -84,6 +84,17 @@ def change(table):
     table["10.1.0.0/16"] = "new"
 
 
+def update(table):
+    """Sets one row anew and one that wasn't there, by one change."""
+    table.update({"10.1.0.0/16": "new", "10.2.0.0/16": "new"})
+
+
+def updated(table):
+    """Whether all of that change is there, where nothing of it says no."""
+    assert lookups(table) == ("new" if "10.2.0.0/16" in table else "old")
+    return "10.2.0.0/16" in table
+
+
 def interrupt(_table):
     raise KeyboardInterrupt
 
@@ -174,6 +185,35 @@ class Interleaved(unittest.TestCase):
             self.assertEqual(table.lookup("10.1.200.0")[1], "wide")
             self.assertEqual(table.lookup_each(["10.1.200.0"])[0][1], "wide")
 
+    def test_a_signal_handler_changes_while_many_rows_are_set(self):
+        seen = set()
+
+        def handler(table):
+            seen.add(updated(table))
+            table["10.1.2.128/25"] = "handler's"
+            table.update({"10.3.0.0/16": "handler's", "10.1.0.0/16": "handler's"} if "10.2.0.0/16" not in table else {})
+            del table["::/0"]
+            lookups(table)
+
+        for table, _ in at_each_opcode(self, update, handler):
+            self.assertEqual(lookups(table), "new" if "10.3.0.0/16" in table or "10.2.0.0/16" in table else "old")
+            self.assertEqual((table.lookup("10.1.2.200")[1], table.get("10.2.0.0/16"), table.lookup("::")), ("handler's", "new", None))
+            self.assertEqual(table.lookup_each(["10.1.2.200"])[0][1], "handler's")
+            self.assertEqual([*table.values()].count("handler's"), 2 if "10.3.0.0/16" in table else 1)
+        self.assertEqual(seen, {False, True})
+
+    def test_a_look_up_sees_all_of_an_update_or_nothing(self):
+        seen = []
+
+        def look(table):
+            seen.append(in_thread(self, lambda: [value for _, value in table.items()]))
+
+        for outdated in (False, True):
+            for table, _ in at_each_opcode(self, update, look, outdated):
+                self.assertTrue(updated(table))
+        wanted = ("wide", "old", "six"), ("wide", "new", "new", "six")
+        self.assertEqual({tuple(values[: 3 + values.count("new") // 2]) for values in seen}, set(wanted))
+
     def test_a_look_up_beside_a_change_within_a_change(self):
         """One row is set and another one goes, so that the answer is the third only where that comes first."""
         def add(table):
@@ -246,6 +286,15 @@ class Interrupted(unittest.TestCase):
                 table["10.1.2.0/24"] = "next"
                 self.assertEqual(lookups(table), "next")
             self.assertEqual(seen, wanted)
+
+    def test_in_a_change_of_many_rows(self):
+        for outdated in (False, True):
+            seen = set()
+            for table, _ in at_each_opcode(self, update, interrupt, outdated):
+                seen.add(updated(table))
+                update(table)
+                self.assertTrue(updated(table))
+            self.assertEqual(seen, {False, True})
 
     def test_in_a_look_up(self):
         for look in (lambda table: table.lookup_each([ASKED]), lambda table: list(table.items()), lookups):
@@ -373,6 +422,16 @@ class Threads(unittest.TestCase):
                 table[name] = value
                 del table[name]
 
+        def move_many():
+            """Rows of many lengths, beside the others, come and go by one change each."""
+            names = [f"9.0.2.{place}/{length}" for place, length in ((0, 24), (0, 25), (128, 26), (7, 32))]
+            while time.monotonic() < stop:
+                table.update(dict.fromkeys(names, "many"))
+                if [table.get(name) for name in names] != ["many"] * 4:
+                    wrong.append("a row of many is lost")
+                for name in names:
+                    del table[name]
+
         del table["10.1.0.0/16"]
         looks = (
             lambda: table.lookup(ASKED)[1],
@@ -385,6 +444,7 @@ class Threads(unittest.TestCase):
         for length in (16, 24, 25):
             name = str(Network(f"10.1.{2 if length > 16 else 0}.0/{length}"))
             threads.append(threading.Thread(target=move, args=(name, f"/{length}"), daemon=True))
+        threads.append(threading.Thread(target=move_many, daemon=True))
         interval = sys.getswitchinterval()
         sys.setswitchinterval(1e-5)
         try:
@@ -436,6 +496,7 @@ class Threads(unittest.TestCase):
         calls = {
             "setdefault": lambda table: table.setdefault("10.1.2.0/24", "new"),
             "update": lambda table: table.update({"10.1.0.0/16": "new"}),
+            "update of many": update,
             "pop": lambda table: table.pop("10.1.0.0/16"),
             "popitem": lambda table: table.popitem(),
             "lookup_each": lambda table: table.lookup_each([ASKED]),
@@ -469,7 +530,7 @@ class Threads(unittest.TestCase):
             def __del__(self):
                 done.append(in_thread(test, lambda: table.__setitem__("10.1.2.0/24", "finalizer's")))
 
-        for drop in (change, lambda table: table.__delitem__("10.1.0.0/16")):
+        for drop in (change, lambda table: table.__delitem__("10.1.0.0/16"), update):
             done = []
             table["10.1.0.0/16"] = Value()
             list(table.items())
@@ -481,6 +542,7 @@ class Threads(unittest.TestCase):
             lambda table: table.setdefault("10.1.2.0/25", "new"),
             lambda table: table.pop("10.0.0.0/8"),
             lambda table: table.popitem(),
+            update,
         )
         for drop in drops:
             done = []
