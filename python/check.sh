@@ -1,7 +1,7 @@
 #!/usr/bin/env bash
 # check.sh LIBRARY: makes a wheel with this libpcidr.so inside, installs it into a fresh environment of Python, and runs the
-# tests and an example there, then tests of calls without the extension in C and by each other Python from 3.10 on. Checks the
-# types where there is mypy. Prints what is not as wanted.
+# tests and an example there, then tests of calls without the extension in C and by a Python of each other version from 3.10 on.
+# Checks the types where there is mypy. Prints what is not as wanted.
 set -euo pipefail
 python=$(cd "$(dirname "$0")" && pwd)
 runs=$python/../crates/cidr_c/runs
@@ -16,9 +16,10 @@ status=0
 python3 "$python/make_calls.py" --check || status=1
 
 PCIDR_LIBRARY=$library python3 "$python/build_wheel.py" "$room"
-if python3 -m venv "$room/venv" >/dev/null 2>&1; then
-    interpreter=$room/venv/bin/python
-    install=("$interpreter" -m pip --disable-pip-version-check -q install --no-index)
+interpreter=$room/venv/bin/python
+pip=(python3 -m pip --disable-pip-version-check --python "$interpreter")
+if python3 -m venv --without-pip "$room/venv" >/dev/null 2>&1 && "${pip[@]}" --version >/dev/null 2>&1; then
+    install=("${pip[@]}" -q install --no-index)
     "${install[@]}" "$room"/*.whl
     # pip makes the same wheel of the sources.
     PCIDR_LIBRARY=$library "${install[@]}" --target "$room/second" "$python"
@@ -33,16 +34,23 @@ cd "$room"
 "$interpreter" -m unittest discover -q -s "$python/tests" || status=1
 calls=(-m unittest discover -q -s "$python/tests" -p "test_[nop]*.py")
 PCIDR_CTYPES=1 "$interpreter" "${calls[@]}" || status=1
+# Ten million calls are made by these two alone.
+export PCIDR_SHORT=1
 python3 -m zipfile -e "$room"/*.whl "$room/others"
 cp "$python/compare.py" "$python/README.md" "$room"  # beside which the sources of the module don't stand
 comparing=$interpreter
+version() { "$1" -c 'import sys; print("%d.%d" % sys.version_info[:2])' 2>"$room/log" || true; }
+tried=" $(version "$interpreter") "
 for other in "${PYENV_ROOT:-$HOME/.pyenv}"/versions/*/bin/python3 /usr/bin/python3; do
     if "$other" -c 'import sys; sys.exit(sys.version_info < (3, 10))' 2>"$room/log"; then
-        PYTHONPATH=$room/others "$other" "${calls[@]}" || { echo "pcidr: $other"; status=1; }
         if "$other" -c 'import netaddr, radix' 2>"$room/log"; then comparing=$other; fi
+        this=$(version "$other")
+        [[ $tried != *" $this "* ]] || continue
+        tried+="$this "
+        PYTHONPATH=$room/others "$other" "${calls[@]}" || { echo "pcidr: $other"; status=1; }
         # An extension by the header of this Python is used by the first one, too.
         header=$("$other" -c 'import sysconfig; print(sysconfig.get_path("include"))')
-        if [[ -f $header/Python.h && -f $room/others/pcidr/_fast.abi3.so && $("$other" -V) != "Python 3.10."* ]]; then
+        if [[ -f $header/Python.h && -f $room/others/pcidr/_fast.abi3.so && $this != 3.10 ]]; then
             cp -r "$room/others" "$room/made"
             gcc -O2 -shared -fPIC -I"$header" -I"$python/../crates/cidr_c/include" \
                 -o "$room/made/pcidr/_fast.abi3.so" "$python/pcidr/_fast.c" -ldl
@@ -57,7 +65,7 @@ PYTHONPATH=$room/others "$comparing" "$room/compare.py" || status=1
 # The extension once more under the sanitizers of gcc, where they are there.
 sanitizer=$(gcc -print-file-name=libasan.so 2>"$room/log" || true)
 if [[ -f $sanitizer && -f $room/others/pcidr/_fast.abi3.so ]]; then
-    gcc -g -fsanitize=address,undefined -fno-sanitize-recover=undefined -Wall -Wextra -Werror -shared -fPIC \
+    gcc -g -O1 -fsanitize=address,undefined -fno-sanitize-recover=undefined -Wall -Wextra -Werror -shared -fPIC \
         -I"$(python3 -c 'import sysconfig; print(sysconfig.get_path("include"))')" -I"$python/../crates/cidr_c/include" \
         -o "$room/others/pcidr/_fast.abi3.so" "$python/pcidr/_fast.c" -ldl
     LD_PRELOAD=$sanitizer ASAN_OPTIONS=detect_leaks=0 PYTHONMALLOC=malloc PYTHONPATH=$room/others \

@@ -266,6 +266,44 @@ static void loose(void) {
         WANT(pcidr_read_loose_address(refused[i], strlen(refused[i]), &out) == PCIDR_NOT_ADDRESS && is_left());
 }
 
+/* The rows of a plan, and its lines in error. */
+static void plans(void) {
+    static const char text[] = "10.0.0.0/8 core  # all\r\n\n\t10.1.0.6 - 10.1.0.9, b c\nx y\n::1\n10.0.0.0 255.0.0.0 m\n10.0.0.1/8";
+    static const struct { const char *network, *name; uint64_t line; } wanted[] = {
+        {"10.0.0.0/8", "core", 1}, {"10.1.0.6/31", "b c", 3}, {"10.1.0.8/31", "b c", 3}, {"::1", "", 5}};
+    static const struct { const char *text, *message; uint64_t line; uint32_t code; } bad[] = {
+        {"x y", "x: couldn't parse address in network: invalid IP address syntax", 4, PCIDR_ADDRESS},
+        {"10.0.0.0 255.0.0.0 m", "10.0.0.0: the first address of a range, whose last one is the next field", 6, PCIDR_NOT_ADDRESS},
+        {"10.0.0.1/8", "10.0.0.1/8: host bits set; the network is 10.0.0.0/8", 7, PCIDR_HOST_PART}};
+    pcidr_plan_row rows[5];
+    pcidr_plan_fault faults[4];
+    size_t count = 77, wrong = 77;
+    char message[PCIDR_LINE_ROOM] = "as it was";
+    memset(rows, 9, sizeof rows), memset(faults, 9, sizeof faults);
+    WANT(pcidr_read_plan(text, strlen(text), 0, rows, 5, &count, faults, 4, &wrong) == PCIDR_OK && count == 4 && wrong == 3);
+    for (size_t i = 0; i < 4; i++) {
+        size_t size = strlen(wanted[i].name);
+        WANT(is_same(rows[i].network, value(wanted[i].network)) && rows[i].line == wanted[i].line);
+        WANT(rows[i].name_len == size && strncmp(text + rows[i].name, wanted[i].name, size) == 0);
+    }
+    for (size_t i = 0; i < 3; i++) {
+        WANT(faults[i].line == bad[i].line && faults[i].code == bad[i].code && faults[i].text_len == strlen(bad[i].text));
+        WANT(strncmp(text + faults[i].text, bad[i].text, faults[i].text_len) == 0);
+        WANT(pcidr_plan_message(text + faults[i].text, faults[i].text_len, 0, message, sizeof message) == bad[i].code);
+        WANT(strcmp(message, bad[i].message) == 0);
+    }
+    WANT(rows[4].line == 0x0909090909090909 && faults[3].line == 0x0909090909090909);
+    strcpy(message, "as it was");
+    WANT(pcidr_plan_message("::1 x", 5, 0, message, sizeof message) == PCIDR_OK && strcmp(message, "as it was") == 0);
+    memset(rows, 9, sizeof rows), memset(faults, 9, sizeof faults);
+    WANT(pcidr_read_plan(text, strlen(text), 0, rows, 2, &count, faults, 4, &wrong) == PCIDR_NO_ROOM && count == 4 && wrong == 3);
+    WANT(rows[1].line == 3 && rows[2].line == 0x0909090909090909 && faults[2].line == 7);
+    WANT(pcidr_read_plan(text, strlen(text), 0, rows, 4, &count, NULL, 0, &wrong) == PCIDR_NO_ROOM && count == 4 && wrong == 3);
+    WANT(pcidr_read_plan("10.0.0.1/8 x", 12, PCIDR_HOST_BITS_CLEARED, rows, 1, &count, NULL, 0, &wrong) == PCIDR_OK && count == 1);
+    WANT(pcidr_read_plan("10.0.0.0/255.0.0.0 x", 20, PCIDR_HOST_BITS_REFUSED_WITH_MASKS, rows, 1, &count, NULL, 0, &wrong) == PCIDR_OK);
+    WANT(pcidr_read_plan(NULL, 0, 0, NULL, 0, &count, NULL, 0, &wrong) == PCIDR_OK && count == 0 && wrong == 0);
+}
+
 static void lists(void) {
     const char *const nothing[] = {NULL};
     const char *const mixed[] = {"10.0.0.0/8", "192.0.2.1", "2001:db8::/32", "::1", NULL};
@@ -621,6 +659,7 @@ int main(void) {
     faults();
     loose();
     lists();
+    plans();
     inside_ipv6();
     purposes();
     ranges_and_pools();

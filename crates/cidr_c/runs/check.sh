@@ -20,7 +20,7 @@ export PYTHONDONTWRITEBYTECODE=1
 # The commands stand in the page as they are typed at the top of the repository, and build into a folder at home.
 mkdir "$room/top" "$room/home"
 ln -s "$(dirname "$crate")" "$(realpath "$python")" "$room/top"
-sed -n '/^```sh$/,/^```$/{/^```/!p}' "$crate/README.md" >"$room/commands"
+sed -n '/^```sh\( (kit.*)\)\?$/,/^```$/{/^```/!p}' "$crate/README.md" >"$room/commands"
 export RUSTUP_HOME=${RUSTUP_HOME:-$HOME/.rustup} CARGO_TARGET_DIR=${CARGO_TARGET_DIR:-$(realpath "$crate")/../../rust/crates/target}
 (cd "$room/top" && HOME=$room/home bash -eu "$room/commands" >"$room/printed") || status=1
 cat "$here/networks.txt" "$here/networks.txt" "$here/python.txt" | cmp - "$room/printed" || status=1

@@ -91,6 +91,12 @@ static uint32_t read_list(void) {
     return pcidr_read_list(list, sizeof list - 1, PCIDR_HOST_BITS_REFUSED, out, ROOM, &count, &line, told, sizeof told);
 }
 
+static const char plan[] = "10.0.0.1-10.0.0.6 four\nx\n2001:db8::/32 six\r\n";
+static pcidr_plan_row plan_rows[COUNT];
+static pcidr_plan_fault faults[COUNT];
+static size_t wrong;
+static uint32_t read_plan(void) { return pcidr_read_plan(plan, sizeof plan - 1, 0, plan_rows, COUNT, &count, faults, COUNT, &wrong); }
+
 static uint32_t build_table(void) { return pcidr_table_build(&table, ascending, COUNT, &sizes); }
 static uint32_t check_table(void) { return pcidr_table_check(&built, ascending, COUNT); }
 static uint32_t build_table_ipv6(void) { return pcidr_table_build(&table_ipv6, ascending_ipv6, COUNT, &sizes); }
@@ -125,7 +131,8 @@ static void set_values(void) {
     memset(&sizes, 9, sizeof sizes);
     if (pcidr_set_write(ascending, COUNT, file, sizeof file, &file_len) != PCIDR_OK) failures++;
     memset(written, 0, sizeof written), memset(ranges, 0, sizeof ranges), number.high = 0, number.low = 9;
-    line = 9, told[0] = 9;
+    line = 9, told[0] = 9, wrong = 9;
+    memset(plan_rows, 0, sizeof plan_rows), memset(faults, 0, sizeof faults);
     memcpy(kept, networks, sizeof kept);
     count = COUNT;
 }
@@ -134,7 +141,10 @@ static void set_values(void) {
 static int is_left(void) {
     static const pcidr_value no_values[ROOM];
     static const pcidr_range no_ranges[COUNT];
-    if (line != 9 || told[0] != 9) return 0;
+    static const pcidr_plan_row no_rows[COUNT];
+    static const pcidr_plan_fault no_faults[COUNT];
+    if (line != 9 || told[0] != 9 || wrong != 9) return 0;
+    if (memcmp(plan_rows, no_rows, sizeof plan_rows) != 0 || memcmp(faults, no_faults, sizeof faults) != 0) return 0;
     if (sizes.first != NINES || sizes.words != NINES || sizes.place != NINES || sizes.steps != 0x09090909) return 0;
     if (number.high != 0 || number.low != 9 || memcmp(ranges, no_ranges, sizeof ranges) != 0) return 0;
     for (size_t i = 0; i < sizeof written; i++)
@@ -149,7 +159,7 @@ int main(void) {
         cover, make_union, intersection, difference, symmetric_difference, union_in_place, intersection_in_place,
         difference_in_place, contains_each, longest_match_each, summarize, first_free, best_free, permitted, shadowed,
         deciding, complement, is_subset, is_disjoint, make_ranges, count_ipv4, count_ipv6, nth_ipv4, nth_ipv6, covering,
-        covered, nearest_each, sort_order, table_order, smallest, forwards_same, read_list, build_table, check_table, build_table_ipv6, check_table_ipv6,
+        covered, nearest_each, sort_order, table_order, smallest, forwards_same, read_list, read_plan, build_table, check_table, build_table_ipv6, check_table_ipv6,
         write_file, write_set, check_file};
     for (size_t i = 0; i < sizeof calls / sizeof *calls; i++) {
         uint32_t code = PCIDR_NO_MEMORY;

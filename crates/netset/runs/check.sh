@@ -13,9 +13,15 @@ room=$(mktemp -d)
 trap 'rm -rf "$room"' EXIT
 differs=0
 
+# text FILE: sets `got` to what the file has, and fails where a byte of it is 0.
+text() {
+    ! IFS= read -r -d '' got <"$1"
+}
+
 # has FILE TEXT: whether the file has exactly this text. A device keeps no text.
 has() {
-    [[ -c $1 ]] || printf '%s' "$2" | cmp -s - "$1"
+    local got
+    [[ -c $1 ]] || { text "$1" && [ "$got" = "$2" ]; }
 }
 
 # run STATUS OUTPUT ERROR INPUT [ARGUMENT..]: runs the program on this input with these arguments, and says in what it
@@ -24,8 +30,9 @@ run() {
     local wanted=$1 output=$2 error=$3 input=$4 status=0 wrong=() part
     shift 4
     # The program may end before it has read all of its input.
-    (cd "$room" && timeout 60 "$program" "$@") < <(printf '%b' "$input" 2>/dev/null) >"$output_file" 2>"$error_file" ||
-        status=$?
+    cd "$room"
+    timeout 60 "$program" "$@" < <(printf '%b' "$input" 2>/dev/null) >"$output_file" 2>"$error_file" || status=$?
+    cd "$OLDPWD"
     ((status == wanted)) || wrong+=("exit status $status, not $wanted")
     has "$output_file" "$output" || wrong+=("standard output")
     has "$error_file" "$error" || wrong+=("standard error")
@@ -1183,6 +1190,8 @@ rows_of_one_network() {
     run 1 '' '' '10.0.0.0/9' split - 8
     run 2 '' $'129: no prefix length inside the network\n' '' split missing 129
     run 2 '' $'-:1: x: couldn\'t parse address in network: invalid IP address syntax\n' 'x' split - 9 -k
+    run 2 '' $'129: no prefix length inside the network\n' 'x' split - 129 -k
+    run 2 '' $'129: no prefix length inside the network\n' 'x' split - 129 --skip-bad
     run 0 $'192.0.2.255\n' '' '' nth 192.0.2.0/24 255
     run 1 '' '' '' nth 192.0.2.0/24 256
     run 0 $'ffff:ffff:ffff:ffff:ffff:ffff:ffff:ffff\n' '' '' nth ::/0 340282366920938463463374607431768211455
@@ -1515,21 +1524,24 @@ rows_where_a_stream_fails() {
 # is none to refuse. It is to end with status 3 and `no memory`, and to write nothing, nor the file `made`; `match`, `look` and
 # `class` may have written a beginning of their answer.
 refuse() {
-    local input=$1 end=0 status n begun
+    local input=$1 end=0 status n whole got
     shift
-    printf '%b' "$input" | (cd "$room" && "$program" "$@") >"$room/whole" || end=$?
+    cd "$room"
+    printf '%b' "$input" >given
+    "$program" "$@" <given >whole 2>error || end=$?
+    text whole && whole=$got
     for ((n = 1; n <= 99; n++)); do
         status=0
-        printf 'old' >"$room/made"
-        printf '%b' "$input" | (cd "$room" && REFUSE=$n LD_PRELOAD=$room/refuse.so "$program" "$@") >"$room/output" 2>"$room/error" ||
-            status=$?
-        ((n == 1 || status != end)) || return 0
-        begun=0
-        [[ $1 != match && $1 != look && $1 != class ]] || begun=$(wc -c <"$room/output")
-        if ((status != 3)) || ! { has "$room/error" $'no memory\n' || has "$room/error" "${told-}"$'no memory\n'; } || ! has "$room/made" old || ! head -c "$begun" "$room/whole" | cmp -s - "$room/output"; then
-            break
+        printf old >made
+        REFUSE=$n LD_PRELOAD=$room/refuse.so "$program" "$@" <given >output 2>error || status=$?
+        if ((n > 1 && status == end)); then
+            cd "$OLDPWD"
+            return
         fi
+        ((status == 3)) && { has error $'no memory\n' || has error "${told-}"$'no memory\n'; } && has made old && text output || break
+        [[ -z $got || $1 =~ ^(match|look|class)$ && $whole == "$got"* ]] || break
     done
+    cd "$OLDPWD"
     differs=1
     echo "$build ${*@Q}, allocation $n refused: not as wanted" >&2
 }

@@ -1,0 +1,82 @@
+"""The commands of `netset`, as its table of commands has them: their forms, what the help says of each, and their options."""
+import json
+import os
+import re
+
+TOP = os.path.join(os.path.dirname(os.path.abspath(__file__)), "..")
+TABLE = "crates/netset_commands/src/commands/table.rt"
+ARGUMENTS = "crates/netset_commands/src/commands/arguments.rt"
+FORMATS = "crates/cidr_lists/src/formats.rt"
+LITERAL = r'"((?:[^"\\]|\\.)*)"'
+
+
+def read(path):
+    with open(os.path.join(TOP, path), encoding="utf-8") as file:
+        return file.read()
+
+
+def strings(text):
+    """The values of the string literals of a text."""
+    return [json.loads(f'"{it}"') for it in re.findall(LITERAL, text)]
+
+
+def arm(text, function, verb):
+    """What a function of the table has for a command: the text of the first arm of its `match` that takes it."""
+    body = re.search(rf"\bfn {function}\(.*?\n}}\n", text, re.S)[0]
+    body = body[body.index("match command {") :]
+    pattern = r"(?:Verb::[\w:()]+(?:\s*\|\s*Verb::[\w:()]+)*|\b_)"
+    for taken, made in re.findall(rf"({pattern})\s*=>((?:(?!{pattern}\s*=>).)*)", body, re.S):
+        names = [it.strip() for it in taken.split("|")]
+        if {verb, re.sub(r"\(.*", "(_)", verb), "_"} & set(names):
+            return made
+    raise SystemExit(f"{TABLE}: {function} has no arm for {verb}")
+
+
+def names_in(path, function):
+    """The names that a function compares with, or gives: the words of its body in quotes."""
+    return strings(re.search(rf"\bfn {function}\b.*?\n}}\n", read(path), re.S)[0])
+
+
+def values_of(valued):
+    """The names that the options of a command take, of those with a value: formats and forms."""
+    formats = names_in(FORMATS, "format_name") if "--prefix" in valued else names_in(ARGUMENTS, "named_line_format")
+    of_table = "--table-separator" in valued
+    forms = names_in(ARGUMENTS, "named_layout") if of_table else names_in(ARGUMENTS, "named_list_form")
+    named = {"--format": formats, "--form": [it for it in forms if not it.startswith("-")]}
+    return {option: names for option, names in named.items() if option in valued}
+
+
+class Command:
+    """A command of a program: its name, its forms, what the help says of each, and its options, some of which have a value."""
+
+    def __init__(self, name, forms, says=(), options=(), valued=()):
+        self.name, self.forms, self.says, self.options, self.valued = name, forms, list(says), list(options), list(valued)
+        self.values = values_of(self.valued)
+
+    def kind(self):
+        """What may complete an operand: a command, a file or nothing."""
+        operands = {it.strip("[].") for form in self.forms for it in re.split("[ |]", form)[2:]}
+        if "COMMAND" in operands:
+            return "command"
+        return "file" if operands & {"A", "B", "FILE", "LIST", "RULES", "TABLE", "POOL", "USED"} else ""
+
+
+def netset_commands():
+    """The commands of `netset`, and what its help says of options that several of them have: how they are written, and words."""
+    text = read(TABLE)
+    constants = {name: json.loads(f'"{it}"') for name, it in re.findall(rf"const (\w+): &str =\s*{LITERAL};", text)}
+    rows = re.search(r"COMMANDS: \[Verb; \d+\] = \[(.*?)\];", text, re.S)[1]
+    commands = []
+    for verb in re.findall(r"Verb::[\w:()]+", rows):
+        (name,), options = strings(arm(text, "name_of", verb)), strings(arm(text, "options_of", verb))
+        forms, says = [], []
+        for line in constants[re.search(r"\b[A-Z_]+\b", arm(text, "about_of", verb))[0]].splitlines():
+            # The form, of options and operands, and behind white space words on it.
+            form, words = re.match(rf"(netset {name}(?: (?:\[.*?\]|-[\w-]+|[A-Z|]+(?:\.\.)?)(?= |$))*)? *(.*)", line).groups()
+            if form:
+                forms.append(form)
+                says.append("")
+            says[-1] = f"{says[-1]} {words}".strip()
+        commands.append(Command(name, forms, says, options, strings(arm(text, "values_of", verb))))
+    notes = [found for it in constants.values() for found in re.findall(r"^(-\S.*?)(?:  +|\n +)(.*\n(?: .*\n)*)", it, re.M)]
+    return commands, {option: " ".join(words.split()) for option, words in notes}

@@ -1,0 +1,105 @@
+//! `doors INPUT` looks the first addresses of INPUT, lines `ask ADDRESS`, up among its rows, lines `NETWORK NUMBER`, as
+//! `forwarding input` writes them. It prints of each way a line with tabs between: its name, the nanoseconds of a look-up, the least of
+//! five turns, and the sum of the numbers of the rows that are found.
+
+use cidr::{Ipv4Cidr, Ipv6Cidr};
+use cidr_files::{FileAddress, FileRows, FileTable, Ipv4Bytes, Ipv6Bytes, lookup, open, written};
+use cidr_lookup::{Address, Key, Keyed, ReadyTable, build, find};
+use cidr_support::alloc::Global;
+use cidr_support::vec::Vec as Rattled;
+use cidr_table::LpmTable;
+use std::fmt::Debug;
+use std::hint::black_box;
+use std::net::{Ipv4Addr, Ipv6Addr};
+use std::str::FromStr;
+
+const TURNS: u32 = 5;
+
+#[repr(C)]
+struct Time {
+    seconds: i64,
+    nanoseconds: i64,
+}
+
+unsafe extern "C" {
+    safe fn clock_gettime(clock: i32, time: &mut Time) -> i32;
+}
+
+/// The nanoseconds that this process has run on processors, as Linux counts them (`CLOCK_PROCESS_CPUTIME_ID`).
+fn now() -> f64 {
+    let mut time = Time { seconds: 0, nanoseconds: 0 };
+    clock_gettime(2, &mut time);
+    1e9 * time.seconds as f64 + time.nanoseconds as f64
+}
+
+/// The nanoseconds of a look-up, and the sum of the rows.
+fn time<A: Copy>(name: &str, asked: &[A], mut find: impl FnMut(A) -> Option<usize>) {
+    let (mut least, mut sum) = (f64::MAX, 0);
+    for _ in 0..TURNS {
+        let start = now();
+        sum = black_box(asked).iter().map(|address| find(*address).unwrap_or(0)).sum();
+        least = least.min((now() - start) / asked.len() as f64);
+    }
+    println!("Rust, {name}\t{least:.3}\t{sum}");
+}
+
+/// Looks up in words, in a table made ready and in the bytes of a file.
+fn run<C, W>(networks: &[C], asked: &[u128], hosts: &[C], part: impl Fn(&[Key<W>], &[u32], &[u8]) -> Rattled<u8>, of: fn(&[u8]) -> FileTable<'_>)
+where
+    C: Keyed + Copy + FromStr,
+    W: FileAddress + Copy,
+{
+    let keys: Vec<Key<C::Number>> = networks.iter().map(Key::of).collect();
+    let table = build(Global, &keys).unwrap_or_else(|error| panic!("{error}"));
+    let (first, words) = (table.first.as_slice(), table.words.as_slice());
+    let numbers: Vec<C::Number> = asked.iter().map(|number| C::Number::of(*number)).collect();
+    time("find", &numbers, |address| find(&first, &words, table.steps, address));
+
+    let mut rows = Rattled::new(Global);
+    networks.iter().for_each(|network| rows.push((*network, ())).expect("memory"));
+    let ready = ReadyTable::new(Global, LpmTable::from_rows(rows)).unwrap_or_else(|_| panic!("no memory"));
+    time("ReadyTable.find", hosts, |host| ready.find(&host));
+
+    let (mut offsets, mut values) = (vec![0], Vec::new());
+    for row in 0..keys.len() {
+        values.extend(row.to_string().bytes());
+        offsets.push(values.len() as u32);
+    }
+    let stored: Vec<Key<W>> = keys.iter().map(|key| Key { address: W::of(key.address.number()), len: key.len }).collect();
+    let bytes = part(&stored, &offsets, &values);
+    let part = of(bytes.as_slice());
+    let addresses: Vec<W> = asked.iter().map(|number| W::of(*number)).collect();
+    time("lookup in a file", &addresses, |address| lookup(&part, address).map(|found| found.0));
+}
+
+fn parsed<T: FromStr<Err: Debug>>(text: &str) -> T {
+    text.parse().expect("an address or a network")
+}
+
+fn main() {
+    let name = std::env::args().nth(1).expect("a file");
+    let text = std::fs::read_to_string(name).expect("a file");
+    let lines: Vec<&str> = text.lines().take_while(|line| *line != "speed").collect();
+    let (asked, rows): (Vec<&str>, Vec<&str>) = lines.iter().partition(|line| line.starts_with("ask "));
+    let networks = rows.iter().map(|line| line.split(' ').next().expect("a network"));
+    let addresses = || asked.iter().map(|line| &line[4..]);
+    let none = FileRows { keys: &[], offsets: &[0], values: b"" };
+    if text.contains(':') {
+        let numbers: Vec<u128> = addresses().map(|it| parsed::<Ipv6Addr>(it).to_bits()).collect();
+        let networks: Vec<Ipv6Cidr> = networks.map(parsed).collect();
+        let file = |keys: &[Key<Ipv6Bytes>], offsets: &[u32], values: &[u8]| {
+            written(Global, &none, &FileRows { keys, offsets, values }).unwrap_or_else(|error| panic!("{error}"))
+        };
+        let hosts: Vec<Ipv6Cidr> = addresses().map(parsed).collect();
+        run::<Ipv6Cidr, Ipv6Bytes>(&networks, &numbers, &hosts, file, |bytes| open(bytes).unwrap_or_else(|fault| panic!("{fault}")).ipv6);
+    } else {
+        let numbers: Vec<u128> = addresses().map(|it| u128::from(parsed::<Ipv4Addr>(it).to_bits())).collect();
+        let networks: Vec<Ipv4Cidr> = networks.map(parsed).collect();
+        let none = FileRows { keys: &[], offsets: &[0], values: b"" };
+        let file = |keys: &[Key<Ipv4Bytes>], offsets: &[u32], values: &[u8]| {
+            written(Global, &FileRows { keys, offsets, values }, &none).unwrap_or_else(|error| panic!("{error}"))
+        };
+        let hosts: Vec<Ipv4Cidr> = addresses().map(parsed).collect();
+        run::<Ipv4Cidr, Ipv4Bytes>(&networks, &numbers, &hosts, file, |bytes| open(bytes).unwrap_or_else(|fault| panic!("{fault}")).ipv4);
+    }
+}
