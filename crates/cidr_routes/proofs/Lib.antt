@@ -1,0 +1,5 @@
+pub mod Linking
+pub mod Answering
+pub mod Sorting
+pub mod Ends
+pub mod Lengths
