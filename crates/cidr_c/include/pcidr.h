@@ -184,6 +184,55 @@ uint32_t pcidr_read_lines(const char *text, size_t text_len, pcidr_value *out, s
 uint32_t pcidr_read_list(const char *text, size_t text_len, uint32_t host_bits, pcidr_value *out, size_t out_len,
                          size_t *count, uint64_t *line, char *message, size_t message_len);
 
+/* A row of an address plan; of a range each network of the shortest list has one. */
+typedef struct pcidr_plan_row {
+    pcidr_value network;
+    uint64_t line;   /* the number of its line, from 1 on */
+    size_t name;     /* where its name begins in the text, in bytes */
+    size_t name_len; /* how many bytes the name has */
+} pcidr_plan_row;
+
+PCIDR_ASSERT(sizeof(pcidr_plan_row) == 48);
+PCIDR_ASSERT(offsetof(pcidr_plan_row, network) == 0);
+PCIDR_ASSERT(offsetof(pcidr_plan_row, line) == 24);
+PCIDR_ASSERT(offsetof(pcidr_plan_row, name) == 32);
+PCIDR_ASSERT(offsetof(pcidr_plan_row, name_len) == 40);
+
+/* A line of a plan that is in error. */
+typedef struct pcidr_plan_fault {
+    uint64_t line;   /* its number, from 1 on */
+    size_t text;     /* where it begins in the text, in bytes */
+    size_t text_len; /* how many bytes it has, without its line feed */
+    uint32_t code;   /* its error, as of pcidr_read_list */
+} pcidr_plan_fault;
+
+PCIDR_ASSERT(sizeof(pcidr_plan_fault) == 32);
+PCIDR_ASSERT(offsetof(pcidr_plan_fault, line) == 0);
+PCIDR_ASSERT(offsetof(pcidr_plan_fault, text) == 8);
+PCIDR_ASSERT(offsetof(pcidr_plan_fault, text_len) == 16);
+PCIDR_ASSERT(offsetof(pcidr_plan_fault, code) == 24);
+
+/* Reads an address plan: a line as of a list, with a name behind the network, address or range, as
+ *
+ *     10.20.0.0/20 campus core      # with a comment
+ *     10.20.16.0 - 10.20.16.99 guests
+ *     2001:db8:20::/48,campus
+ *
+ * White space or a comma parts both. The name goes on to the comment or the end of the line, without white space there, and may be
+ * empty. Where the first hyphen is in the first word or next behind it, the line says a range. An address with an address behind
+ * it is refused, since that may be a mask or the end of a range: NOT_ADDRESS. A mask stands behind a slash, where `host_bits`
+ * reads masks.
+ *
+ * In `rows` are as many of its rows as there is room for, in the order of the lines, and in `faults` as many of its lines in error;
+ * `count` and `wrong` are how many there are. What is behind them stays. PCIDR_OK; or NO_ROOM where one of both has more than
+ * its room; or NO_MEMORY, and all is as it was. There are at most as many faults as lines, and rows, but for ranges. Allocates. */
+uint32_t pcidr_read_plan(const char *text, size_t text_len, uint32_t host_bits, pcidr_plan_row *rows, size_t rows_len,
+                         size_t *count, pcidr_plan_fault *faults, size_t faults_len, size_t *wrong);
+
+/* The message of a line of a plan that is in error, as `pcidr_read_list` has it, and its error; PCIDR_OK of a line that is in none,
+ * and `message` is as it was. */
+uint32_t pcidr_plan_message(const char *line, size_t line_len, uint32_t host_bits, char *message, size_t message_len);
+
 /* ---- values into strings: the length of the string, or 0 for a value that the call does not take
  *
  * Where `out_len` is above the length, the string is in `out` with a 0 behind it; else `out` is as it was. So a call with
