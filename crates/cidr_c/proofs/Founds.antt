@@ -126,7 +126,7 @@ module _ (bytes : List ℕ) (file : CFile) (asked : CValue) (a : ℕ) where
   }
 
   pub ipv6_found : (found : CFound) → asked.tag ≡ 192 → a ≡ number_in asked
-      → IsFoundInParts 128 0 wide_words 16 file.ipv6 bytes a found → IsFoundInFile bytes file asked found
+      → IsFoundInParts 128 2 wide_words 16 file.ipv6 bytes a found → IsFoundInFile bytes file asked found
   ipv6_found found tag is h = record {
     inside = h.inside;
     nothing = h.nothing;
@@ -134,7 +134,7 @@ module _ (bytes : List ℕ) (file : CFile) (asked : CValue) (a : ℕ) where
     address = λ _. inr tag;
     ipv4 = λ _ _ other _. absurd (omega (arith, tag, other));
     ipv6 = λ good same _.
-        moved 128 0 wide_words (λ ps n. IsMatched 128 (stored_networks wide_words ps) (value_in ps) bytes n found) (parts_at 16 file.ipv6 bytes)
+        moved 128 2 wide_words (λ ps n. IsMatched 128 (stored_networks wide_words ps) (value_in ps) bytes n found) (parts_at 16 file.ipv6 bytes)
         (ipv6_parts bytes) file.ipv6.steps (ipv6_counts bytes).steps a (number_in asked) (ipv6_at bytes file same)
         (ap (λ (f : CFile). f.ipv6.steps) same) is
         (h.matched (ipv6_inside bytes file same good.laid_out)) good.ipv6;
@@ -153,13 +153,13 @@ module _ (bytes : List ℕ) (file : CFile) (asked : CValue) (a : ℕ) where
   }
 
   pub ipv6_has : (code : ℕ) → asked.tag ≡ 192 → a ≡ number_in asked
-      → IsInSetAt 128 0 wide_words 16 file.ipv6 bytes a code → IsInSet bytes file asked code
+      → IsInSetAt 128 2 wide_words 16 file.ipv6 bytes a code → IsInSet bytes file asked code
   ipv6_has code tag is h = record {
     codes = h.codes;
     address = λ _. inr tag;
     ipv4 = λ _ _ other _. absurd (omega (arith, tag, other));
     ipv6 = λ good same _.
-        moved 128 0 wide_words (λ ps n. IsYesOrNo code (IsInNetworks 128 (stored_networks wide_words ps) n)) (parts_at 16 file.ipv6 bytes)
+        moved 128 2 wide_words (λ ps n. IsYesOrNo code (IsInNetworks 128 (stored_networks wide_words ps) n)) (parts_at 16 file.ipv6 bytes)
         (ipv6_parts bytes) file.ipv6.steps (ipv6_counts bytes).steps a (number_in asked) (ipv6_at bytes file same)
         (ap (λ (f : CFile). f.ipv6.steps) same) is
         (h.answer (ipv6_inside bytes file same good.laid_out)) good.ipv6;

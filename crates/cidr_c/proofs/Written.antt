@@ -115,7 +115,7 @@ refused_words : (networks : List CValue) (ipv4 : FileRows (List ℕ)) (ipv6 : Fi
 refused_words networks ipv4 ipv6 (inl (fine, (few, ascend, many))) is4 is6 =
     inr (inl (many_words 32 4 ipv4_steps (from_le_bytes w32) ipv4.keys.now (ipv4_networks networks) is4 many))
 refused_words networks ipv4 ipv6 (inr (before, (fine, (few, ascend, many)))) is4 is6 =
-    inr (inr (many_words 128 0 ipv6_steps wide_word ipv6.keys.now (ipv6_networks networks) is6 many))
+    inr (inr (many_words 128 2 ipv6_steps wide_word ipv6.keys.now (ipv6_networks networks) is6 many))
 
 pub too_many_words : (networks : List CValue) (ipv4 : FileRows (List ℕ)) (ipv6 : FileRows (List (List ℕ))) (error : WriteError) (why : TableError)
     → IsWriteRefused ipv4 ipv6 error → error ≡ Table why → why ≡ TooLarge

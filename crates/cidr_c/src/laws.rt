@@ -32,7 +32,7 @@ fn built_tables_are_accepted()
         → IsChecked 32 4 sizes_new.steps networks (take sizes_new.first first_new) (take sizes_new.words words_new) code
         → (code ≡ 0) ⊎ (code ≡ no_memory) }
     ensures ipv6 { (networks : List (ℕ × ℕ)) (first words first_new words_new : List ℕ) (sizes sizes_new : CTableSizes) (code : ℕ)
-        → IsBuilt 128 0 ipv6_steps networks first words first_new words_new sizes sizes_new 0
-        → IsChecked 128 0 sizes_new.steps networks (take sizes_new.first first_new) (take sizes_new.words words_new) code
+        → IsBuilt 128 2 ipv6_steps networks first words first_new words_new sizes sizes_new 0
+        → IsChecked 128 2 sizes_new.steps networks (take sizes_new.first first_new) (take sizes_new.words words_new) code
         → (code ≡ 0) ⊎ (code ≡ no_memory) }
 {}

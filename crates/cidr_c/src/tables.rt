@@ -353,7 +353,7 @@ pub extern "C" fn pcidr_ipv6_table_build(
     words: &mut [u32],
     sizes: &mut CTableSizes,
 ) -> u32
-    ensures { IsBuilt 128 0 ipv6_steps (map ipv6_pair networks.now) first.old words.old first.new words.new sizes.old sizes.new result }
+    ensures { IsBuilt 128 2 ipv6_steps (map ipv6_pair networks.now) first.old words.old first.new words.new sizes.old sizes.new result }
 {
     put_table::<Ipv6Halves>(alloc, networks, first, words, sizes)
 }
@@ -383,7 +383,7 @@ pub extern "C" fn pcidr_ipv6_table_check(
     words: &[u32],
     steps: u32,
 ) -> u32
-    ensures { IsChecked 128 0 steps (map ipv6_pair networks.now) first.now words.now result }
+    ensures { IsChecked 128 2 steps (map ipv6_pair networks.now) first.now words.now result }
 {
     check_code::<Ipv6Halves>(alloc, networks, first, words, steps)
 }
@@ -411,7 +411,7 @@ pub extern "C" fn pcidr_ipv6_table_lookup(
     table: &CTable,
     address: &CValue,
 ) -> u32
-    ensures { IsRowFound 128 0 table.now.steps table.now.rows first.now words.now (ipv6_pair address.now) result }
+    ensures { IsRowFound 128 2 table.now.steps table.now.rows first.now words.now (ipv6_pair address.now) result }
 {
     row_in::<Ipv6Halves>(first, words, table.steps, table.rows, address)
 }
@@ -439,7 +439,7 @@ pub extern "C" fn pcidr_ipv6_table_lookup_each(
     asked: &[CValue],
     out: &mut [u32],
 ) -> u32
-    ensures { AreFound 128 0 table.now.steps table.now.rows first.now words.now (map ipv6_pair asked.now) out.old out.new result }
+    ensures { AreFound 128 2 table.now.steps table.now.rows first.now words.now (map ipv6_pair asked.now) out.old out.new result }
 {
     put_rows::<Ipv6Halves>(first, words, table.steps, table.rows, asked, out)
 }

@@ -178,7 +178,7 @@ counts_below c rest rows entries nodes steps values others =
     (below_more bound 0 rest (omega arith) others)))))
 
 module _ {A B : Type 0} (value_a : A → ℕ) (value_b : B → ℕ) (ipv4 : Contents A) (ipv6 : Contents B) (good_a : AreContents 32 4 value_a ipv4)
-    (good_b : AreContents 128 0 value_b ipv6) where
+    (good_b : AreContents 128 2 value_b ipv6) where
   pub head_below : AreBelow (2 ^ 32) (head_of (counts_of ipv4) (counts_of ipv6))
   head_below =
       let a = counts_of ipv4 in
@@ -205,13 +205,13 @@ module _ {A B : Type 0} (value_a : A → ℕ) (value_b : B → ℕ) (ipv4 : Cont
         let p4 = parts_written value_a word_bytes ipv4 in
         let p6 = parts_written value_b wide_bytes ipv6 in
         let s4 = sizes_are 32 4 value_a ipv4 good_a 4 words word_bytes length-word_bytes spells_words in
-        let s6 = sizes_are 128 0 value_b ipv6 good_b 16 wide_words wide_bytes length-wide_bytes spells_wide in
+        let s6 = sizes_are 128 2 value_b ipv6 good_b 16 wide_words wide_bytes length-wide_bytes spells_wide in
         let t4 = is_table 32 4 value_a ipv4 good_a 4 words word_bytes length-word_bytes spells_words in
-        let t6 = is_table 128 0 value_b ipv6 good_b 16 wide_words wide_bytes length-wide_bytes spells_wide in
+        let t6 = is_table 128 2 value_b ipv6 good_b 16 wide_words wide_bytes length-wide_bytes spells_wide in
         let h4 = has_rows 32 4 value_a ipv4 good_a 4 words word_bytes length-word_bytes spells_words in
-        let h6 = has_rows 128 0 value_b ipv6 good_b 16 wide_words wide_bytes length-wide_bytes spells_wide in
+        let h6 = has_rows 128 2 value_b ipv6 good_b 16 wide_words wide_bytes length-wide_bytes spells_wide in
         let f4 = has_few_words 32 4 value_a ipv4 good_a 4 words word_bytes length-word_bytes spells_words in
-        let f6 = has_few_words 128 0 value_b ipv6 good_b 16 wide_words wide_bytes length-wide_bytes spells_wide in
+        let f6 = has_few_words 128 2 value_b ipv6 good_b 16 wide_words wide_bytes length-wide_bytes spells_wide in
         let e4 = parts_a a b p4 p6 bytes head_below is s4 s6 in
         let e6 = parts_b a b p4 p6 bytes head_below is s4 s6 in
         let steps4 : (ipv4_counts bytes).steps ≡ ipv4.steps = ap (λ (c : Counts). c.steps) (counts_a a b p4 p6 bytes head_below is s4 s6) in
@@ -221,7 +221,7 @@ module _ {A B : Type 0} (value_a : A → ℕ) (value_b : B → ℕ) (ipv4 : Cont
           record {
             laid_out = laid_out a b p4 p6 bytes head_below is s4 s6;
             ipv4 = subst (λ (ps : List (List ℕ)). IsStoredTable 32 4 words ps (ipv4_counts bytes).steps) (sym e4) (subst (λ (n : ℕ). IsStoredTable 32 4 words p4 n) (sym steps4) t4);
-            ipv6 = subst (λ (ps : List (List ℕ)). IsStoredTable 128 0 wide_words ps (ipv6_counts bytes).steps) (sym e6) (subst (λ (n : ℕ). IsStoredTable 128 0 wide_words p6 n) (sym steps6) t6);
+            ipv6 = subst (λ (ps : List (List ℕ)). IsStoredTable 128 2 wide_words ps (ipv6_counts bytes).steps) (sym e6) (subst (λ (n : ℕ). IsStoredTable 128 2 wide_words p6 n) (sym steps6) t6);
           },
           record {
             ipv4 = subst (λ (ps : List (List ℕ)). HasFewWords words ps) (sym e4) f4;

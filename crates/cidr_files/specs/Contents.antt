@@ -71,7 +71,7 @@ pub record AreWritable {W : Type 0} (w padding : ℕ) (steps : ℕ → ℕ) (val
 abbrev pub IsWriteRefused : FileRows (List ℕ) → FileRows (List (List ℕ)) → WriteError → Type 0
 IsWriteRefused ipv4 ipv6 error =
     AreRowsUnwritten 32 4 ipv4_steps (from_le_bytes w32) ipv4 error
-    ⊎ (AreWritable 32 4 ipv4_steps (from_le_bytes w32) ipv4 × AreRowsUnwritten 128 0 ipv6_steps wide_word ipv6 error)
+    ⊎ (AreWritable 32 4 ipv4_steps (from_le_bytes w32) ipv4 × AreRowsUnwritten 128 2 ipv6_steps wide_word ipv6 error)
 
 -- ---- the bytes of the file of rows
 abbrev pub counts_of : {W : Type 0} → Contents W → Counts
@@ -110,7 +110,7 @@ pub record IsFileOfRows (ipv4 : FileRows (List ℕ)) (ipv6 : FileRows (List (Lis
   pub ipv4_contents : Contents (List ℕ)
   pub ipv6_contents : Contents (List (List ℕ))
   pub ipv4_are : AreContents 32 4 (from_le_bytes w32) ipv4_contents
-  pub ipv6_are : AreContents 128 0 wide_word ipv6_contents
+  pub ipv6_are : AreContents 128 2 wide_word ipv6_contents
   pub ipv4_rows : ipv4_contents.rows.now ≡ ipv4
   pub ipv6_rows : ipv6_contents.rows.now ≡ ipv6
   pub ipv4_own : ipv4_contents.steps ≡ ipv4_steps (length ipv4.keys.now)

@@ -59,4 +59,4 @@ no_fault_of_bytes bytes Long good small wrong = absurd (omega (arith, wrong.2, g
 no_fault_of_bytes bytes (Ipv4 fault) good small wrong =
     inl (ap Ipv4 (no_table_fault 32 4 words (ipv4_parts bytes) (ipv4_counts bytes).steps fault good.ipv4 small.ipv4 wrong.1))
 no_fault_of_bytes bytes (Ipv6 fault) good small wrong =
-    inr (ap Ipv6 (no_table_fault 128 0 wide_words (ipv6_parts bytes) (ipv6_counts bytes).steps fault good.ipv6 small.ipv6 wrong.2))
+    inr (ap Ipv6 (no_table_fault 128 2 wide_words (ipv6_parts bytes) (ipv6_counts bytes).steps fault good.ipv6 small.ipv6 wrong.2))

@@ -29,4 +29,4 @@ IsFaultOfBytes bytes Long = (word_at bytes 0 ≡ magic) × (word_at bytes 1 ≡ 
 IsFaultOfBytes bytes (Ipv4 fault) = IsLaidOut bytes × IsTableFault 32 4 words (ipv4_parts bytes) (ipv4_counts bytes).steps fault
 IsFaultOfBytes bytes (Ipv6 fault) =
     IsLaidOut bytes × IsStoredTable 32 4 words (ipv4_parts bytes) (ipv4_counts bytes).steps
-    × IsTableFault 128 0 wide_words (ipv6_parts bytes) (ipv6_counts bytes).steps fault
+    × IsTableFault 128 2 wide_words (ipv6_parts bytes) (ipv6_counts bytes).steps fault

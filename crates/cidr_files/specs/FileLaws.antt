@@ -43,9 +43,9 @@ one_file ipv4 ipv6 bytes bytes' one other =
     let steps4 = one.ipv4_own ∙ sym other.ipv4_own in
     let steps6 = one.ipv6_own ∙ sym other.ipv6_own in
     let counts4 = same_counts 32 4 (from_le_bytes w32) one.ipv4_contents other.ipv4_contents one.ipv4_are other.ipv4_are rows4 steps4 in
-    let counts6 = same_counts 128 0 wide_word one.ipv6_contents other.ipv6_contents one.ipv6_are other.ipv6_are rows6 steps6 in
+    let counts6 = same_counts 128 2 wide_word one.ipv6_contents other.ipv6_contents one.ipv6_are other.ipv6_are rows6 steps6 in
     let parts4 = same_parts 32 4 (from_le_bytes w32) one.ipv4_contents other.ipv4_contents one.ipv4_are other.ipv4_are rows4 steps4 word_bytes in
-    let parts6 = same_parts 128 0 wide_word one.ipv6_contents other.ipv6_contents one.ipv6_are other.ipv6_are rows6 steps6 wide_bytes in
+    let parts6 = same_parts 128 2 wide_word one.ipv6_contents other.ipv6_contents one.ipv6_are other.ipv6_are rows6 steps6 wide_bytes in
     one.bytes_are
     ∙ (ap₂ (λ (head rest : List ℕ). head ++ rest) (ap₂ (λ (x y : Counts). spelled word_bytes (head_of x y)) counts4 counts6)
     (ap₂ (λ (x y : List (List ℕ)). joined_parts x ++ joined_parts y) parts4 parts6)

@@ -45,7 +45,7 @@ pub record IsStoredTable (w padding : ℕ) (numbers : List ℕ → List ℕ) (pa
 pub record IsFile (bytes : List ℕ) : Type 0 where
   pub laid_out : IsLaidOut bytes
   pub ipv4 : IsStoredTable 32 4 words (ipv4_parts bytes) (ipv4_counts bytes).steps
-  pub ipv6 : IsStoredTable 128 0 wide_words (ipv6_parts bytes) (ipv6_counts bytes).steps
+  pub ipv6 : IsStoredTable 128 2 wide_words (ipv6_parts bytes) (ipv6_counts bytes).steps
 
 -- a table within the limits of a check
 pub record HasFewWords (numbers : List ℕ → List ℕ) (parts : List (List ℕ)) : Type 0 where

@@ -26,7 +26,7 @@ pub fn file_of(
     ipv6: &Contents<'_, Ipv6Bytes>,
 ) -> Result<Vec<u8>, AllocError>
     requires ipv4 { AreContents 32 4 (from_le_bytes w32) ipv4.now }
-    requires ipv6 { AreContents 128 0 wide_word ipv6.now }
+    requires ipv6 { AreContents 128 2 wide_word ipv6.now }
     ensures file { IfOk result (λ bytes. IsFile bytes.items) }
     ensures small { IfOk result (λ bytes. IsSmall bytes.items) }
     ensures zeros { IfOk result (λ bytes. HasZerosBetween bytes.items) }

@@ -13,7 +13,7 @@ use Rattle.cidr_lookup.specs.Passing.{HasNumber, at}
 use Rattle.cidr_lookup.proofs.Longest.{inside, length_network, row_within}
 use Rattle.cidr_lookup.proofs.Numbers.{nests}
 use Rattle.cidr_lookup.specs.Nodes.{AllHave}
-use Rattle.cidr_lookup.proofs.Blocks.{cut, in_block, whole_number}
+use Rattle.cidr_lookup.proofs.Blocks.{cut, in_block}
 use Rattle.cidr_lookup.specs.Tables.{IsAnswer}
 
 -- ---- a number has one answer
@@ -115,10 +115,9 @@ module _ (w padding : ℕ) (networks : List (ℕ × ℕ)) (starts answers : List
         ranges.changes k more (sym one ∙ two)
 
   -- so a block has parts where a range begins in it, behind the last that begins at most with its first number
-  pub divided : (steps block k count : ℕ) → length starts ≡ count → AreAscendingNetworks w networks → w + padding ≤ 128 → (block + 1) * 2 ^ (6 * steps) ≤ 2 ^ (w + padding) → k < count
-      → start k ≤ block * 2 ^ (6 * steps) % 2 ^ 128 → (k + 1 < count → block * 2 ^ (6 * steps) % 2 ^ 128 < start (k + 1)) → ((k + 1 < count → block < start (k + 1) / 2 ^ (6 * steps)) → ⊥)
-      → (0 < steps) × ¬ ((value : ℕ) × AllHave (IsAnswer w padding networks) steps block value)
-  divided steps block k count size good wide fits within from behind other =
-      let at = cut steps block (w + padding) k count (start (k + 1)) wide fits behind other in
-      let number = whole_number steps block (w + padding) wide fits in
-      (at.0, parted steps block k fits (omega arith) (omega arith) good (omega (arith, at.1)) at.2 at.3)
+  pub divided : (steps block k count : ℕ) → length starts ≡ count → AreAscendingNetworks w networks → (block + 1) * 2 ^ (6 * steps) ≤ 2 ^ (w + padding) → k < count
+      → start k ≤ block * 2 ^ (6 * steps) → (k + 1 < count → block * 2 ^ (6 * steps) < start (k + 1)) → ((k + 1 < count → block < start (k + 1) / 2 ^ (6 * steps)) → ⊥)
+      → ¬ ((value : ℕ) × AllHave (IsAnswer w padding networks) steps block value)
+  divided steps block k count size good fits within from behind other =
+      let at = cut steps block k count (start (k + 1)) behind other in
+      parted steps block k fits (omega arith) from good (omega (arith, at.0)) at.1 at.2

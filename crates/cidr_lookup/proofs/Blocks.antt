@@ -1,9 +1,10 @@
 -- Blocks of 64 ^ steps numbers, and the 64 parts of one.
-use Rattle.std.proofs.Common.{◌≡◌, sym, ap, ◌∙◌, arith, inl, inr, ℕ, zero, suc, ◌+◌, ◌-◌, ◌*◌, ◌/◌, ◌%◌, ◌^◌, ◌<◌, ◌≤◌}
-use Rattle.std.proofs.Math.Nat.{mod-eq_of_lt, mul_assoc}
+use Rattle.std.proofs.Common.{◌≡◌, sym, ap, ◌∙◌, arith, inl, inr, ℕ, zero, suc, ◌+◌, ◌-◌, ◌*◌, ◌/◌, ◌%◌, ◌^◌, ◌<◌, ◌≤◌, List, get_or, length, map}
+use Rattle.std.proofs.Math.Nat.{mul_assoc}
 use Rattle.std.proofs.Math.Pow.{pow_mono}
 use Rattle.std.proofs.lemmas.Bool.{cases_lt}
-use Rattle.std.proofs.lemmas.Nat.{pow_pos, pow-add, mod_below, mul-le, one_shl, shl-shr, le-div, div_below, div-add-mod'}
+use Rattle.std.proofs.lemmas.List.{get_or-map}
+use Rattle.std.proofs.lemmas.Nat.{pow_pos, pow-add, mod_below, mul-le, one_shl, shl-shr, shr-shr, shr_below, shr_split, le-div, div_below, div-add-mod', div-mul-add, mod-mul-add}
 
 -- a number of a block is between its ends
 pub in_block : (number block s : ℕ) → 0 < s → number / s ≡ block → (block * s ≤ number) × (number < (block + 1) * s)
@@ -33,13 +34,6 @@ power steps some =
     let e : 6 * steps ≡ 6 + 6 * (steps - 1) = omega arith in
     ap (λ j. 2 ^ j) e ∙ pow-add 2 6 (6 * (steps - 1))
 
--- the first number of a block fits
-pub whole_number : (steps block size : ℕ) → size ≤ 128 → (block + 1) * 2 ^ (6 * steps) ≤ 2 ^ size → block * 2 ^ (6 * steps) % 2 ^ 128 ≡ block * 2 ^ (6 * steps)
-whole_number steps block size wide fits =
-    let most : 2 ^ size ≤ 2 ^ 128 = pow_mono {j = 128} wide in
-    let less : block * 2 ^ (6 * steps) < 2 ^ 128 = omega (arith, pow_pos (6 * steps)) in
-    mod-eq_of_lt less
-
 -- the parts before one begin and end in the block
 pub part_ends : (steps block part : ℕ) → 0 < steps → part ≤ 64 → (block * 64 + part) * 2 ^ (6 * (steps - 1)) ≤ (block + 1) * 2 ^ (6 * steps)
 part_ends steps block part some le =
@@ -61,30 +55,143 @@ part_fits steps block part limit some l fits =
     let up = part_ends steps block (part + 1) some (omega arith) in
     omega (arith, up, ap (λ n. n * 2 ^ (6 * (steps - 1))) e)
 
-pub part_number : (steps block part size : ℕ) → 0 < steps → part < 64 → size ≤ 128 → (block + 1) * 2 ^ (6 * steps) ≤ 2 ^ size → block * 64 + part < 2 ^ 128
+pub part_number : (steps block part size : ℕ) → 1 < steps → part < 64 → size ≤ 130 → (block + 1) * 2 ^ (6 * steps) ≤ 2 ^ size → block * 64 + part < 2 ^ 128
 part_number steps block part size some l wide fits =
     let p = 2 ^ (6 * (steps - 1)) in
-    let most : 2 ^ size ≤ 2 ^ 128 = pow_mono {j = 128} wide in
-    let up : (block * 64 + part + 1) * 1 ≤ (block * 64 + part + 1) * p = mul-le (block * 64 + part + 1) 1 (block * 64 + part + 1) p (omega arith) (omega (arith, pow_pos (6 * (steps - 1)))) in
-    omega (arith, up, part_fits steps block part (2 ^ size) some l fits)
+    let most : 2 ^ size ≤ 2 ^ 130 = pow_mono {j = 130} wide in
+    let six : 2 ^ 6 ≤ p = pow_mono {i = 6} {j = 6 * (steps - 1)} (omega arith) in
+    let up : (block * 64 + part + 1) * 2 ^ 6 ≤ (block * 64 + part + 1) * p = mul-le (block * 64 + part + 1) (2 ^ 6) (block * 64 + part + 1) p (omega arith) six in
+    omega (arith, up, most, part_fits steps block part (2 ^ size) (omega arith) l fits)
 
 -- a block in which a range begins: the range behind the last one that begins at most with its first number
-some_steps : (steps block next : ℕ) → block * 2 ^ (6 * steps) < next → next / 2 ^ (6 * steps) ≤ block → 0 < steps
-some_steps zero block next lt le = absurd (omega arith)
-some_steps (suc steps) block next lt le = omega arith
-
-pub cut : (steps block size k count next : ℕ) → size ≤ 128 → (block + 1) * 2 ^ (6 * steps) ≤ 2 ^ size → (k + 1 < count → block * 2 ^ (6 * steps) % 2 ^ 128 < next)
-    → ((k + 1 < count → block < next / 2 ^ (6 * steps)) → ⊥)
-    → (0 < steps) × (k + 1 < count) × (block * 2 ^ (6 * steps) < next) × (next / 2 ^ (6 * steps) ≤ block)
-cut steps block size k count next wide fits behind other = elim (cases_lt (k + 1) count) [
+pub cut : (steps block k count next : ℕ) → (k + 1 < count → block * 2 ^ (6 * steps) < next) → ((k + 1 < count → block < next / 2 ^ (6 * steps)) → ⊥)
+    → (k + 1 < count) × (block * 2 ^ (6 * steps) < next) × (next / 2 ^ (6 * steps) ≤ block)
+cut steps block k count next behind other = elim (cases_lt (k + 1) count) [
   | inl more ↦ elim (cases_lt block (next / 2 ^ (6 * steps))) [
     | inl less ↦ absurd (other (λ _. less))
-    | inr inner ↦
-        let lt : block * 2 ^ (6 * steps) < next = omega (arith, behind more, whole_number steps block size wide fits) in
-        (some_steps steps block next lt inner, more, lt, inner)
+    | inr inner ↦ (more, behind more, omega (arith, inner))
   ]
   | inr past ↦ absurd (other (λ more. absurd (omega arith)))
 ]
+
+-- what is behind the first number of a part that it begins in has more than one number, and so has steps
+pub deeper : (steps number next : ℕ) → number * 2 ^ (6 * (steps - 1)) < next → next / 2 ^ (6 * (steps - 1)) ≤ number → 1 < steps
+deeper zero number next lt le = absurd (omega arith)
+deeper (suc zero) number next lt le = absurd (omega arith)
+deeper (suc (suc steps)) number next lt le = omega arith
+
+-- ---- numbers with zeros behind them, and the addresses that they are of
+pub scaled : (x p s : ℕ) → p ≤ s → x * 2 ^ p / 2 ^ s ≡ x / 2 ^ (s - p)
+scaled x p s le =
+    let e : p + (s - p) ≡ s = omega arith in
+    ap (λ j. x * 2 ^ p / 2 ^ j) (sym e) ∙ (sym (shr-shr (x * 2 ^ p) p (s - p)) ∙ ap (λ y. y / 2 ^ (s - p)) (shl-shr x p))
+
+-- the number of one of them
+pub start_at : {W : Type 0} (value : W → ℕ) (starts : List W) (j : ℕ) (one : W) → one ≡ get_or starts j one → j < length starts → get_or (map value starts) j 0 ≡ value one
+start_at value starts j one is l = get_or-map value starts j one 0 l ∙ ap value (sym is)
+
+-- where another range begins in a block
+pub begun : (next long block at : ℕ) → ((next < long → block < at) → ⊥) → (next < long) × (at ≤ block)
+begun next long block at other = elim (cases_lt next long) [
+  | inl more ↦ elim (cases_lt block at) [
+    | inl less ↦ absurd (other (λ _. less))
+    | inr not_less ↦ (more, omega (arith, not_less))
+  ]
+  | inr past ↦ absurd (other (λ more. absurd (omega (arith, past, more))))
+]
+
+pub later : (steps block part part' : ℕ) → part ≤ part' → (block * 64 + part) * 2 ^ (6 * (steps - 1)) ≤ (block * 64 + part') * 2 ^ (6 * (steps - 1))
+later steps block part part' le = mul-le (block * 64 + part) (2 ^ (6 * (steps - 1))) (block * 64 + part') (2 ^ (6 * (steps - 1))) (omega arith) (omega arith)
+
+pub padded_fits : (n w p : ℕ) → n < 2 ^ w → n * 2 ^ p < 2 ^ (w + p)
+padded_fits n w p lt =
+    let up : (n + 1) * 2 ^ p ≤ 2 ^ w * 2 ^ p = mul-le (n + 1) (2 ^ p) (2 ^ w) (2 ^ p) (omega arith) (omega arith) in
+    omega (arith, up, pow-add 2 w p, pow_pos p)
+
+pub far : (a n s : ℕ) → 0 < s → n / s < a → n < a * s
+far a n s some lt =
+    let up : (n / s + 1) * s ≤ a * s = mul-le (n / s + 1) s a s (omega arith) (omega arith) in
+    omega (arith, div-add-mod' n s, mod_below n s some, up)
+
+pub near : (a n s : ℕ) → a ≤ n / s → a * s ≤ n
+near a n s le = omega (arith, div-add-mod' n s, mul-le a s (n / s) s le (omega arith))
+
+pub no_rest : (r s : ℕ) → 0 < s → r * s ≡ 0 → r ≡ 0
+no_rest r s some none = elim (cases_lt 0 r) [
+  | inl more ↦ absurd (omega (arith, mul-le 1 s r s (omega arith) (omega arith), none))
+  | inr no_more ↦ omega arith
+]
+
+-- the rest behind a multiple
+pub rest : (x p q : ℕ) → x % 2 ^ q * 2 ^ p ≡ x * 2 ^ p % 2 ^ (q + p)
+rest x p q =
+    let r = x % 2 ^ q in
+    let less : r < 2 ^ q = mod_below x (2 ^ q) (pow_pos q) in
+    let below : r * 2 ^ p < 2 ^ (q + p) =
+    let up : (r + 1) * 2 ^ p ≤ 2 ^ q * 2 ^ p = mul-le (r + 1) (2 ^ p) (2 ^ q) (2 ^ p) (omega arith) (omega arith) in
+    omega (arith, up, pow-add 2 q p, pow_pos p) in
+    let whole : x * 2 ^ p ≡ x / 2 ^ q * 2 ^ (q + p) + r * 2 ^ p =
+    ap (λ n. n * 2 ^ p) (sym (div-add-mod' x (2 ^ q))) ∙ (omega arith ∙ ap (λ n. n + r * 2 ^ p) (mul_assoc (x / 2 ^ q) (2 ^ q) (2 ^ p) ∙ ap (λ n. x / 2 ^ q * n) (sym (pow-add 2 q p)))) in
+    sym (ap (λ n. n % 2 ^ (q + p)) whole ∙ mod-mul-add (x / 2 ^ q) (2 ^ (q + p)) (r * 2 ^ p) below)
+
+-- the address of the first number of a part
+module _ (steps block part padding : ℕ) (some : 0 < steps) (less : part < 64) (zeros : padding ≤ 6) where
+  abbrev before : ℕ
+  before = part * 2 ^ (6 * (steps - 1))
+
+  block_is : block * 2 ^ (6 * steps - padding) * 2 ^ padding ≡ block * 2 ^ (6 * steps)
+  block_is =
+      let e : 6 * steps - padding + padding ≡ 6 * steps = omega arith in
+      mul_assoc block (2 ^ (6 * steps - padding)) (2 ^ padding) ∙ ap (λ n. block * n) (sym (pow-add 2 (6 * steps - padding) padding) ∙ ap (λ j. 2 ^ j) e)
+
+  number_is : (block * 64 + part) * 2 ^ (6 * (steps - 1)) ≡ block * 2 ^ (6 * steps - padding) * 2 ^ padding + before
+  number_is =
+      let p = 2 ^ (6 * (steps - 1)) in
+      let apart : (block * 64 + part) * p ≡ block * 64 * p + part * p = omega arith in
+      apart ∙ ap (λ n. n + part * p) (mul_assoc block 64 p ∙ (ap (λ n. block * n) (sym (power steps some)) ∙ sym block_is))
+
+  pub first_address : block * 2 ^ (6 * steps - padding) + before / 2 ^ padding ≡ (block * 64 + part) * 2 ^ (6 * (steps - 1)) / 2 ^ padding
+  first_address =
+      let s = 2 ^ padding in
+      let big = block * 2 ^ (6 * steps - padding) in
+      let split : big * s + before ≡ (big + before / s) * s + before % s = omega (arith, div-add-mod' before s) in
+      sym (ap (λ n. n / s) (number_is ∙ split) ∙ div-mul-add (big + before / s) s (before % s) (mod_below before s (pow_pos padding)))
+
+  module _ (w : ℕ) (wide : w ≤ 128) (fits : (block + 1) * 2 ^ (6 * steps) ≤ 2 ^ (w + padding)) where
+    -- it fits
+    pub address_fits : (block * 64 + part) * 2 ^ (6 * (steps - 1)) / 2 ^ padding < 2 ^ 128
+    address_fits =
+        let most : 2 ^ w ≤ 2 ^ 128 = pow_mono {j = 128} wide in
+        let up = part_fits steps block part (2 ^ (w + padding)) some less fits in
+        let in_part : (block * 64 + part) * 2 ^ (6 * (steps - 1)) < (block * 64 + part + 1) * 2 ^ (6 * (steps - 1)) = omega (arith, pow_pos (6 * (steps - 1))) in
+        let below : (block * 64 + part) * 2 ^ (6 * (steps - 1)) < 2 ^ (w + padding) = omega arith in
+        omega (arith, shr_below ((block * 64 + part) * 2 ^ (6 * (steps - 1))) w padding below)
+
+    pub block_address_fits : block * 2 ^ (6 * steps - padding) < 2 ^ 128
+    block_address_fits = omega (arith, first_address, address_fits)
+    -- and so does what is before the part
+
+  pub before_fits : 6 * steps ≤ 128 → before < 2 ^ 128
+  before_fits le =
+      let p = 2 ^ (6 * (steps - 1)) in
+      let up : (part + 1) * p ≤ 64 * p = mul-le (part + 1) p 64 p (omega arith) (omega arith) in
+      let most : 2 ^ (6 * steps) ≤ 2 ^ 128 = pow_mono {j = 128} le in
+      omega (arith, up, power steps some, most, pow_pos (6 * (steps - 1)))
+
+-- the parts of a block in whose part a number is
+pub part_of : (steps block next : ℕ) → 0 < steps → next / 2 ^ (6 * steps) ≡ block → next / 2 ^ (6 * (steps - 1)) ≡ block * 64 + next / 2 ^ (6 * (steps - 1)) % 64
+part_of steps block next some here =
+    let q = next / 2 ^ (6 * (steps - 1)) in
+    let e : 6 * (steps - 1) + 6 ≡ 6 * steps = omega arith in
+    let up : q / 2 ^ 6 ≡ block = shr-shr next (6 * (steps - 1)) 6 ∙ (ap (λ j. next / 2 ^ j) e ∙ here) in
+    omega (arith, shr_split q 6, up)
+
+pub parts_behind : (steps block next : ℕ) → 0 < steps → block < next / 2 ^ (6 * steps) → (block + 1) * 64 ≤ next / 2 ^ (6 * (steps - 1))
+parts_behind steps block next some lt =
+    let q = next / 2 ^ (6 * (steps - 1)) in
+    let e : 6 * (steps - 1) + 6 ≡ 6 * steps = omega arith in
+    let up : q / 2 ^ 6 ≡ next / 2 ^ (6 * steps) = shr-shr next (6 * (steps - 1)) 6 ∙ ap (λ j. next / 2 ^ j) e in
+    omega (arith, shr_split q 6, up)
 
 -- all blocks
 pub all_blocks : (steps size width : ℕ) → width ≡ size → 6 * steps < size → size ≤ 6 * steps + 32 → 1 * 2 ^ (width - 6 * steps) % 2 ^ 64 * 2 ^ (6 * steps) ≡ 2 ^ size
@@ -111,23 +218,3 @@ few_blocks steps size count all some few =
     let le : n ≤ 20 = omega arith in
     let most : 2 ^ n ≤ 2 ^ 20 = pow_mono {j = 20} le in
     omega (arith, is, most)
-
--- one of 64 parts is within them
-pub block_within : (steps first part limit : ℕ) → part < 64 → (first + 64) * 2 ^ (6 * steps) ≤ limit → (first + part + 1) * 2 ^ (6 * steps) ≤ limit
-block_within steps first part limit l fits =
-    omega (arith, mul-le (first + part + 1) (2 ^ (6 * steps)) (first + 64) (2 ^ (6 * steps)) (omega arith) (omega arith))
-
--- and the next begins no earlier
-pub later_block : (steps first part : ℕ) → (first + part) * 2 ^ (6 * steps) ≤ (first + (part + 1)) * 2 ^ (6 * steps)
-later_block steps first part = mul-le (first + part) (2 ^ (6 * steps)) (first + (part + 1)) (2 ^ (6 * steps)) (omega arith) (omega arith)
-
--- all parts of a block are within it
-pub all_parts : (steps block limit : ℕ) → 0 < steps → (block + 1) * 2 ^ (6 * steps) ≤ limit → (block * 64 + 64) * 2 ^ (6 * (steps - 1)) ≤ limit
-all_parts steps block limit some fits = omega (arith, part_ends steps block 64 some (omega arith))
-
-pub fits_number : (steps block size : ℕ) → size ≤ 128 → (block + 1) * 2 ^ (6 * steps) ≤ 2 ^ size → block < 2 ^ 128
-fits_number steps block size wide fits =
-    let p = 2 ^ (6 * steps) in
-    let most : 2 ^ size ≤ 2 ^ 128 = pow_mono {j = 128} wide in
-    let up : (block + 1) * 1 ≤ (block + 1) * p = mul-le (block + 1) 1 (block + 1) p (omega arith) (omega (arith, pow_pos (6 * steps))) in
-    omega (arith, up)

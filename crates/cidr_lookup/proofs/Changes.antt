@@ -18,17 +18,17 @@ module _ (Has : (number value : ℕ) → Type 0) where
       → (get_or changes i (0, 0)).1 < 2 ^ 31
   unfolding AreChanges
   values_small from end value [] lt known i l = absurd (omega arith)
-  values_small from end value (change ∷ changes) lt known zero l = (first_has (change.0 * 2 ^ 64) end change.1 changes known.2 known.5).0
-  values_small from end value (change ∷ changes) lt known (suc i) l = values_small (change.0 * 2 ^ 64) end change.1 changes known.2 known.5 i (omega arith)
+  values_small from end value (change ∷ changes) lt known zero l = (first_has (change.0 * 2 ^ 66) end change.1 changes known.2 known.5).0
+  values_small from end value (change ∷ changes) lt known (suc i) l = values_small (change.0 * 2 ^ 66) end change.1 changes known.2 known.5 i (omega arith)
 
   -- each change is behind the first number, and behind the changes before it
   pub behind : (from end value : ℕ) (changes : List (ℕ × ℕ)) → AreChanges Has from end value changes → (i : ℕ) → i < length changes
-      → ((get_or changes i (0, 0)).0 < 2 ^ 64) × (from < (get_or changes i (0, 0)).0 * 2 ^ 64)
+      → ((get_or changes i (0, 0)).0 < 2 ^ 64) × (from < (get_or changes i (0, 0)).0 * 2 ^ 66)
   unfolding AreChanges
   behind from end value [] known i l = absurd (omega arith)
   behind from end value (change ∷ changes) known zero l = (known.0, known.1)
   behind from end value (change ∷ changes) known (suc i) l =
-      let rest = behind (change.0 * 2 ^ 64) end change.1 changes known.5 i (omega arith) in
+      let rest = behind (change.0 * 2 ^ 66) end change.1 changes known.5 i (omega arith) in
       (rest.0, omega (arith, rest.1, known.1))
 
   ascend : (from end value : ℕ) (changes : List (ℕ × ℕ)) → AreChanges Has from end value changes → (i k : ℕ) → i < k → k < length changes
@@ -36,8 +36,8 @@ module _ (Has : (number value : ℕ) → Type 0) where
   unfolding AreChanges
   ascend from end value [] known i k lt l = absurd (omega arith)
   ascend from end value (change ∷ changes) known i zero lt l = absurd (omega arith)
-  ascend from end value (change ∷ changes) known zero (suc k) lt l = omega (arith, (behind (change.0 * 2 ^ 64) end change.1 changes known.5 k (omega arith)).1)
-  ascend from end value (change ∷ changes) known (suc i) (suc k) lt l = ascend (change.0 * 2 ^ 64) end change.1 changes known.5 i k (omega arith) (omega arith)
+  ascend from end value (change ∷ changes) known zero (suc k) lt l = omega (arith, (behind (change.0 * 2 ^ 66) end change.1 changes known.5 k (omega arith)).1)
+  ascend from end value (change ∷ changes) known (suc i) (suc k) lt l = ascend (change.0 * 2 ^ 66) end change.1 changes known.5 i k (omega arith) (omega arith)
 
   pub ordered : (from end value : ℕ) (changes : List (ℕ × ℕ)) → AreChanges Has from end value changes → AreOrdered changes
   ordered from end value changes known = record {
@@ -48,19 +48,19 @@ module _ (Has : (number value : ℕ) → Type 0) where
   -- a number has the value of the last change up to it
   found_has : (from end value : ℕ) (changes : List (ℕ × ℕ)) (number result : ℕ) → AreChanges Has from end value changes → from ≤ number → number < end
       → (count : ℕ) → count ≤ length changes → result ≡ get_or (value ∷ map (λ (change : ℕ × ℕ). change.1) changes) count 0
-      → ((i : ℕ) → i < count → (get_or changes i (0, 0)).0 ≤ number / 2 ^ 64) → (count < length changes → number / 2 ^ 64 < (get_or changes count (0, 0)).0) → Has number result
+      → ((i : ℕ) → i < count → (get_or changes i (0, 0)).0 ≤ number / 2 ^ 66) → (count < length changes → number / 2 ^ 66 < (get_or changes count (0, 0)).0) → Has number result
   unfolding AreChanges
   found_has from end value [] number result known le lt count within is before after =
       let z : count ≡ 0 = omega arith in
       subst (Has number) (sym (is ∙ ap (λ n. get_or (value ∷ []) n 0) z)) (known.1 number le lt)
   found_has from end value (change ∷ changes) number result known le lt zero within is before after =
-      subst (Has number) (sym is) (known.4.1 number le (omega (arith, after (omega arith), shr_split number 64, mod_below number (2 ^ 64) (pow_pos 64))))
+      subst (Has number) (sym is) (known.4.1 number le (omega (arith, after (omega arith), shr_split number 66, mod_below number (2 ^ 66) (pow_pos 66))))
   found_has from end value (change ∷ changes) number result known le lt (suc count) within is before after =
-      found_has (change.0 * 2 ^ 64) end change.1 changes number result known.5 (omega (arith, before 0 (omega arith), shr_split number 64)) lt count (omega arith) is
+      found_has (change.0 * 2 ^ 66) end change.1 changes number result known.5 (omega (arith, before 0 (omega arith), shr_split number 66)) lt count (omega arith) is
       (λ i l. before (suc i) (omega arith)) (λ l. after (omega arith))
 
   pub list_has : (steps number value : ℕ) (changes : List (ℕ × ℕ)) (result : ℕ) → HasList Has steps (number / 2 ^ (6 * steps)) value changes
-      → IsValueAt value changes (number / 2 ^ 64) result → Has number result
+      → IsValueAt value changes (number / 2 ^ 66) result → Has number result
   list_has steps number value changes result known at =
       let block = number / 2 ^ (6 * steps) in
       let inside = in_block number block (2 ^ (6 * steps)) (pow_pos (6 * steps)) refl in
@@ -69,10 +69,10 @@ module _ (Has : (number value : ℕ) → Type 0) where
   module _ (one_value : (number value value' : ℕ) → Has number value → Has number value' → value ≡ value') where
     -- numbers that have one value have no change between them
     no_earlier : (from end last value value' : ℕ) (change : ℕ × ℕ) (changes : List (ℕ × ℕ)) → HaveBefore Has from last value
-        → AreChanges Has from end value' (change ∷ changes) → change.0 * 2 ^ 64 < last → ⊥
+        → AreChanges Has from end value' (change ∷ changes) → change.0 * 2 ^ 66 < last → ⊥
     unfolding AreChanges
     no_earlier from end last value value' change changes have known lt =
-        let at = change.0 * 2 ^ 64 in
+        let at = change.0 * 2 ^ 66 in
         let one = one_value from value value' (have.1 from (omega arith) (omega (arith, known.1, lt))) (known.4.1 from (omega arith) known.1) in
         let two = one_value at value change.1 (have.1 at (omega (arith, known.1)) lt) (first_has at end change.1 changes known.2 known.5).1 in
         known.3 (sym one ∙ two)
@@ -85,13 +85,13 @@ module _ (Has : (number value : ℕ) → Type 0) where
     one_changes from end value value' (change ∷ changes) [] lt known known' = absurd (no_earlier from end end value' value change changes known' known known.2)
     one_changes from end value value' (change ∷ changes) (change' ∷ changes') lt known known' = elim (cases_eq change.0 change'.0) [
       | inl e ↦
-          let rest = one_changes (change.0 * 2 ^ 64) end change.1 change'.1 changes changes' known.2 known.5
-          (subst (λ (s : ℕ). AreChanges Has (s * 2 ^ 64) end change'.1 changes') (sym e) known'.5) in
+          let rest = one_changes (change.0 * 2 ^ 66) end change.1 change'.1 changes changes' known.2 known.5
+          (subst (λ (s : ℕ). AreChanges Has (s * 2 ^ 66) end change'.1 changes') (sym e) known'.5) in
           let same : change ≡ change' = ap₂ (λ (a b : ℕ). (a, b)) e rest.0 in
           (one_value from value value' (known.4.1 from (omega arith) known.1) (known'.4.1 from (omega arith) known'.1), ap₂ (λ (c : ℕ × ℕ) (cs : List (ℕ × ℕ)). c ∷ cs) same rest.1)
       | inr other ↦ elim (cases_lt change.0 change'.0) [
-        | inl less ↦ absurd (no_earlier from end (change'.0 * 2 ^ 64) value' value change changes known'.4 known (omega (arith, less)))
-        | inr not_less ↦ absurd (no_earlier from end (change.0 * 2 ^ 64) value value' change' changes' known.4 known' (omega (arith, not_less, other)))
+        | inl less ↦ absurd (no_earlier from end (change'.0 * 2 ^ 66) value' value change changes known'.4 known (omega (arith, less)))
+        | inr not_less ↦ absurd (no_earlier from end (change.0 * 2 ^ 66) value value' change' changes' known.4 known' (omega (arith, not_less, other)))
       ]
     ]
 

@@ -103,13 +103,13 @@ changes_long padding starts answers k (suc n) = omega (arith, changes_long paddi
 -- the last `left` of n ranges from one on, and one fewer
 pub changes_left : (padding : ℕ) (starts answers : List ℕ) (from count at : ℕ) → at < count
     → changes_from padding starts answers (from + at) (count - at)
-    ≡ (get_or starts (from + at) 0 * 2 ^ padding / 2 ^ 64, get_or answers (from + at) 0) ∷ changes_from padding starts answers (from + (at + 1)) (count - (at + 1))
+    ≡ (get_or starts (from + at) 0 * 2 ^ padding / 2 ^ 66, get_or answers (from + at) 0) ∷ changes_from padding starts answers (from + (at + 1)) (count - (at + 1))
 unfolding changes_from
 changes_left padding starts answers from count at l =
     let e : count - at ≡ suc (count - (at + 1)) = omega arith in
     let k : from + at + 1 ≡ from + (at + 1) = omega arith in
     ap (changes_from padding starts answers (from + at)) e
-    ∙ ap (λ j. (get_or starts (from + at) 0 * 2 ^ padding / 2 ^ 64, get_or answers (from + at) 0) ∷ changes_from padding starts answers j (count - (at + 1))) k
+    ∙ ap (λ j. (get_or starts (from + at) 0 * 2 ^ padding / 2 ^ 66, get_or answers (from + at) 0) ∷ changes_from padding starts answers j (count - (at + 1))) k
 
 pub no_changes_left : (padding : ℕ) (starts answers : List ℕ) (from count at : ℕ) → count ≤ at → changes_from padding starts answers (from + at) (count - at) ≡ []
 unfolding changes_from
@@ -141,7 +141,7 @@ module _ (padding : ℕ) (starts answers : List ℕ) (from count : ℕ) where
   abbrev pub answers_left : ℕ → List ℕ
   answers_left at = map (λ (change : ℕ × ℕ). change.1) (changes_from padding starts answers (from + at) (count - at))
 
-  pub next_start : (at start : ℕ) → at < count → start ≡ get_or starts (from + at) 0 * 2 ^ padding / 2 ^ 64 → starts_left at ≡ start % 2 ^ 32 ∷ start / 2 ^ 32 ∷ starts_left (at + 1)
+  pub next_start : (at start : ℕ) → at < count → start ≡ get_or starts (from + at) 0 * 2 ^ padding / 2 ^ 66 → starts_left at ≡ start % 2 ^ 32 ∷ start / 2 ^ 32 ∷ starts_left (at + 1)
   next_start at start l is = ap (λ cs. flat_map change_words cs) (changes_left padding starts answers from count at l) ∙ ap (λ (s : ℕ). s % 2 ^ 32 ∷ s / 2 ^ 32 ∷ starts_left (at + 1)) (sym is)
 
   pub next_answer : (at : ℕ) → at < count → answers_left at ≡ get_or answers (from + at) 0 ∷ answers_left (at + 1)

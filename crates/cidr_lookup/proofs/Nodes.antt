@@ -1,12 +1,12 @@
 -- The runs of a node, which are counted by its marks.
-use Rattle.std.proofs.Common.{◌≡◌, refl, sym, ap, ap₂, subst, ◌∙◌, arith, inl, inr, Bool, true, Result, Ok, Err, ℕ, zero, suc, ◌+◌, ◌-◌, ◌*◌, ◌/◌, ◌%◌, ◌^◌, ◌<◌, ◌≤◌, ◌==◌, ◌||◌, not, if◌then◌else◌, List, [], ◌∷◌, ◌++◌, length, get_or, count_ones, append_assoc, length-append}
-use Rattle.std.proofs.Math.Nat.{pow-succ'}
-use Rattle.std.proofs.lemmas.Bool.{cases_Bool, cases_eq, cond-true, cond-false, eqb-true, or_parts, not-false, cond_both}
-use Rattle.std.proofs.lemmas.List.{append-nil, get_or_append_left, get_or_push}
-use Rattle.std.proofs.lemmas.Nat.{shr-shr, shr_high, ones_cat, ones_le_self, zero_from_ones}
+use Rattle.std.proofs.Common.{◌≡◌, ◌≢◌, refl, sym, ap, ap₂, subst, ◌∙◌, arith, add-one, inl, inr, Bool, true, false, Result, Ok, Err, ℕ, zero, suc, ◌+◌, ◌-◌, ◌*◌, ◌/◌, ◌%◌, ◌^◌, ◌<◌, ◌≤◌, ◌==◌, ◌||◌, not, if◌then◌else◌, List, [], ◌∷◌, ◌++◌, length, get_or, take, replicate, slice_set, count_ones, append_assoc, length-append, length-set, length-take-le, get_or-take}
+use Rattle.std.proofs.Math.Nat.{mul_assoc, mul_comm, pow-succ'}
+use Rattle.std.proofs.lemmas.Bool.{cases_Bool, cases_eq, cond-true, cond-false, eqb-true, eq-eqb, ne_eqb, or_parts, not-false, cond_both}
+use Rattle.std.proofs.lemmas.List.{append-nil, get_or_append_left, get_or-append_right, get_or-replicate, get_or_push, length-replicate, take_more_set}
+use Rattle.std.proofs.lemmas.Nat.{mul-le, pow-add, pow_pos, shr-shr, shr_high, ones_cat, ones_le_self, zero_from_ones}
 use Rattle.std.specs.Result.{OnErr}
 use Rattle.cidr_lookup.specs.Nodes.{begins_run, runs, marks, node}
-use Rattle.cidr_lookup.specs.Putting.{StopsBefore}
+use Rattle.cidr_lookup.specs.Putting.{AreRuns}
 
 abbrev pub mark : Bool → ℕ
 mark b = if b then 1 else 0
@@ -139,27 +139,145 @@ pub runs_more : (entries : List ℕ) (n : ℕ) → runs entries (n + 1) ≡ (if 
 unfolding runs
 runs_more entries n = ap (runs entries) (let e : n + 1 ≡ suc n = omega arith in e)
 
--- the words of a node, put one behind the other
-pub put_more : (entries : List ℕ) (n : ℕ) (front put new : List ℕ) → put ≡ front ++ runs entries n
-    → new ≡ (if begins_run entries n then put ++ get_or entries n 0 ∷ [] else put) → new ≡ front ++ runs entries (n + 1)
-put_more entries n front put new is all =
-    let b = begins_run entries n in
-    let more = runs entries n ++ get_or entries n 0 ∷ [] in
-    let next = runs_more entries n in
-    elim (cases_Bool b) [
-      | inl set ↦ all ∙ (cond-true b (put ++ get_or entries n 0 ∷ []) put set ∙ (ap (λ x. x ++ get_or entries n 0 ∷ []) is
-          ∙ (append_assoc front (runs entries n) (get_or entries n 0 ∷ []) ∙ ap (λ x. front ++ x) (sym (next ∙ cond-true b more (runs entries n) set)))))
-      | inr clear ↦ all ∙ (cond-false b (put ++ get_or entries n 0 ∷ []) put clear ∙ (is ∙ ap (λ x. front ++ x) (sym (next ∙ cond-false b more (runs entries n) clear))))
-    ]
+-- ---- parts that have one entry, behind others
+-- a part with the entry of the one before it begins no run, and one with another does
+no_begin : (entries : List ℕ) (n : ℕ) → 0 < n → get_or entries n 0 ≡ get_or entries (n - 1) 0 → begins_run entries n ≡ false
+no_begin entries n some same =
+    ap₂ (λ a b. a || not b) (ne_eqb n 0 (λ e. absurd (omega (arith, e, some)))) (eq-eqb (get_or entries n 0) (get_or entries (n - 1) 0) same)
 
-pub put_node : (entries front one two all : List ℕ) (number part : ℕ) → number ≡ marks entries 64 → part ≡ 64 → one ≡ front ++ number % 2 ^ 32 ∷ []
-    → two ≡ one ++ number / 2 ^ 32 ∷ [] → all ≡ two ++ runs entries part → all ≡ front ++ node entries
-put_node entries front one two all number part marked whole first second rest =
-    let low = number % 2 ^ 32 in
-    let high = number / 2 ^ 32 in
-    let joined : two ++ runs entries part ≡ front ++ low ∷ high ∷ runs entries part =
-    ap (λ x. x ++ runs entries part) (second ∙ ap (λ x. x ++ high ∷ []) first) ∙ (append_assoc (front ++ low ∷ []) (high ∷ []) (runs entries part) ∙ append_assoc front (low ∷ []) (high ∷ runs entries part)) in
-    rest ∙ (joined ∙ ap₂ (λ m n. front ++ m % 2 ^ 32 ∷ m / 2 ^ 32 ∷ runs entries n) marked whole)
+a_begin : (entries : List ℕ) (n : ℕ) → (0 < n → get_or entries n 0 ≢ get_or entries (n - 1) 0) → begins_run entries n ≡ true
+a_begin entries n other = elim (cases_eq n 0) [
+  | inl e ↦ ap (λ a. a || not (get_or entries n 0 == get_or entries (n - 1) 0)) (eq-eqb n 0 e)
+  | inr some ↦ ap₂ (λ a b. a || not b) (ne_eqb n 0 some) (ne_eqb (get_or entries n 0) (get_or entries (n - 1) 0) (other (omega arith)))
+]
+
+module _ (entries : List ℕ) (entry n : ℕ) (some : 0 < n) where
+  go_on : (k : ℕ) → ((i : ℕ) → n ≤ i + 1 → i < n + k → get_or entries i 0 ≡ entry) → (runs entries (n + k) ≡ runs entries n) × (marks entries (n + k) ≡ marks entries n * 2 ^ k)
+  go_on zero same =
+      let e : n + 0 ≡ n = omega arith in
+      (ap (runs entries) e, ap (marks entries) e ∙ omega arith)
+  go_on (suc k) same =
+      let m = n + k in
+      let e : n + suc k ≡ m + 1 = omega arith in
+      let old = go_on k (λ i le l. same i le (omega arith)) in
+      let no = no_begin entries m (omega arith) (same m (omega arith) (omega arith) ∙ sym (same (m - 1) (omega arith) (omega arith))) in (
+        ap (runs entries) e ∙ (runs_more entries m ∙ (cond-false (begins_run entries m) (runs entries m ++ get_or entries m 0 ∷ []) (runs entries m) no ∙ old.0)),
+        ap (marks entries) e ∙ (marks_more entries m ∙ (ap (λ b. marks entries m * 2 + mark b) no ∙ (none (marks entries m)
+            ∙ (ap (λ x. x * 2) old.1 ∙ (mul_assoc (marks entries n) (2 ^ k) 2 ∙ ap (λ p. marks entries n * p) (sym (pow-add 2 k 1) ∙ ap (λ j. 2 ^ j) (add-one k))))))),
+      )
+    where
+      none : (x : ℕ) → x * 2 + 0 ≡ x * 2
+      none x = omega arith
+
+module _ (before : List ℕ) (from end entry : ℕ) (long : length before ≡ from) (more : from < end) where
+  abbrev pub added : List ℕ
+  added = before ++ replicate (end - from) entry
+
+  old_part : (i : ℕ) → i < from → get_or added i 0 ≡ get_or before i 0
+  old_part i l = get_or_append_left before (replicate (end - from) entry) 0 i (omega (arith, long))
+
+  new_part : (i : ℕ) → from ≤ i → i < end → get_or added i 0 ≡ entry
+  new_part i le l =
+      get_or-append_right before (replicate (end - from) entry) from i 0 long le ∙ get_or-replicate (end - from) (i - from) entry 0 (omega arith)
+
+  pub added_long : length added ≡ end
+  added_long = omega (arith, length-append before (replicate (end - from) entry), length-replicate (end - from) entry, long)
+
+  front : (runs added from ≡ runs before from) × (marks added from ≡ marks before from)
+  front = same_node before added from old_part
+
+  all_is : from + (end - from) ≡ end
+  all_is = omega arith
+
+  pub added_same : 0 < from → get_or before (from - 1) 0 ≡ entry → (runs added end ≡ runs before from) × (marks added end ≡ marks before from * 2 ^ (end - from))
+  added_same some same =
+      let on = go_on added entry from some (end - from) (λ i le l. elim (cases_eq (i + 1) from) [
+        | inl e ↦ let last : i ≡ from - 1 = omega arith in old_part i (omega arith) ∙ (ap (λ j. get_or before j 0) last ∙ same)
+        | inr other ↦ new_part i (omega (arith, other)) (omega arith)
+      ]) in
+      (ap (runs added) (sym all_is) ∙ (on.0 ∙ front.0), ap (marks added) (sym all_is) ∙ (on.1 ∙ ap (λ m. m * 2 ^ (end - from)) front.1))
+
+  pub added_other : (0 < from → get_or before (from - 1) 0 ≢ entry)
+      → (runs added end ≡ runs before from ++ entry ∷ []) × (marks added end ≡ (marks before from * 2 + 1) * 2 ^ (end - from - 1))
+  added_other other =
+      let here = new_part from (omega arith) more in
+      let begins : begins_run added from ≡ true = a_begin added from (λ some same. other some (sym (old_part (from - 1) (omega arith)) ∙ (sym same ∙ here))) in
+      let on = go_on added entry (from + 1) (omega arith) (end - from - 1) (λ i le l. new_part i (omega arith) (omega arith)) in
+      let e : from + 1 + (end - from - 1) ≡ end = omega arith in (
+        ap (runs added) (sym e) ∙ (on.0 ∙ (runs_more added from ∙ (cond-true (begins_run added from) (runs added from ++ get_or added from 0 ∷ []) (runs added from) begins
+            ∙ ap₂ (λ r x. r ++ x ∷ []) front.0 here))),
+        ap (marks added) (sym e) ∙ (on.1 ∙ ap (λ m. m * 2 ^ (end - from - 1)) (marks_more added from ∙ ap₂ (λ m b. m * 2 + mark b) front.1 begins)),
+      )
+
+-- the runs of the first parts, and the last of them
+module _ (before : List ℕ) (from set : ℕ) (kept : List ℕ) (count : ℕ) (are : AreRuns before from set kept count) where
+  pub counted : count ≡ length (runs before from)
+  counted = sym (length-take-le count kept (omega (arith, are.few, are.most, are.room))) ∙ ap length are.are_runs
+
+  pub last_kept : 0 < from → (0 < count) × (get_or kept (count - 1) 0 ≡ get_or before (from - 1) 0)
+  last_kept some =
+      let n = from - 1 in
+      let e : suc n ≡ from = omega arith in
+      let last = last_run before n in
+      let size : length (runs before (suc n)) ≡ count = ap (λ k. length (runs before k)) e ∙ sym counted in
+      let pos : 0 < count = omega (arith, last.0, size) in (
+        pos,
+        sym (get_or-take count kept (count - 1) 0 (omega arith)) ∙ (ap (λ l. get_or l (count - 1) 0) are.are_runs
+            ∙ (ap (λ k. get_or (runs before k) (count - 1) 0) (sym e) ∙ (ap (λ c. get_or (runs before (suc n)) (c - 1) 0) (sym size) ∙ last.1))),
+      )
+
+  -- the marks leave room for one more
+  pub next_mark : from < 64 → set + 2 ^ (63 - from) < 2 ^ 64
+  next_mark l =
+      let m = marks before from in
+      let p = 2 ^ (63 - from) in
+      let one : 64 - from ≡ suc (63 - from) = omega arith in
+      let twice : 2 ^ (64 - from) ≡ p * 2 = ap (λ j. 2 ^ j) one ∙ omega (arith, pow-succ' 2 (63 - from)) in
+      let all : 2 ^ from * 2 ^ (64 - from) ≡ 2 ^ 64 = sym (pow-add 2 from (64 - from)) ∙ ap (λ j. 2 ^ j) (let e : from + (64 - from) ≡ 64 = omega arith in e) in
+      let up : (m + 1) * 2 ^ (64 - from) ≤ 2 ^ from * 2 ^ (64 - from) = mul-le (m + 1) (2 ^ (64 - from)) (2 ^ from) (2 ^ (64 - from)) (omega (arith, marks_fit before from)) (omega arith) in
+      omega (arith, are.marked, up, all, twice, pow_pos (63 - from))
+
+  -- parts of one entry more
+  module _ (end entry : ℕ) (more : from < end) (within : end ≤ 64) where
+    pub same_runs : 0 < from → get_or kept (count - 1) 0 ≡ entry → AreRuns (before ++ replicate (end - from) entry) end set kept count
+    same_runs some same =
+        let on = added_same before from end entry are.parts more some (sym (last_kept some).1 ∙ same) in
+        let e : end - from + (64 - end) ≡ 64 - from = omega arith in
+        record {
+          parts = added_long before from end entry are.parts more;
+          most = within;
+          marked = are.marked ∙ (ap (λ j. marks before from * 2 ^ j) (sym e) ∙ (ap (λ p. marks before from * p) (pow-add 2 (end - from) (64 - end))
+              ∙ (sym (mul_assoc (marks before from) (2 ^ (end - from)) (2 ^ (64 - end))) ∙ ap (λ m. m * 2 ^ (64 - end)) (sym on.1))));
+          room = are.room;
+          few = omega (arith, are.few);
+          are_runs = are.are_runs ∙ sym on.0;
+        }
+
+    pub other_runs : (0 < from → get_or kept (count - 1) 0 ≢ entry) → (set' : ℕ) (kept' : List ℕ) (count' : ℕ) → set' ≡ set + 2 ^ (63 - from) → kept' ≡ slice_set kept count entry → count' ≡ count + 1
+        → AreRuns (before ++ replicate (end - from) entry) end set' kept' count'
+    other_runs other set' kept' count' set_is kept_is count_is =
+        let on = added_other before from end entry are.parts more (λ some same. other some ((last_kept some).1 ∙ same)) in
+        let m = marks before from in
+        let p = 2 ^ (63 - from) in
+        let one : 64 - from ≡ suc (63 - from) = omega arith in
+        let twice : 2 ^ (64 - from) ≡ p * 2 = ap (λ j. 2 ^ j) one ∙ omega (arith, pow-succ' 2 (63 - from)) in
+        let e : end - from - 1 + (64 - end) ≡ 63 - from = omega arith in
+        let marked : (m * 2 + 1) * p ≡ set + p = omega (arith, ap (λ q. m * q) twice, are.marked, sym (mul_assoc m p 2), mul_assoc m 2 p, mul_comm p 2) in
+        record {
+          parts = added_long before from end entry are.parts more;
+          most = within;
+          marked = set_is ∙ (sym marked ∙ (ap (λ j. (m * 2 + 1) * 2 ^ j) (sym e) ∙ (ap (λ q. (m * 2 + 1) * q) (pow-add 2 (end - from - 1) (64 - end))
+              ∙ (sym (mul_assoc (m * 2 + 1) (2 ^ (end - from - 1)) (2 ^ (64 - end))) ∙ ap (λ n. n * 2 ^ (64 - end)) (sym on.1)))));
+          room = ap length kept_is ∙ (length-set kept count entry ∙ are.room);
+          few = omega (arith, count_is, are.few);
+          are_runs = ap₂ take count_is kept_is ∙ (take_more_set kept count entry (omega (arith, are.few, are.room, within)) ∙ (ap (λ r. r ++ entry ∷ []) are.are_runs ∙ sym on.0));
+        }
+
+-- the words of a node whose parts are all there
+pub whole_node : (entries : List ℕ) (set : ℕ) (kept : List ℕ) (count : ℕ) → AreRuns entries 64 set kept count → node entries ≡ set % 2 ^ 32 ∷ set / 2 ^ 32 ∷ take count kept
+whole_node entries set kept count are =
+    let set_is : marks entries 64 ≡ set = omega (arith, are.marked) in
+    ap₂ (λ m r. m % 2 ^ 32 ∷ m / 2 ^ 32 ∷ r) set_is (sym are.are_runs)
 
 -- the runs go on from those of fewer parts
 pub runs_go_on : (entries : List ℕ) (n k : ℕ) → k ≤ n → (rest : List ℕ) × (runs entries n ≡ runs entries k ++ rest)
@@ -178,33 +296,3 @@ runs_go_on entries (suc n) k le = elim (cases_eq k (suc n)) [
 pub on_err : {T E P : Type 0} (r : Result T E) → P → OnErr r P
 on_err (Ok value) known = tt
 on_err (Err error) known = known
-
--- ---- a word of a node that is not taken
-module _ (Refuses : ℕ → Type 0) where
-  pub stops_low : (entries front new : List ℕ) (number : ℕ) → number ≡ marks entries 64 → new ≡ front → Refuses (number % 2 ^ 32) → StopsBefore new Refuses (front ++ node entries)
-  stops_low entries front new number marked same refused =
-      inl (number % 2 ^ 32, marks entries 64 / 2 ^ 32 ∷ runs entries 64, ap₂ (λ f m. f ++ m % 2 ^ 32 ∷ marks entries 64 / 2 ^ 32 ∷ runs entries 64) (sym same) (sym marked), refused)
-
-  pub stops_high : (entries front one new : List ℕ) (number : ℕ) → number ≡ marks entries 64 → one ≡ front ++ number % 2 ^ 32 ∷ [] → new ≡ one → Refuses (number / 2 ^ 32)
-      → StopsBefore new Refuses (front ++ node entries)
-  stops_high entries front one new number marked first same refused =
-      let low = number % 2 ^ 32 in
-      let high = number / 2 ^ 32 in
-      let whole : new ++ high ∷ runs entries 64 ≡ front ++ low ∷ high ∷ runs entries 64 = ap (λ x. x ++ high ∷ runs entries 64) (same ∙ first) ∙ append_assoc front (low ∷ []) (high ∷ runs entries 64) in
-      inl (high, runs entries 64, sym (whole ∙ ap (λ m. front ++ m % 2 ^ 32 ∷ m / 2 ^ 32 ∷ runs entries 64) marked), refused)
-
-  pub stops_run : (entries front one two put new : List ℕ) (number part : ℕ) → number ≡ marks entries 64 → part < 64 → one ≡ front ++ number % 2 ^ 32 ∷ []
-      → two ≡ one ++ number / 2 ^ 32 ∷ [] → put ≡ two ++ runs entries part → new ≡ put → begins_run entries part ≡ true → Refuses (get_or entries part 0)
-      → StopsBefore new Refuses (front ++ node entries)
-  stops_run entries front one two put new number part marked l first second rest same begins refused =
-      let low = number % 2 ^ 32 in
-      let high = number / 2 ^ 32 in
-      let e = get_or entries part 0 in
-      let on = runs_go_on entries 64 (part + 1) (omega arith) in
-      let more : runs entries (part + 1) ≡ runs entries part ++ e ∷ [] = runs_more entries part ∙ cond-true (begins_run entries part) (runs entries part ++ e ∷ []) (runs entries part) begins in
-      let all : runs entries 64 ≡ runs entries part ++ e ∷ on.0 = on.1 ∙ (ap (λ x. x ++ on.0) more ∙ append_assoc (runs entries part) (e ∷ []) on.0) in
-      let two_is : two ≡ front ++ low ∷ high ∷ [] = second ∙ (ap (λ x. x ++ high ∷ []) first ∙ append_assoc front (low ∷ []) (high ∷ [])) in
-      let whole : new ++ e ∷ on.0 ≡ front ++ low ∷ high ∷ (runs entries part ++ e ∷ on.0) =
-      ap (λ x. x ++ e ∷ on.0) (same ∙ (rest ∙ ap (λ x. x ++ runs entries part) two_is))
-      ∙ (append_assoc (front ++ low ∷ high ∷ []) (runs entries part) (e ∷ on.0) ∙ append_assoc front (low ∷ high ∷ []) (runs entries part ++ e ∷ on.0)) in
-      inl (e, on.0, sym (whole ∙ ap₂ (λ m r. front ++ m % 2 ^ 32 ∷ m / 2 ^ 32 ∷ r) marked (sym all)), refused)

@@ -21,7 +21,7 @@ marks entries (suc n) = marks entries n * 2 + (if begins_run entries n then 1 el
 abbrev pub node : List ℕ → List ℕ
 node entries = marks entries 64 % 2 ^ 32 ∷ marks entries 64 / 2 ^ 32 ∷ runs entries 64
 
--- ---- a list: the value of the first number of a block, and its changes. A change is a multiple of 2 ^ 64, divided by that, and the value
+-- ---- a list: the value of the first number of a block, and its changes. A change is a multiple of 2 ^ 66, divided by that, and the value
 -- from there on
 -- the lower and the higher 32 bits of where a change is
 abbrev pub change_words : ℕ × ℕ → List ℕ
@@ -60,8 +60,8 @@ module _ (Has : (number value : ℕ) → Type 0) where
   -- and each the one of the last change up to it, which is another than before
   unfoldable pub AreChanges : (from end value : ℕ) (changes : List (ℕ × ℕ)) → Type 0
   AreChanges from end value [] = HaveBefore from end value
-  AreChanges from end value (change ∷ changes) = (change.0 < 2 ^ 64) × (from < change.0 * 2 ^ 64) × (change.0 * 2 ^ 64 < end) × (value ≢ change.1)
-      × HaveBefore from (change.0 * 2 ^ 64) value × AreChanges (change.0 * 2 ^ 64) end change.1 changes
+  AreChanges from end value (change ∷ changes) = (change.0 < 2 ^ 64) × (from < change.0 * 2 ^ 66) × (change.0 * 2 ^ 66 < end) × (value ≢ change.1)
+      × HaveBefore from (change.0 * 2 ^ 66) value × AreChanges (change.0 * 2 ^ 66) end change.1 changes
 
   -- a block has a list where there are 1 to 31 changes
   abbrev pub HasList : (steps block value : ℕ) (changes : List (ℕ × ℕ)) → Type 0

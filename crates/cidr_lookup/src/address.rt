@@ -36,15 +36,16 @@ pub trait Address: Copy {
         ensures value { result ≡ width }
         ensures fits { result ≤ 128 };
 
-    /// The number with its zeros.
-    fn padded(self) -> u128
-        ensures value { result ≡ value self * 2 ^ padding }
-        ensures fits { result < 2 ^ (width + padding) };
+    /// How many zeros are behind them: 4 in IPv4, 2 in IPv6.
+    fn padding() -> u32
+        ensures value { result ≡ padding }
+        ensures few { result ≤ 6 };
 
-    /// How many bits it has with them.
+    /// How many bits it has with its zeros: 36 or 130.
     fn padded_width() -> u32
         ensures value { result ≡ width + padding }
-        ensures fits { result ≤ 128 };
+        ensures long { 32 < result }
+        ensures fits { result ≤ 130 };
 
     /// How many steps of six bits the table of so many networks has: those that are best, of at most 2^20 entries.
     fn steps_for(networks: usize) -> u32
@@ -63,9 +64,9 @@ pub trait Address: Copy {
         requires { shift < width + padding }
         ensures { result ≡ value self * 2 ^ padding / 2 ^ shift % 64 };
 
-    /// The number of the bits before the last 64, which is 0 in IPv4.
+    /// The number of the bits before the last 66: the first half in IPv6, and 0 in IPv4.
     fn upper(self) -> u64
-        ensures { result ≡ value self * 2 ^ padding / 2 ^ 64 };
+        ensures { result ≡ value self * 2 ^ padding / 2 ^ 66 };
 }
 
 impl Address for u32 {
@@ -93,8 +94,8 @@ impl Address for u32 {
     }
 
     #[inline(always)]
-    fn padded(self) -> u128 {
-        u128::from(padded(self))
+    fn padding() -> u32 {
+        4
     }
 
     #[inline(always)]

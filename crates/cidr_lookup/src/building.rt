@@ -1,15 +1,15 @@
 //! The words of networks, by their ranges.
-ghost use Rattle.std.specs.Prelude.{◌≡◌, ◌↔◌, ◌+◌, ◌*◌, ◌/◌, ◌^◌, ◌<◌, ◌≤◌, ◌⊎◌, ℕ, List, [], length, map, slice_index_or, IfErr, IfNone, IfOk, IfSome, IsTrue, OnErr, OnOk};
+ghost use Rattle.std.specs.Prelude.{◌≡◌, ◌↔◌, ◌+◌, ◌-◌, ◌*◌, ◌/◌, ◌%◌, ◌^◌, ◌<◌, ◌≤◌, ◌⊎◌, ℕ, List, [], length, map, slice_index_or, IfErr, IfNone, IfOk, IfSome, IsTrue, OnErr, OnOk};
 ghost use Rattle.cidr_lookup.specs.Keys.{AreAscendingNetworks, key_networks};
 ghost use Rattle.cidr_lookup.specs.Ranges.{AreMatchRanges, changes_from};
 ghost use Rattle.cidr_lookup.specs.Nodes.{AllHave, HasList, IsEntry};
-ghost use Rattle.cidr_lookup.specs.Putting.{IsStopped, StopsBefore};
+ghost use Rattle.cidr_lookup.specs.Putting.{AreRuns, IsStopped, StopsBefore};
 ghost use Rattle.cidr_lookup.specs.Tables.{IsAnswer, IsLookupTable};
 
 use crate::address::Address;
 use crate::key::Key;
 use crate::list::{MOST_CHANGES, put_list};
-use crate::node::{PARTS, put_node};
+use crate::node::{PARTS, Runs, put_node};
 use crate::search::PLACE;
 use crate::words::{Sink, Stop, Stopped};
 
@@ -42,15 +42,10 @@ pub(crate) fn put_table<A: Address, F: Sink, S: Sink>(
 {
     let blocks = 1u64 << (A::padded_width() - 6 * steps);
     let mut near = 0;
+    let mut until = 0;
     for block in 0..blocks {
-        let entry = match entry_of(
-            keys,
-            starts,
-            answers,
-            words,
-            steps,
-            u128::from(block),
-            &mut near,
+        let entry = match next_entry(
+            keys, starts, answers, words, steps, block, &mut near, &mut until,
         ) {
             Ok(entry) => entry,
             Err(stop) => return Err(Stopped::Words(stop)),
@@ -61,6 +56,65 @@ pub(crate) fn put_table<A: Address, F: Sink, S: Sink>(
         }
     }
     Ok(())
+}
+
+/// The entry of a block, as of `entry_of`. The blocks before `until` lie in the range.
+#[inline(always)]
+fn next_entry<A: Address, S: Sink>(
+    keys: &[Key<A>],
+    starts: &[A],
+    answers: &[u32],
+    sink: &mut S,
+    steps: u32,
+    block: u64,
+    near: &mut usize,
+    until: &mut u64,
+) -> Result<u32, Stop>
+    requires keys { AreAscendingNetworks A.width (key_networks A.value keys.now) }
+    requires ranges { AreMatchRanges A.width (key_networks A.value keys.now) (map A.value starts.now) answers.now }
+    requires few { length keys.now < 2 ^ 31 }
+    requires wide { A.width + A.padding ≤ 130 }
+    requires some { 0 < steps }
+    requires steps { 6 * steps < A.width + A.padding }
+    requires first { A.width + A.padding ≤ 6 * steps + 32 }
+    requires near { near.old < length starts.now }
+    requires upto { slice_index_or (map A.value starts.now) near.old 0 * 2 ^ A.padding ≤ block * 2 ^ (6 * steps) }
+    requires until { (other : ℕ) → other < until.old → near.old + 1 < length starts.now
+        → other < slice_index_or (map A.value starts.now) (near.old + 1) 0 * 2 ^ A.padding / 2 ^ (6 * steps) }
+    requires block { (block + 1) * 2 ^ (6 * steps) ≤ 2 ^ (A.width + A.padding) }
+    ensures near { near.new < length starts.now }
+    ensures upto { slice_index_or (map A.value starts.now) near.new 0 * 2 ^ A.padding ≤ (block + 1) * 2 ^ (6 * steps) }
+    ensures until { IfOk result (λ _. (other : ℕ) → other < until.new → near.new + 1 < length starts.now
+        → other < slice_index_or (map A.value starts.now) (near.new + 1) 0 * 2 ^ A.padding / 2 ^ (6 * steps)) }
+    ensures kept { S.given sink.new ≡ S.given sink.old }
+    ensures stopped { OnErr result ((entry : ℕ) (after : List ℕ)
+        → IsEntry (IsAnswer A.width A.padding (key_networks A.value keys.now)) steps block (S.put sink.old) entry after
+        → StopsBefore (S.put sink.new) (S.refuses sink.new) after) }
+    ensures many { IfErr result (λ stop. stop ≡ Stop.TooMany → 2 ^ 30 ≤ length (S.put sink.new)) }
+    ensures entry { IfOk result (λ entry. IsEntry (IsAnswer A.width A.padding (key_networks A.value keys.now)) steps block (S.put sink.old) entry (S.put sink.new)) }
+{
+    if block < *until {
+        return Ok(answers[*near]);
+    }
+    let entry = entry_of(keys, starts, answers, sink, steps, u128::from(block), near)?;
+    *until = block_of_next(starts, *near, steps);
+    Ok(entry)
+}
+
+/// The block in which the next range begins, or a number above all, where none does.
+#[inline(always)]
+fn block_of_next<A: Address>(starts: &[A], range: usize, steps: u32) -> u64
+    requires range { range < length starts.now }
+    requires wide { A.width + A.padding ≤ 130 }
+    requires steps { 6 * steps < A.width + A.padding }
+    requires first { A.width + A.padding ≤ 6 * steps + 32 }
+    ensures { range + 1 < length starts.now → result ≡ slice_index_or (map A.value starts.now) (range + 1) 0 * 2 ^ A.padding / 2 ^ (6 * steps) }
+{
+    let next = range + 1;
+    if next == starts.len() {
+        return u64::MAX;
+    }
+    starts[next].block(6 * steps) as u64
 }
 
 /// The entry of a block of 64^steps numbers. The words of its nodes and lists are put behind those that were put. `near` is
@@ -78,7 +132,8 @@ pub(crate) fn entry_of<A: Address, S: Sink>(
     requires keys { AreAscendingNetworks A.width (key_networks A.value keys.now) }
     requires ranges { AreMatchRanges A.width (key_networks A.value keys.now) (map A.value starts.now) answers.now }
     requires few { length keys.now < 2 ^ 31 }
-    requires wide { A.width + A.padding ≤ 128 }
+    requires wide { A.width + A.padding ≤ 130 }
+    requires some { 0 < steps }
     requires steps { 6 * steps < A.width + A.padding }
     requires near { near.old < length starts.now }
     requires upto { slice_index_or (map A.value starts.now) near.old 0 * 2 ^ A.padding ≤ block * 2 ^ (6 * steps) }
@@ -92,47 +147,30 @@ pub(crate) fn entry_of<A: Address, S: Sink>(
     ensures many { IfErr result (λ stop. stop ≡ Stop.TooMany → 2 ^ 30 ≤ length (S.put sink.new)) }
     ensures entry { IfOk result (λ entry. IsEntry (IsAnswer A.width A.padding (key_networks A.value keys.now)) steps block (S.put sink.old) entry (S.put sink.new)) }
 {
-    let shift = 6 * steps;
-    *near = last_upto(starts, *near, block << shift);
-    if is_whole(starts, *near, shift, block) {
+    *near = last_upto(starts, *near, steps, block, 0);
+    if is_whole(starts, *near, steps, block) {
         return Ok(answers[*near]);
     }
     if let Some(count) = changes_in(keys, starts, answers, steps, block, *near) {
         return put_listed(keys, starts, answers, sink, steps, block, *near, count);
     }
-    let first = block * PARTS as u128;
-    let mut entries = [0; PARTS];
+    let mut runs = Runs::new();
     let mut part = 0;
     loop {
-        part = fill_whole(
-            keys,
-            starts,
-            answers,
-            &mut entries,
-            steps - 1,
-            first,
-            part,
-            near,
-        );
+        part = add_whole(keys, starts, answers, &mut runs, steps, block, part, near);
         if part >= PARTS {
             break;
         }
-        entries[part] = entry_of(
-            keys,
-            starts,
-            answers,
-            sink,
-            steps - 1,
-            first + part as u128,
-            near,
-        )?;
+        let child = block * PARTS as u128 + part as u128;
+        let entry = entry_of(keys, starts, answers, sink, steps - 1, child, near)?;
+        runs.add(part, part + 1, entry);
         part += 1;
     }
     let place = sink.len();
     if place >= MOST_WORDS {
         return Err(Stop::TooMany);
     }
-    put_node(&entries, sink)?;
+    put_node(&runs, sink)?;
     Ok(PLACE + 2 * place as u32)
 }
 
@@ -149,7 +187,8 @@ fn changes_in<A: Address>(
     requires keys { AreAscendingNetworks A.width (key_networks A.value keys.now) }
     requires ranges { AreMatchRanges A.width (key_networks A.value keys.now) (map A.value starts.now) answers.now }
     requires few { length keys.now < 2 ^ 31 }
-    requires wide { A.width + A.padding ≤ 128 }
+    requires wide { A.width + A.padding ≤ 130 }
+    requires some { 0 < steps }
     requires steps { 6 * steps < A.width + A.padding }
     requires block { (block + 1) * 2 ^ (6 * steps) ≤ 2 ^ (A.width + A.padding) }
     requires more { range + 1 < length starts.now }
@@ -160,14 +199,13 @@ fn changes_in<A: Address>(
         (slice_index_or answers.now range 0) (changes_from A.padding (map A.value starts.now) answers.now (range + 1) count)) }
     ensures none { IfNone result (¬ ((value : ℕ) × (changes : List (ℕ × ℕ)) × HasList (IsAnswer A.width A.padding (key_networks A.value keys.now)) steps block value changes)) }
 {
-    let shift = 6 * steps;
     let mut count = 0;
-    while !is_whole(starts, range + count, shift, block) {
+    while !is_whole(starts, range + count, steps, block) {
         count += 1;
         if count > MOST_CHANGES {
             return None;
         }
-        if start_of(starts, range + count) % (1 << 64) != 0 {
+        if rest_of(starts, range + count) != 0 {
             return None;
         }
     }
@@ -206,72 +244,95 @@ fn put_listed<A: Address, S: Sink>(
     Ok(PLACE + 2 * place as u32 + 1)
 }
 
-/// Puts the values of parts from one on, up to the first in which a range begins, which is returned, or the number of parts.
-/// `first` is the number of the first part among all blocks of 64^steps numbers, and the rest as in `entry_of`.
-fn fill_whole<A: Address>(
+/// Adds the values of parts from one on, up to the first in which a range begins, which is returned, or the number of parts.
+/// `near` is a range that begins at most with the first of them, and the rest as in `entry_of`.
+#[inline(always)]
+fn add_whole<A: Address>(
     keys: &[Key<A>],
     starts: &[A],
     answers: &[u32],
-    entries: &mut [u32],
+    runs: &mut Runs,
     steps: u32,
-    first: u128,
+    block: u128,
     from: usize,
     near: &mut usize,
 ) -> usize
     requires ranges { AreMatchRanges A.width (key_networks A.value keys.now) (map A.value starts.now) answers.now }
     requires few { length keys.now < 2 ^ 31 }
-    requires wide { A.width + A.padding ≤ 128 }
+    requires wide { A.width + A.padding ≤ 130 }
+    requires some { 0 < steps }
     requires steps { 6 * steps < A.width + A.padding }
-    requires long { length entries.old ≡ 64 }
     requires from { from ≤ 64 }
     requires near { near.old < length starts.now }
-    requires upto { slice_index_or (map A.value starts.now) near.old 0 * 2 ^ A.padding ≤ (first + from) * 2 ^ (6 * steps) }
-    requires blocks { (first + 64) * 2 ^ (6 * steps) ≤ 2 ^ (A.width + A.padding) }
+    requires upto { slice_index_or (map A.value starts.now) near.old 0 * 2 ^ A.padding ≤ (block * 64 + from) * 2 ^ (6 * (steps - 1)) }
+    requires block { (block + 1) * 2 ^ (6 * steps) ≤ 2 ^ (A.width + A.padding) }
+    requires runs { (entries : List ℕ) × AreRuns entries from runs.old.marks runs.old.entries runs.old.count }
     ensures from { from ≤ result }
     ensures parts { result ≤ 64 }
     ensures near { near.new < length starts.now }
-    ensures upto { slice_index_or (map A.value starts.now) near.new 0 * 2 ^ A.padding ≤ (first + result) * 2 ^ (6 * steps) }
-    ensures others { (i : ℕ) → i < from → slice_index_or entries.new i 0 ≡ slice_index_or entries.old i 0 }
-    ensures values { (i : ℕ) → from ≤ i → i < result
-        → AllHave (IsAnswer A.width A.padding (key_networks A.value keys.now)) steps (first + i) (slice_index_or entries.new i 0) }
+    ensures upto { slice_index_or (map A.value starts.now) near.new 0 * 2 ^ A.padding ≤ (block * 64 + result) * 2 ^ (6 * (steps - 1)) }
+    ensures deeper { result < 64 → 1 < steps }
+    ensures runs { (before : List ℕ) → AreRuns before from runs.old.marks runs.old.entries runs.old.count
+        → (entries : List ℕ) × AreRuns entries result runs.new.marks runs.new.entries runs.new.count
+        × ((i : ℕ) → i < from → slice_index_or entries i 0 ≡ slice_index_or before i 0)
+        × ((i : ℕ) → from ≤ i → i < result
+        → AllHave (IsAnswer A.width A.padding (key_networks A.value keys.now)) (steps - 1) (block * 64 + i) (slice_index_or entries i 0)) }
 {
-    let shift = 6 * steps;
     let mut part = from;
     let mut range = *near;
     while part < PARTS {
-        let block = first + part as u128;
-        let next = last_upto(starts, range, block << shift);
-        if !is_whole(starts, next, shift, block) {
-            break;
+        range = last_upto(starts, range, steps, block, part);
+        let end = part_of_next(starts, range, steps, block);
+        if end <= part {
+            *near = range;
+            return part;
         }
-        range = next;
-        entries[part] = answers[range];
-        part += 1;
+        runs.add(part, end, answers[range]);
+        part = end;
     }
     *near = range;
     part
 }
 
-/// The number that a range begins with.
-fn start_of<A: Address>(starts: &[A], range: usize) -> u128
-    requires { range < length starts.now }
-    ensures value { result ≡ slice_index_or (map A.value starts.now) range 0 * 2 ^ A.padding }
-    ensures fits { result < 2 ^ (A.width + A.padding) }
+/// The part of a block in which the next range begins, or the number of parts, where it begins behind the block or none does.
+#[inline(always)]
+fn part_of_next<A: Address>(starts: &[A], range: usize, steps: u32, block: u128) -> usize
+    requires range { range < length starts.now }
+    requires some { 0 < steps }
+    requires wide { A.width + A.padding ≤ 130 }
+    requires steps { 6 * steps < A.width + A.padding }
+    requires behind { range + 1 < length starts.now → block * 2 ^ (6 * steps) ≤ slice_index_or (map A.value starts.now) (range + 1) 0 * 2 ^ A.padding }
+    ensures parts { result ≤ 64 }
+    ensures before { (part : ℕ) → part < result → range + 1 < length starts.now
+        → block * 64 + part < slice_index_or (map A.value starts.now) (range + 1) 0 * 2 ^ A.padding / 2 ^ (6 * (steps - 1)) }
+    ensures inner { result < 64 → (range + 1 < length starts.now)
+        × (slice_index_or (map A.value starts.now) (range + 1) 0 * 2 ^ A.padding / 2 ^ (6 * (steps - 1)) ≡ block * 64 + result) }
 {
-    starts[range].padded()
+    if is_whole(starts, range, steps, block) {
+        return PARTS;
+    }
+    starts[range + 1].digit(6 * (steps - 1)) as usize
 }
 
-/// The last range that begins at most with a number, from one on that does.
-fn last_upto<A: Address>(starts: &[A], from: usize, number: u128) -> usize
+/// The last range that begins at most with the first number of a part of a block, from one on that does.
+#[inline(always)]
+fn last_upto<A: Address>(starts: &[A], from: usize, steps: u32, block: u128, part: usize) -> usize
+    requires some { 0 < steps }
+    requires wide { A.width + A.padding ≤ 130 }
+    requires steps { 6 * steps < A.width + A.padding }
+    requires part { part < 64 }
+    requires block { (block + 1) * 2 ^ (6 * steps) ≤ 2 ^ (A.width + A.padding) }
     requires from { from < length starts.now }
-    requires upto { slice_index_or (map A.value starts.now) from 0 * 2 ^ A.padding ≤ number }
+    requires upto { slice_index_or (map A.value starts.now) from 0 * 2 ^ A.padding ≤ (block * 64 + part) * 2 ^ (6 * (steps - 1)) }
     ensures within { result < length starts.now }
-    ensures upto { slice_index_or (map A.value starts.now) result 0 * 2 ^ A.padding ≤ number }
-    ensures next { result + 1 < length starts.now → number < slice_index_or (map A.value starts.now) (result + 1) 0 * 2 ^ A.padding }
+    ensures upto { slice_index_or (map A.value starts.now) result 0 * 2 ^ A.padding ≤ (block * 64 + part) * 2 ^ (6 * (steps - 1)) }
+    ensures next { result + 1 < length starts.now
+        → (block * 64 + part) * 2 ^ (6 * (steps - 1)) < slice_index_or (map A.value starts.now) (result + 1) 0 * 2 ^ A.padding }
 {
+    let number = first_of::<A>(steps, block, part);
     let mut range = from;
     while range + 1 < starts.len() {
-        if start_of(starts, range + 1) > number {
+        if starts[range + 1].number() > number {
             return range;
         }
         range += 1;
@@ -279,15 +340,42 @@ fn last_upto<A: Address>(starts: &[A], from: usize, number: u128) -> usize
     range
 }
 
+/// The address with which a part of a block begins.
+#[inline(always)]
+fn first_of<A: Address>(steps: u32, block: u128, part: usize) -> u128
+    requires some { 0 < steps }
+    requires wide { A.width + A.padding ≤ 130 }
+    requires steps { 6 * steps < A.width + A.padding }
+    requires part { part < 64 }
+    requires block { (block + 1) * 2 ^ (6 * steps) ≤ 2 ^ (A.width + A.padding) }
+    ensures { result ≡ (block * 64 + part) * 2 ^ (6 * (steps - 1)) / 2 ^ A.padding }
+{
+    A::width();
+    let within = (part as u128) << (6 * (steps - 1));
+    (block << (6 * steps - A::padding())) + (within >> A::padding())
+}
+
 /// Whether no later range begins in a block.
-fn is_whole<A: Address>(starts: &[A], range: usize, shift: u32, block: u128) -> bool
+#[inline(always)]
+fn is_whole<A: Address>(starts: &[A], range: usize, steps: u32, block: u128) -> bool
     requires range { range < length starts.now }
-    requires shift { shift < 128 }
-    ensures { IsTrue result ↔ (range + 1 < length starts.now → block < slice_index_or (map A.value starts.now) (range + 1) 0 * 2 ^ A.padding / 2 ^ shift) }
+    requires some { 0 < steps }
+    requires wide { A.width + A.padding ≤ 130 }
+    requires steps { 6 * steps < A.width + A.padding }
+    ensures { IsTrue result ↔ (range + 1 < length starts.now → block < slice_index_or (map A.value starts.now) (range + 1) 0 * 2 ^ A.padding / 2 ^ (6 * steps)) }
 {
     let next = range + 1;
     if next == starts.len() {
         return true;
     }
-    start_of(starts, next) >> shift > block
+    starts[next].number() >> (6 * steps - A::padding()) > block
+}
+
+/// How far a range begins behind a multiple of 2^66.
+#[inline(always)]
+fn rest_of<A: Address>(starts: &[A], range: usize) -> u128
+    requires { range < length starts.now }
+    ensures { result * 2 ^ A.padding ≡ slice_index_or (map A.value starts.now) range 0 * 2 ^ A.padding % 2 ^ 66 }
+{
+    starts[range].number() % (1 << (66 - A::padding()))
 }

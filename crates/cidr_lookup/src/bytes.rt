@@ -49,8 +49,8 @@ impl Address for [u8; 4] {
     }
 
     #[inline(always)]
-    fn padded(self) -> u128 {
-        u32::from_le_bytes(self).padded()
+    fn padding() -> u32 {
+        u32::padding()
     }
 
     #[inline(always)]
@@ -84,7 +84,7 @@ impl Address for [[u8; 8]; 2] {
 
     ghost width = { 128 };
 
-    ghost padding = { 0 };
+    ghost padding = { 2 };
 
     ghost steps = { ipv6_steps };
 
@@ -105,8 +105,8 @@ impl Address for [[u8; 8]; 2] {
     }
 
     #[inline(always)]
-    fn padded(self) -> u128 {
-        halves(self).padded()
+    fn padding() -> u32 {
+        Ipv6Halves::padding()
     }
 
     #[inline(always)]

@@ -1,5 +1,5 @@
 //! Addresses of IPv6 in two halves.
-ghost use Rattle.std.specs.Prelude.{◌≡◌, ◌+◌, ◌*◌, ◌/◌, ◌^◌, ◌<◌, ◌≤◌};
+ghost use Rattle.std.specs.Prelude.{◌≡◌, ◌+◌, ◌*◌, ◌/◌, ◌%◌, ◌^◌, ◌<◌, ◌≤◌};
 ghost use Rattle.cidr_lookup.specs.Tables.{ipv6_steps};
 
 use crate::address::Address;
@@ -19,7 +19,7 @@ impl Address for Ipv6Halves {
 
     ghost width = { 128 };
 
-    ghost padding = { 0 };
+    ghost padding = { 2 };
 
     ghost steps = { ipv6_steps };
 
@@ -42,13 +42,13 @@ impl Address for Ipv6Halves {
     }
 
     #[inline(always)]
-    fn padded(self) -> u128 {
-        self.number()
+    fn padding() -> u32 {
+        2
     }
 
     #[inline(always)]
     fn padded_width() -> u32 {
-        128
+        130
     }
 
     fn steps_for(networks: usize) -> u32 {
@@ -62,7 +62,7 @@ impl Address for Ipv6Halves {
 
     #[inline(always)]
     fn digit(self, shift: u32) -> u32 {
-        ((self.number() >> shift) % 64) as u32
+        digit(self.number(), shift)
     }
 
     #[inline(always)]
@@ -74,9 +74,24 @@ impl Address for Ipv6Halves {
 /// The number of the bits before the last `shift`, which has none of the lower half.
 #[inline(always)]
 fn first_bits(high: u64, _low: u64, shift: u32) -> u64
-    requires low { 64 ≤ shift }
-    requires within { shift < 128 }
-    ensures { result ≡ (high * 2 ^ 64 + _low) / 2 ^ shift }
+    requires low { 66 ≤ shift }
+    requires within { shift < 130 }
+    ensures { result ≡ (high * 2 ^ 64 + _low) * 2 ^ 2 / 2 ^ shift }
 {
-    high >> (shift - 64)
+    high >> (shift - 66)
+}
+
+/// The six bits before the last `shift` of a number with two zeros behind it.
+#[inline(always)]
+fn digit(number: u128, shift: u32) -> u32
+    requires { shift < 130 }
+    ensures { result ≡ number * 2 ^ 2 / 2 ^ shift % 64 }
+{
+    if shift == 0 {
+        return (number % 16) as u32 * 4;
+    }
+    if shift == 1 {
+        return (number % 32) as u32 * 2;
+    }
+    ((number >> (shift - 2)) % 64) as u32
 }

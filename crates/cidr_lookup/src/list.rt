@@ -74,10 +74,10 @@ fn put_answers<A: Address, S: Sink>(
     Ok(())
 }
 
-/// Where a range begins, by the bits before the last 64.
+/// Where a range begins, by the bits before the last 66.
 fn upper_of<A: Address>(starts: &[A], range: usize) -> u64
     requires { range < length starts.now }
-    ensures { result ≡ slice_index_or (map A.value starts.now) range 0 * 2 ^ A.padding / 2 ^ 64 }
+    ensures { result ≡ slice_index_or (map A.value starts.now) range 0 * 2 ^ A.padding / 2 ^ 66 }
 {
     starts[range].upper()
 }

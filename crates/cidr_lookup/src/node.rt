@@ -1,68 +1,78 @@
 //! The words of a node.
-ghost use Rattle.std.specs.Prelude.{◌≡◌, ◌++◌, ◌∷◌, [], ◌<◌, if◌then◌else◌, length, slice_index_or, true, IfErr, OnErr, OnOk};
-ghost use Rattle.cidr_lookup.specs.Nodes.{begins_run, marks, node};
-ghost use Rattle.cidr_lookup.specs.Putting.{StopsBefore};
+ghost use Rattle.std.specs.Prelude.{◌≡◌, [], ◌++◌, ◌∷◌, ◌/◌, ◌%◌, ◌^◌, ◌<◌, ◌≤◌, ◌-◌, ℕ, List, length, replicate, take, IfErr, OnErr, OnOk};
+ghost use Rattle.cidr_lookup.specs.Putting.{AreRuns, StopsBefore};
 
 use crate::words::{Sink, Stop};
 
 /// How many parts a node has.
 pub(crate) const PARTS: usize = 64;
 
+/// The runs of the first parts of a node.
+#[derive(Drop)]
+pub(crate) struct Runs {
+    /// A mark for each part, the first the highest bit: whether it begins a run.
+    pub(crate) marks: u64,
+    /// The entry of each run, and behind them zeros.
+    pub(crate) entries: [u32; PARTS],
+    /// How many runs there are.
+    pub(crate) count: usize,
+}
+
+impl Runs {
+    /// Those of no part.
+    #[inline(always)]
+    pub(crate) fn new() -> Runs
+        ensures { AreRuns [] 0 result.marks result.entries result.count }
+    {
+        Runs {
+            marks: 0,
+            entries: [0; PARTS],
+            count: 0,
+        }
+    }
+
+    /// Adds the parts from one on before another, all of which have one entry.
+    #[inline(always)]
+    pub(crate) fn add(&mut self, from: usize, _end: usize, entry: u32)
+        requires some { from < _end }
+        requires parts { _end ≤ 64 }
+        requires runs { (entries : List ℕ) × AreRuns entries from self.old.marks self.old.entries self.old.count }
+        ensures { (entries : List ℕ) → AreRuns entries from self.old.marks self.old.entries self.old.count
+            → AreRuns (entries ++ replicate (_end - from) entry) _end self.new.marks self.new.entries self.new.count }
+    {
+        if from > 0 && self.entries[self.count - 1] == entry {
+            return;
+        }
+        self.marks += 1 << (63 - from);
+        self.entries[self.count] = entry;
+        self.count += 1;
+    }
+}
+
 /// Puts the words of a node: its marks and the entries of its runs.
-pub(crate) fn put_node<S: Sink>(entries: &[u32], sink: &mut S) -> Result<(), Stop>
-    requires { length entries.now ≡ 64 }
+pub(crate) fn put_node<S: Sink>(runs: &Runs, sink: &mut S) -> Result<(), Stop>
+    requires { runs.now.count ≤ 64 }
     ensures kept { S.given sink.new ≡ S.given sink.old }
-    ensures put { OnOk result (S.put sink.new ≡ S.put sink.old ++ node entries.now) }
-    ensures stopped { OnErr result (StopsBefore (S.put sink.new) (S.refuses sink.new) (S.put sink.old ++ node entries.now)) }
+    ensures put { OnOk result (S.put sink.new ≡ S.put sink.old ++ runs.now.marks % 2 ^ 32 ∷ runs.now.marks / 2 ^ 32 ∷ take runs.now.count runs.now.entries) }
+    ensures stopped { OnErr result (StopsBefore (S.put sink.new) (S.refuses sink.new)
+        (S.put sink.old ++ runs.now.marks % 2 ^ 32 ∷ runs.now.marks / 2 ^ 32 ∷ take runs.now.count runs.now.entries)) }
     ensures only { IfErr result (λ stop. stop ≡ Stop.Refused) }
 {
-    let marks = marks_of(entries);
-    sink.push((marks % (1 << 32)) as u32)?;
-    sink.push((marks >> 32) as u32)?;
-    for part in 0..PARTS {
-        put_run(entries, part, sink)?;
-    }
-    Ok(())
+    sink.push((runs.marks % (1 << 32)) as u32)?;
+    sink.push((runs.marks >> 32) as u32)?;
+    put_words(&runs.entries, runs.count, sink)
 }
 
-/// Puts the entry of a part that begins a run.
-fn put_run<S: Sink>(entries: &[u32], part: usize, sink: &mut S) -> Result<(), Stop>
-    requires { part < length entries.now }
+/// Puts the first words of an array, so many.
+fn put_words<S: Sink>(words: &[u32], count: usize, sink: &mut S) -> Result<(), Stop>
+    requires { count ≤ length words.now }
     ensures kept { S.given sink.new ≡ S.given sink.old }
-    ensures put { OnOk result (S.put sink.new ≡ (if begins_run entries.now part then S.put sink.old ++ slice_index_or entries.now part 0 ∷ [] else S.put sink.old)) }
-    ensures refused { OnErr result ((S.put sink.new ≡ S.put sink.old) × (begins_run entries.now part ≡ true) × S.refuses sink.new (slice_index_or entries.now part 0)) }
+    ensures put { OnOk result (S.put sink.new ≡ S.put sink.old ++ take count words.now) }
+    ensures stopped { OnErr result (StopsBefore (S.put sink.new) (S.refuses sink.new) (S.put sink.old ++ take count words.now)) }
     ensures only { IfErr result (λ stop. stop ≡ Stop.Refused) }
 {
-    if begins(entries, part) {
-        return sink.push(entries[part]);
+    for at in 0..count {
+        sink.push(words[at])?;
     }
     Ok(())
-}
-
-/// A mark for each part, the first the highest bit: whether it begins a run.
-fn marks_of(entries: &[u32]) -> u64
-    requires { length entries.now ≡ 64 }
-    ensures { result ≡ marks entries.now 64 }
-{
-    let mut marks = 0u64;
-    for part in 0..PARTS {
-        marks = marks * 2 + mark(entries, part);
-    }
-    marks
-}
-
-/// The mark of a part.
-fn mark(entries: &[u32], part: usize) -> u64
-    requires { part < length entries.now }
-    ensures { result ≡ (if begins_run entries.now part then 1 else 0) }
-{
-    if begins(entries, part) { 1 } else { 0 }
-}
-
-/// Whether a part begins a run.
-fn begins(entries: &[u32], part: usize) -> bool
-    requires { part < length entries.now }
-    ensures { result ≡ begins_run entries.now part }
-{
-    part == 0 || entries[part] != entries[part - 1]
 }

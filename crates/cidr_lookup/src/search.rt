@@ -54,7 +54,7 @@ fn found_value<A: Address, T: Words>(first: &T, words: &T, steps: u32, address: 
         → IsLookupTable A.width A.padding steps networks (T.words first.now) (T.words words.now)
         → IsAnswer A.width A.padding networks (A.value address * 2 ^ A.padding) result }
 {
-    address.padded();
+    address.number();
     let width = A::padded_width();
     if steps > MOST_STEPS {
         return 0;

@@ -39,7 +39,7 @@ AreTooLarge w padding steps rows = (2 ^ 31 ≤ length rows) ⊎ ((2 ^ 32 ≤ sum
 
 -- the table is too large for a file: one of its families is
 abbrev pub IsTooLarge : (Family → List (List Bool × List ℕ)) → Type 0
-IsTooLarge table = AreTooLarge 32 4 ipv4_steps (table Ipv4) ⊎ AreTooLarge 128 0 ipv6_steps (table Ipv6)
+IsTooLarge table = AreTooLarge 32 4 ipv4_steps (table Ipv4) ⊎ AreTooLarge 128 2 ipv6_steps (table Ipv6)
 
 -- ---- a file in the place of a table
 -- the first byte is that of a file of look-ups, 89 in base sixteen, with which no UTF-8 text begins

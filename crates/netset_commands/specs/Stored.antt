@@ -99,7 +99,7 @@ by_family rows Ipv6 = rows.1
 -- the parts of a file are tables
 pub record AreTables (table : FileTables) : Type 0 where
   pub ipv4 : IsStoredTable 32 4 words (parts_in table.ipv4) table.ipv4.steps
-  pub ipv6 : IsStoredTable 128 0 wide_words (parts_in table.ipv6) table.ipv6.steps
+  pub ipv6 : IsStoredTable 128 2 wide_words (parts_in table.ipv6) table.ipv6.steps
 
 -- these are the bytes of a file that begins as one of look-ups
 abbrev pub AreFileBytes : Option Text → List ℕ → Type 0

@@ -53,7 +53,7 @@ IsFirstRefusedAt networks place =
 abbrev pub AreTooMany : List CValue → Type 0
 AreTooMany networks = (2 ^ 31 ≤ length networks)
     ⊎ (HasTooManyWords 32 4 (ipv4_steps (length (ipv4_networks networks))) (ipv4_networks networks)
-    ⊎ HasTooManyWords 128 0 (ipv6_steps (length (ipv6_networks networks))) (ipv6_networks networks))
+    ⊎ HasTooManyWords 128 2 (ipv6_steps (length (ipv6_networks networks))) (ipv6_networks networks))
 
 -- writing: 0, and the first `count` bytes are the file; or when each error comes, in this order, but for that of memory, which
 -- may come before each. With the number of `no_value` the count becomes the index of the first value that is refused, with

@@ -8,4 +8,4 @@ returns-clause-ipv4 c = λ networks first words first_new words_new sizes sizes_
 
 pub returns-clause-ipv6 : goal.returns-clause-ipv6
 returns-clause-ipv6 c = λ networks first words first_new words_new sizes sizes_new code.
-    accepted 128 0 ipv6_steps networks first words first_new words_new sizes sizes_new code
+    accepted 128 2 ipv6_steps networks first words first_new words_new sizes sizes_new code

@@ -24,6 +24,6 @@ returns-in-Err-check-clause-refused c =
       c.in_ok-table.ensures.laid_out,
       subst (λ (ps : List (List ℕ)). IsStoredTable 32 4 words ps (ipv4_counts bytes).steps) cut.ipv4
           (subst (λ (n : ℕ). IsStoredTable 32 4 words (parts_in t.ipv4) n) cut.ipv4_steps c.in_default.ensures.table),
-      subst (λ (ps : List (List ℕ)). IsTableFault 128 0 wide_words ps (ipv6_counts bytes).steps fault) cut.ipv6
-          (subst (λ (n : ℕ). IsTableFault 128 0 wide_words (parts_in t.ipv6) n fault) cut.ipv6_steps c.in-Err-check.ensures.refused),
+      subst (λ (ps : List (List ℕ)). IsTableFault 128 2 wide_words ps (ipv6_counts bytes).steps fault) cut.ipv6
+          (subst (λ (n : ℕ). IsTableFault 128 2 wide_words (parts_in t.ipv6) n fault) cut.ipv6_steps c.in-Err-check.ensures.refused),
     )

@@ -12,7 +12,7 @@ pub put_contents-requires-clause-lengths : goal.put_contents-requires-clause-len
 put_contents-requires-clause-lengths c = lengths_below 32 4 (from_le_bytes w32) c.args.ipv4.now c.requires.ipv4 (omega arith)
 
 pub put_contents-requires-2-clause-lengths : goal.put_contents-requires-2-clause-lengths
-put_contents-requires-2-clause-lengths c = lengths_below 128 0 wide_word c.args.ipv6.now c.requires.ipv6 (omega arith)
+put_contents-requires-2-clause-lengths c = lengths_below 128 2 wide_word c.args.ipv6.now c.requires.ipv6 (omega arith)
 
 pub returns : goal.returns
 returns c =

@@ -1,7 +1,9 @@
 use Rattle.std.proofs.Common.{◌≡◌, sym, ap, ◌∙◌, arith, inl, inr, ℕ, ◌+◌, ◌*◌, ◌/◌, ◌%◌, ◌^◌, ◌<◌, ◌≤◌, length, map, get_or}
 use Rattle.std.proofs.lemmas.Bool.{cases_eq, cases_lt, iff_false}
 use Rattle.std.proofs.lemmas.List.{length-map}
+use Rattle.std.proofs.lemmas.Nat.{pow_pos}
 use Rattle.cidr_lookup.specs.Keys.{key_networks}
+use Rattle.cidr_lookup.proofs.Blocks.{no_rest}
 use Rattle.cidr_lookup.proofs.ListAnswers.{has_list, no_list}
 use Rattle.cidr_lookup.proofs.Numbers.{length_networks}
 use Rattle.cidr_lookup.proofs.building.changes_in.Goals as goal
@@ -39,17 +41,17 @@ returns-then-count-gt-MOST_CHANGES-clause-none g c =
     (omega (arith, c.requires.few, length_networks g.A.Address.value c.args.keys.now)) c.requires.keys c.args.steps c.args.block c.args.range j c.requires.block c.requires.upto c.requires.next (omega arith)
     (omega (arith, at.0, size)) at.1 (inr (omega (arith, c.if-count-gt-MOST_CHANGES.true)))
 
-pub returns-then-start_of-ne0-clause-none : goal.returns-then-start_of-ne0-clause-none
-returns-then-start_of-ne0-clause-none g c =
+pub returns-then-rest_of-ne0-clause-none : goal.returns-then-rest_of-ne0-clause-none
+returns-then-rest_of-ne0-clause-none g c =
     let starts = map g.A.Address.value c.args.starts.now in
     let size : length starts ≡ length c.args.starts.now = length-map c.args.starts.now g.A.Address.value in
     let j = c.args.range + c.loop-count.count + 1 in
     let e : c.args.range + (c.loop-count.count + 1) ≡ j = omega arith in
     let at = begins j (length c.args.starts.now) c.args.block (get_or starts j 0 * 2 ^ g.A.Address.padding / 2 ^ (6 * c.args.steps)) (iff_false c.is_whole.ensures c.loop-count-test.true) in
-    let start : c.start_of.result ≡ get_or starts j 0 * 2 ^ g.A.Address.padding = c.start_of.ensures.value ∙ ap (λ i. get_or starts i 0 * 2 ^ g.A.Address.padding) e in
     no_list g.A.Address.width g.A.Address.padding (key_networks g.A.Address.value c.args.keys.now) starts c.args.answers.now c.requires.ranges
     (omega (arith, c.requires.few, length_networks g.A.Address.value c.args.keys.now)) c.requires.keys c.args.steps c.args.block c.args.range j c.requires.block c.requires.upto c.requires.next (omega arith)
-    (omega (arith, at.0, size)) at.1 (inl (λ none. c.if-start_of-ne0.true (ap (λ n. n % 2 ^ 64) start ∙ none)))
+    (omega (arith, at.0, size)) at.1 (inl (λ none. c.if-rest_of-ne0.true (no_rest c.rest_of.result (2 ^ g.A.Address.padding) (pow_pos g.A.Address.padding)
+    (c.rest_of.ensures ∙ (ap (λ i. get_or starts i 0 * 2 ^ g.A.Address.padding % 2 ^ 66) e ∙ none)))))
 
 pub loop-count-smaller : goal.loop-count-smaller
 loop-count-smaller g c = omega (arith, c.if-count-gt-MOST_CHANGES.false, c.loop-count.invariant.few)
@@ -61,13 +63,12 @@ loop-count-preserved g c =
     let j = c.args.range + count + 1 in
     let e : c.args.range + (count + 1) ≡ j = omega arith in
     let at = begins j (length c.args.starts.now) c.args.block (get_or starts j 0 * 2 ^ g.A.Address.padding / 2 ^ (6 * c.args.steps)) (iff_false c.is_whole.ensures c.loop-count-test.true) in
-    let start : c.start_of.result ≡ get_or starts j 0 * 2 ^ g.A.Address.padding = c.start_of.ensures.value ∙ ap (λ i. get_or starts i 0 * 2 ^ g.A.Address.padding) e in
     record {
       few = omega (arith, c.if-count-gt-MOST_CHANGES.false);
       within = omega (arith, at.0);
       each = λ i lt le. elim (cases_eq i j) [
         | inl same ↦ (
-          ap (λ k. get_or starts k 0 * 2 ^ g.A.Address.padding % 2 ^ 64) same ∙ (ap (λ n. n % 2 ^ 64) (sym start) ∙ c.if-start_of-ne0.false),
+          ap (λ k. get_or starts k 0 * 2 ^ g.A.Address.padding % 2 ^ 66) (same ∙ sym e) ∙ (sym c.rest_of.ensures ∙ (ap (λ r. r * 2 ^ g.A.Address.padding) c.if-rest_of-ne0.false ∙ omega arith)),
           omega (arith, ap (λ k. get_or starts k 0 * 2 ^ g.A.Address.padding / 2 ^ (6 * c.args.steps)) same, at.1),
         )
         | inr other ↦ c.loop-count.invariant.each i lt (omega arith)

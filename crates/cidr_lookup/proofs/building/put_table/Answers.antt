@@ -19,6 +19,7 @@ loop-block-init g c =
       kept_words = refl;
       near = omega (arith, c.requires.ranges.ordered.some, length-map c.args.starts.now g.A.Address.value);
       upto = omega (arith, zero);
+      until = λ b l more. absurd (omega arith);
       long = ap length c.requires.first;
       entries = subst (λ x. AreEntries IsOne 0 0 [] (g.F.Sink.put c.args.first.now) x) (sym c.requires.words) (no_entries IsOne 0 [] (g.F.Sink.put c.args.first.now));
     }
@@ -31,30 +32,31 @@ loop-block-preserved g c =
     let put = c.in-Ok-push.ensures.put in
     let block = c.loop-block.block in
     let IsOne = IsEntry (IsAnswer g.A.Address.width g.A.Address.padding (key_networks g.A.Address.value c.args.keys.now)) c.args.steps in
-    let zero : c.from.result ≡ 0 + block = omega (arith, c.from.ensures) in
+    let zero : block ≡ 0 + block = omega arith in
     record {
       kept_first = c.push.ensures.kept ∙ h.kept_first;
-      kept_words = c.entry_of.ensures.kept ∙ h.kept_words;
-      near = c.entry_of.ensures.near;
-      upto = omega (arith, c.entry_of.ensures.upto, ap (λ b. (b + 1) * 2 ^ (6 * c.args.steps)) c.from.ensures);
+      kept_words = c.next_entry.ensures.kept ∙ h.kept_words;
+      near = c.next_entry.ensures.near;
+      upto = c.next_entry.ensures.upto;
+      until = c.in-Ok.ensures.until;
       long = ap length put ∙ (length-append old (entry ∷ []) ∙ ap (λ n. n + 1) h.long);
-      entries = one_more IsOne 0 block [] old (g.F.Sink.put c.push.new.self) (g.S.Sink.put c.loop-block.words) (g.S.Sink.put c.entry_of.new.sink) entry
+      entries = one_more IsOne 0 block [] old (g.F.Sink.put c.push.new.self) (g.S.Sink.put c.loop-block.words) (g.S.Sink.put c.next_entry.new.sink) entry
           (λ i l. ap (λ xs. get_or xs i 0) put ∙ get_or_append_left old (entry ∷ []) 0 i (omega (arith, h.long)))
           (ap (λ xs. get_or xs block 0) put ∙ get_or_push old entry 0 block h.long) h.entries
-          (subst (λ b. IsOne b (g.S.Sink.put c.loop-block.words) entry (g.S.Sink.put c.entry_of.new.sink)) zero c.in-Ok.ensures.entry);
+          (subst (λ b. IsOne b (g.S.Sink.put c.loop-block.words) entry (g.S.Sink.put c.next_entry.new.sink)) zero c.in-Ok.ensures.entry);
     }
 
-pub entry_of-requires-clause-block : goal.entry_of-requires-clause-block
-entry_of-requires-clause-block g c =
+pub next_entry-requires-clause-block : goal.next_entry-requires-clause-block
+next_entry-requires-clause-block g c =
     let size = g.A.Address.width + g.A.Address.padding in
     let all = all_blocks c.args.steps size c.padded_width.result c.padded_width.ensures.value c.requires.some c.requires.few in
-    block_fits c.args.steps size (1 * 2 ^ (c.padded_width.result - 6 * c.args.steps) % 2 ^ 64) c.from.result all (omega (arith, c.from.ensures, c.loop-block-test.true))
+    block_fits c.args.steps size (1 * 2 ^ (c.padded_width.result - 6 * c.args.steps) % 2 ^ 64) c.loop-block.block all c.loop-block-test.true
 
-pub entry_of-requires-clause-upto : goal.entry_of-requires-clause-upto
-entry_of-requires-clause-upto g c = omega (arith, c.loop-block.invariant.upto, ap (λ b. b * 2 ^ (6 * c.args.steps)) c.from.ensures)
+pub next_entry-requires-clause-some : goal.next_entry-requires-clause-some
+next_entry-requires-clause-some g c = omega (arith, c.padded_width.ensures.value, c.padded_width.ensures.long, c.requires.few)
 
-pub entry_of-requires-clause-wide : goal.entry_of-requires-clause-wide
-entry_of-requires-clause-wide g c = omega (arith, c.padded_width.ensures.value, c.padded_width.ensures.fits)
+pub next_entry-requires-clause-wide : goal.next_entry-requires-clause-wide
+next_entry-requires-clause-wide g c = omega (arith, c.padded_width.ensures.value, c.padded_width.ensures.fits)
 
 pub returns-clause-table : goal.returns-clause-table
 returns-clause-table g c =
@@ -79,12 +81,12 @@ returns-in-Err-clause-stopped g c = λ all_first all_words table.
     let networks = key_networks g.A.Address.value c.args.keys.now in
     let count = one_count steps (2 ^ (w + padding)) (length all_first) (1 * 2 ^ (c.padded_width.result - 6 * steps) % 2 ^ 64) table.size
     (all_blocks steps (w + padding) c.padded_width.result c.padded_width.ensures.value c.requires.some c.requires.few) in
-    let block : c.from.result ≡ 0 + c.loop-block.block = omega (arith, c.from.ensures) in
+    let block : c.loop-block.block ≡ 0 + c.loop-block.block = omega arith in
     stops_in_block (IsAnswer w padding networks) (one_answer w padding networks c.requires.keys) steps (length all_first) all_first all_words (g.F.Sink.put c.loop-block.first)
-    (g.S.Sink.put c.loop-block.words) c.loop-block.block table.entries c.loop-block.invariant.entries (omega (arith, count, c.loop-block-test.true)) (g.S.Sink.put c.entry_of.new.sink)
-    (g.S.Sink.refuses c.entry_of.new.sink)
+    (g.S.Sink.put c.loop-block.words) c.loop-block.block table.entries c.loop-block.invariant.entries (omega (arith, count, c.loop-block-test.true)) (g.S.Sink.put c.next_entry.new.sink)
+    (g.S.Sink.refuses c.next_entry.new.sink)
     (subst (λ b. (entry : ℕ) (next : List ℕ) → IsEntry (IsAnswer w padding networks) steps b (g.S.Sink.put c.loop-block.words) entry next
-    → StopsBefore (g.S.Sink.put c.entry_of.new.sink) (g.S.Sink.refuses c.entry_of.new.sink) next) block c.in-Err.ensures.stopped)
+    → StopsBefore (g.S.Sink.put c.next_entry.new.sink) (g.S.Sink.refuses c.next_entry.new.sink) next) block c.in-Err.ensures.stopped)
 
 pub returns-in-Err-push-clause-stopped : goal.returns-in-Err-push-clause-stopped
 returns-in-Err-push-clause-stopped g c = λ all_first all_words table.
@@ -94,9 +96,9 @@ returns-in-Err-push-clause-stopped g c = λ all_first all_words table.
     let networks = key_networks g.A.Address.value c.args.keys.now in
     let count = one_count steps (2 ^ (w + padding)) (length all_first) (1 * 2 ^ (c.padded_width.result - 6 * steps) % 2 ^ 64) table.size
     (all_blocks steps (w + padding) c.padded_width.result c.padded_width.ensures.value c.requires.some c.requires.few) in
-    let block : c.from.result ≡ 0 + c.loop-block.block = omega (arith, c.from.ensures) in
+    let block : c.loop-block.block ≡ 0 + c.loop-block.block = omega arith in
     let refused = c.in-Err-push.ensures.refused in
     stops_at_entry (IsAnswer w padding networks) (one_answer w padding networks c.requires.keys) steps (length all_first) all_first all_words (g.F.Sink.put c.loop-block.first)
     (g.S.Sink.put c.loop-block.words) c.loop-block.block table.entries c.loop-block.invariant.entries (omega (arith, count, c.loop-block-test.true)) (g.F.Sink.put c.push.new.self)
-    (g.F.Sink.refuses c.push.new.self) c.in-Ok.entry (g.S.Sink.put c.entry_of.new.sink) refl c.loop-block.invariant.long
-    (subst (λ b. IsEntry (IsAnswer w padding networks) steps b (g.S.Sink.put c.loop-block.words) c.in-Ok.entry (g.S.Sink.put c.entry_of.new.sink)) block c.in-Ok.ensures.entry) refused.0 refused.1
+    (g.F.Sink.refuses c.push.new.self) c.in-Ok.entry (g.S.Sink.put c.next_entry.new.sink) refl c.loop-block.invariant.long
+    (subst (λ b. IsEntry (IsAnswer w padding networks) steps b (g.S.Sink.put c.loop-block.words) c.in-Ok.entry (g.S.Sink.put c.next_entry.new.sink)) block c.in-Ok.ensures.entry) refused.0 refused.1

@@ -3,6 +3,7 @@ use Rattle.std.proofs.lemmas.Nat.{pow_pos, div_below}
 use Rattle.cidr_lookup.specs.Nodes.{IsEntry}
 use Rattle.cidr_lookup.specs.Searching.{IsValueAt}
 use Rattle.cidr_lookup.specs.Tables.{IsAnswer}
+use Rattle.cidr_lookup.proofs.Blocks.{padded_fits}
 use Rattle.cidr_lookup.proofs.Changes.{list_has, ordered}
 use Rattle.cidr_lookup.proofs.Entries.{Leads, each, grows, leads, led, list_of, next, part_at, some_left}
 use Rattle.cidr_lookup.proofs.search.found_value.Goals as goal
@@ -22,7 +23,8 @@ within number shift steps count size at e is fits all =
 pub returns-then-at-len : goal.returns-then-at-len
 returns-then-at-len g c = λ networks table.
     let number = g.A.Address.value c.args.address * 2 ^ g.A.Address.padding in
-    let fits : number < 2 ^ (g.A.Address.width + g.A.Address.padding) = omega (arith, c.padded.ensures.value, c.padded.ensures.fits) in
+    let fits : number < 2 ^ (g.A.Address.width + g.A.Address.padding) =
+    padded_fits (g.A.Address.value c.args.address) g.A.Address.width g.A.Address.padding (omega (arith, c.number.ensures.value, c.number.ensures.fits)) in
     absurd (omega (arith, c.len.ensures, within number (6 * c.args.steps) c.args.steps (length (g.T.Words.words c.args.first.now)) (g.A.Address.width + g.A.Address.padding) c.block-at.result refl c.block-at.ensures fits table.size))
 
 pub loop-entry-init : goal.loop-entry-init

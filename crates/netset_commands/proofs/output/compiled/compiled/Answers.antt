@@ -45,7 +45,7 @@ returns-in_default-clause-large c =
 pub returns-in_default-others-clause-large : goal.returns-in_default-others-clause-large
 returns-in_default-others-clause-large c =
     let ipv6 : c.as_slice-2.result.now ≡ c.args.table.now.v6.rows = c.as_slice-2.ensures.value ∙ c.iter-2.ensures.rest in
-    inr (long_values 128 0 ipv6_steps c.args.table.now.values.items c.args.table.now.v6.rows
+    inr (long_values 128 2 ipv6_steps c.args.table.now.values.items c.args.table.now.v6.rows
     (rw (c.in_default-others.is, c.as_slice-all.ensures.value, ipv6) at c.in_ok-others.ensures.large))
 
 pub returns-in-Values-clause-large : goal.returns-in-Values-clause-large
@@ -63,7 +63,7 @@ returns-in-Values-clause-large c =
           inl (only_long 32 4 ipv4_steps (from_le_bytes w32) c.args.table.now.values.items c.args.table.now.v4.rows c.in-Some.ipv4 c.rows.result are4 c.rows.ensures.keys
           c.rows.ensures.offsets c.rows.ensures.values c.iter.ensures.sorted why)
       | inr (fine, why) ↦
-          inr (only_long 128 0 ipv6_steps wide_word c.args.table.now.values.items c.args.table.now.v6.rows c.in-Some-others.ipv6 c.rows-2.result are6 c.rows-2.ensures.keys
+          inr (only_long 128 2 ipv6_steps wide_word c.args.table.now.values.items c.args.table.now.v6.rows c.in-Some-others.ipv6 c.rows-2.result are6 c.rows-2.ensures.keys
           c.rows-2.ensures.offsets c.rows-2.ensures.values c.iter-2.ensures.sorted why)
     ]
 
@@ -82,6 +82,6 @@ returns-clause-large c =
           inl (only_large 32 4 ipv4_steps (from_le_bytes w32) c.args.table.now.values.items c.args.table.now.v4.rows c.in-Some.ipv4 c.rows.result are4 c.rows.ensures.keys
           c.rows.ensures.offsets c.rows.ensures.values c.iter.ensures.sorted c.in-Table.e c.in_default-e.not-NoMemory why)
       | inr (fine, why) ↦
-          inr (only_large 128 0 ipv6_steps wide_word c.args.table.now.values.items c.args.table.now.v6.rows c.in-Some-others.ipv6 c.rows-2.result are6 c.rows-2.ensures.keys
+          inr (only_large 128 2 ipv6_steps wide_word c.args.table.now.values.items c.args.table.now.v6.rows c.in-Some-others.ipv6 c.rows-2.result are6 c.rows-2.ensures.keys
           c.rows-2.ensures.offsets c.rows-2.ensures.values c.iter-2.ensures.sorted c.in-Table.e c.in_default-e.not-NoMemory why)
     ]
