@@ -205,7 +205,7 @@ static void errors(void) {
     for (uint32_t family = 4; family <= 6; family += 2) {
         pcidr_table none = {0}, empty = built(family, NULL, 0);
         none.family = family;
-        WANT(empty.first_len == (family == 4 ? 64 : 256) && empty.words_len == 0);
+        WANT(empty.first_len == (family == 4 ? 64 : 1024) && empty.words_len == 0);
         WANT(pcidr_table_lookup(&none, &address) == PCIDR_NO_ROW && pcidr_table_lookup(&none, &wide) == PCIDR_NO_ROW);
         WANT(pcidr_table_lookup(&empty, &address) == PCIDR_NO_ROW && pcidr_table_lookup(&empty, &wide) == PCIDR_NO_ROW);
         WANT(pcidr_table_lookup_each(&none, NULL, 0, NULL, 0) == PCIDR_OK);

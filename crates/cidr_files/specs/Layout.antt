@@ -52,7 +52,7 @@ abbrev pub magic : ℕ
 magic = 0x44494389
 
 abbrev pub version : ℕ
-version = 3
+version = 4
 
 -- those of the files of earlier releases
 abbrev pub IsOldVersion : ℕ → Type 0
