@@ -11,6 +11,10 @@ ghost use Rattle.cidr.specs.declared.family.Family.TheVariants.{Ipv4, Ipv6};
 use crate::addr::error::AddrParseError;
 use crate::addr::v4::Ipv4Addr;
 use crate::addr::v6::Ipv6Addr;
+use crate::cidr::combined::IpCidr;
+use crate::inet::combined::IpInet;
+use crate::inet_pair::combined::IpInetPair;
+use crate::traits::Address;
 use arrayvec::ArrayString;
 use std::fmt;
 use std::str::FromStr;
@@ -138,4 +142,40 @@ impl fmt::Debug for IpAddr {
     fn fmt<W: fmt::Write>(&self, f: &mut fmt::Formatter<W>) -> fmt::Result {
         fmt::Display::fmt(self, f)
     }
+}
+
+impl Address for IpAddr {
+    ghost use Rattle.std.specs.Prelude.{refl};
+    ghost use Rattle.cidr.specs.model.Bits.{bit_eq};
+    ghost use Rattle.cidr.specs.laws.EqualLaws.{bits_told, told_in};
+    ghost use Rattle.cidr.specs.laws.TraitLaws.{apart_from_six, apart_from_four, address_v4, address_v6, ip_address_known, reads_ip_address, prints_ip_address};
+    ghost use Rattle.cidr.specs.declared.addr.ip.IpAddr.TheVariants as address;
+
+    type Inet = IpInet;
+
+    type Cidr = IpCidr;
+
+    type InetPair = IpInetPair;
+
+    ghost equal = { elim [
+      | address.V4 a ↦ elim [
+        | address.V4 b ↦ told_in address.V4 address_v4 bit_eq bits_told a b
+        | address.V6 b ↦ apart_from_six address_family (address.V4 a) (address.V6 b) refl refl
+      ]
+      | address.V6 a ↦ elim [
+        | address.V4 b ↦ apart_from_four address_family (address.V4 b) (address.V6 a) refl refl
+        | address.V6 b ↦ told_in address.V6 address_v6 bit_eq bits_told a b
+      ]
+    ] };
+
+    ghost known = { ip_address_known };
+
+    ghost ordered = { elim [
+      | address.V4 a ↦ elim [ address.V4 b ↦ refl | address.V6 b ↦ refl ]
+      | address.V6 a ↦ elim [ address.V4 b ↦ refl | address.V6 b ↦ refl ]
+    ] };
+
+    ghost reads = { reads_ip_address };
+
+    ghost prints = { prints_ip_address };
 }

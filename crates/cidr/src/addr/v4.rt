@@ -14,7 +14,11 @@ ghost use Rattle.cidr.specs.texts.Printed.{IsAppended};
 use crate::addr::decimal::{push_decimal, push_decimal_dot};
 use crate::addr::error::AddrParseError;
 use crate::addr::read_v4::read_ipv4;
+use crate::cidr::network::Ipv4Cidr;
+use crate::inet::host::Ipv4Inet;
+use crate::inet_pair::host_pair::Ipv4InetPair;
 use crate::text::print::append;
+use crate::traits::Address;
 use arrayvec::ArrayString;
 use std::cmp::Ordering;
 use std::fmt;
@@ -255,4 +259,26 @@ impl fmt::Debug for Ipv4Addr {
     fn fmt<W: fmt::Write>(&self, f: &mut fmt::Formatter<W>) -> fmt::Result {
         fmt::Display::fmt(self, f)
     }
+}
+
+impl Address for Ipv4Addr {
+    ghost use Rattle.cidr.specs.laws.BitLaws.{bit_eq_Decides};
+    ghost use Rattle.cidr.specs.laws.TraitLaws.{reads_address};
+    ghost use Rattle.cidr.specs.declared.family.Family.TheVariants.{Ipv4};
+
+    type Inet = Ipv4Inet;
+
+    type Cidr = Ipv4Cidr;
+
+    type InetPair = Ipv4InetPair;
+
+    ghost equal = { bit_eq_Decides };
+
+    ghost known = { λ _ _ _ h. h };
+
+    ghost ordered = { λ _ _. refl };
+
+    ghost reads = { reads_address Ipv4 };
+
+    ghost prints = { λ _. refl };
 }

@@ -17,7 +17,11 @@ use crate::addr::print_v6::push_hex_groups;
 use crate::addr::read_v6::read_ipv6;
 use crate::addr::v4::Ipv4Addr;
 use crate::arithmetic::halves::Halves;
+use crate::cidr::network::Ipv6Cidr;
+use crate::inet::host::Ipv6Inet;
+use crate::inet_pair::host_pair::Ipv6InetPair;
 use crate::text::print::append;
+use crate::traits::Address;
 use arrayvec::ArrayString;
 use std::cmp::Ordering;
 use std::fmt;
@@ -351,4 +355,26 @@ impl fmt::Debug for Ipv6Addr {
     fn fmt<W: fmt::Write>(&self, f: &mut fmt::Formatter<W>) -> fmt::Result {
         fmt::Display::fmt(self, f)
     }
+}
+
+impl Address for Ipv6Addr {
+    ghost use Rattle.cidr.specs.laws.BitLaws.{bit_eq_Decides};
+    ghost use Rattle.cidr.specs.laws.TraitLaws.{reads_address};
+    ghost use Rattle.cidr.specs.declared.family.Family.TheVariants.{Ipv6};
+
+    type Inet = Ipv6Inet;
+
+    type Cidr = Ipv6Cidr;
+
+    type InetPair = Ipv6InetPair;
+
+    ghost equal = { bit_eq_Decides };
+
+    ghost known = { λ _ _ _ h. h };
+
+    ghost ordered = { λ _ _. refl };
+
+    ghost reads = { reads_address Ipv6 };
+
+    ghost prints = { λ _. refl };
 }

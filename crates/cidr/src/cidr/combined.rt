@@ -18,6 +18,7 @@ use crate::inet_pair::combined::IpInetPair;
 use crate::text::print::append;
 use crate::text::read::{cut_at_last_slash, read_length};
 use crate::text::with_length::WithLength;
+use crate::traits::Cidr;
 use arrayvec::ArrayString;
 use std::fmt;
 use std::str::FromStr;
@@ -436,4 +437,84 @@ impl fmt::Display for WithLength<IpCidr> {
     fn fmt<W: fmt::Write>(&self, f: &mut fmt::Formatter<W>) -> fmt::Result {
         f.write_str(self.to_text().as_str())
     }
+}
+
+impl Cidr for IpCidr {
+    ghost use Rattle.std.specs.Prelude.{refl};
+    ghost use Rattle.cidr.specs.model.Bits.{bit_eq};
+    ghost use Rattle.cidr.specs.laws.EqualLaws.{bits_told, told_in};
+    ghost use Rattle.cidr.specs.laws.TraitLaws.{apart_from_six, apart_from_four, network_v4, network_v6, ip_network_known, reads_ip_network, prints_ip_network};
+    ghost use Rattle.cidr.specs.declared.cidr.combined.IpCidr.TheVariants as network;
+
+    type Address = IpAddr;
+
+    fn new(addr: IpAddr, len: u8) -> Result<IpCidr, NetworkParseError> {
+        IpCidr::new(addr, len)
+    }
+
+    fn new_host(addr: IpAddr) -> IpCidr {
+        IpCidr::new_host(addr)
+    }
+
+    fn iter(&self) -> InetIterator<IpAddr> {
+        self.iter()
+    }
+
+    fn first_address(&self) -> IpAddr {
+        self.first_address()
+    }
+
+    fn first(&self) -> IpInet {
+        self.first()
+    }
+
+    fn last_address(&self) -> IpAddr {
+        self.last_address()
+    }
+
+    fn last(&self) -> IpInet {
+        self.last()
+    }
+
+    fn network_length(&self) -> u8 {
+        self.network_length()
+    }
+
+    fn family(&self) -> Family {
+        self.family()
+    }
+
+    fn is_host_address(&self) -> bool {
+        self.is_host_address()
+    }
+
+    fn mask(&self) -> IpAddr {
+        self.mask()
+    }
+
+    fn contains(&self, addr: &IpAddr) -> bool {
+        self.contains(addr)
+    }
+
+    ghost equal = { elim [
+      | network.V4 a ↦ elim [
+        | network.V4 b ↦ told_in network.V4 network_v4 bit_eq bits_told a b
+        | network.V6 b ↦ apart_from_six network_family (network.V4 a) (network.V6 b) refl refl
+      ]
+      | network.V6 a ↦ elim [
+        | network.V4 b ↦ apart_from_four network_family (network.V4 b) (network.V6 a) refl refl
+        | network.V6 b ↦ told_in network.V6 network_v6 bit_eq bits_told a b
+      ]
+    ] };
+
+    ghost known = { ip_network_known };
+
+    ghost ordered = { elim [
+      | network.V4 a ↦ elim [ network.V4 b ↦ refl | network.V6 b ↦ refl ]
+      | network.V6 a ↦ elim [ network.V4 b ↦ refl | network.V6 b ↦ refl ]
+    ] };
+
+    ghost reads = { reads_ip_network };
+
+    ghost prints = { prints_ip_network };
 }

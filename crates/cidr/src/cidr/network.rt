@@ -14,12 +14,14 @@ use crate::addr::v4::Ipv4Addr;
 use crate::addr::v6::Ipv6Addr;
 use crate::errors::{NetworkLengthTooLongError, NetworkParseError};
 use crate::family::Family;
-use crate::inet::host::Host;
+use crate::inet::host::{Host, Ipv4Inet, Ipv6Inet};
+use crate::inet_iterator::InetIterator;
 use crate::inet_pair::host_pair::HostPair;
 use crate::internal_traits::address_bits::{AddressBits, AddressText};
 use crate::text::print::{append, forced, plain};
 use crate::text::read::{cut_at_last_slash, read_length};
 use crate::text::with_length::WithLength;
+use crate::traits::Cidr;
 use arrayvec::ArrayString;
 use std::alloc::AllocError;
 use std::cmp::Ordering;
@@ -495,4 +497,138 @@ impl<A: AddressText> fmt::Debug for Network<A> {
     fn fmt<W: fmt::Write>(&self, f: &mut fmt::Formatter<W>) -> fmt::Result {
         fmt::Display::fmt(&self.with_length(), f)
     }
+}
+
+#[tactic(auto, using(crate::proofs::Views::view_laws))]
+impl Cidr for Ipv4Cidr {
+    ghost use Rattle.cidr.specs.laws.BitLaws.{bit_eq_Decides};
+    ghost use Rattle.cidr.specs.laws.TraitLaws.{reads_network};
+    ghost use Rattle.cidr.specs.declared.family.Family.TheVariants.{Ipv4};
+
+    type Address = Ipv4Addr;
+
+    fn new(addr: Ipv4Addr, len: u8) -> Result<Ipv4Cidr, NetworkParseError> {
+        Ipv4Cidr::new(addr, len)
+    }
+
+    fn new_host(addr: Ipv4Addr) -> Ipv4Cidr {
+        Ipv4Cidr::new_host(addr)
+    }
+
+    fn iter(&self) -> InetIterator<Ipv4Addr> {
+        self.iter()
+    }
+
+    fn first_address(&self) -> Ipv4Addr {
+        self.first_address()
+    }
+
+    fn first(&self) -> Ipv4Inet {
+        self.first()
+    }
+
+    fn last_address(&self) -> Ipv4Addr {
+        self.last_address()
+    }
+
+    fn last(&self) -> Ipv4Inet {
+        self.last()
+    }
+
+    fn network_length(&self) -> u8 {
+        self.network_length()
+    }
+
+    fn family(&self) -> Family {
+        self.family()
+    }
+
+    fn is_host_address(&self) -> bool {
+        self.is_host_address()
+    }
+
+    fn mask(&self) -> Ipv4Addr {
+        self.mask()
+    }
+
+    fn contains(&self, addr: &Ipv4Addr) -> bool {
+        self.contains(addr)
+    }
+
+    ghost equal = { bit_eq_Decides };
+
+    ghost known = { λ _ _ _ h. h };
+
+    ghost ordered = { λ _ _. refl };
+
+    ghost reads = { reads_network Ipv4 };
+
+    ghost prints = { λ _. refl };
+}
+
+#[tactic(auto, using(crate::proofs::Views::view_laws))]
+impl Cidr for Ipv6Cidr {
+    ghost use Rattle.cidr.specs.laws.BitLaws.{bit_eq_Decides};
+    ghost use Rattle.cidr.specs.laws.TraitLaws.{reads_network};
+    ghost use Rattle.cidr.specs.declared.family.Family.TheVariants.{Ipv6};
+
+    type Address = Ipv6Addr;
+
+    fn new(addr: Ipv6Addr, len: u8) -> Result<Ipv6Cidr, NetworkParseError> {
+        Ipv6Cidr::new(addr, len)
+    }
+
+    fn new_host(addr: Ipv6Addr) -> Ipv6Cidr {
+        Ipv6Cidr::new_host(addr)
+    }
+
+    fn iter(&self) -> InetIterator<Ipv6Addr> {
+        self.iter()
+    }
+
+    fn first_address(&self) -> Ipv6Addr {
+        self.first_address()
+    }
+
+    fn first(&self) -> Ipv6Inet {
+        self.first()
+    }
+
+    fn last_address(&self) -> Ipv6Addr {
+        self.last_address()
+    }
+
+    fn last(&self) -> Ipv6Inet {
+        self.last()
+    }
+
+    fn network_length(&self) -> u8 {
+        self.network_length()
+    }
+
+    fn family(&self) -> Family {
+        self.family()
+    }
+
+    fn is_host_address(&self) -> bool {
+        self.is_host_address()
+    }
+
+    fn mask(&self) -> Ipv6Addr {
+        self.mask()
+    }
+
+    fn contains(&self, addr: &Ipv6Addr) -> bool {
+        self.contains(addr)
+    }
+
+    ghost equal = { bit_eq_Decides };
+
+    ghost known = { λ _ _ _ h. h };
+
+    ghost ordered = { λ _ _. refl };
+
+    ghost reads = { reads_network Ipv6 };
+
+    ghost prints = { λ _. refl };
 }

@@ -19,6 +19,7 @@ use crate::inet::host::{Ipv4Inet, Ipv6Inet};
 use crate::text::print::append;
 use crate::text::read::{cut_at_last_slash, read_length};
 use crate::text::with_length::WithLength;
+use crate::traits::Inet;
 use arrayvec::ArrayString;
 use std::fmt;
 use std::ops::{Add, Sub};
@@ -555,4 +556,112 @@ impl Sub<u128> for IpInet {
             IpInet::V6(host) => IpInet::V6(host - step),
         }
     }
+}
+
+impl Inet for IpInet {
+    ghost use Rattle.std.specs.Prelude.{refl};
+    ghost use Rattle.cidr.specs.model.Host.{host_eq};
+    ghost use Rattle.cidr.specs.laws.EqualLaws.{hosts_told, told_in};
+    ghost use Rattle.cidr.specs.laws.TraitLaws.{apart_from_six, apart_from_four, host_v4, host_v6, ip_host_known, reads_ip_host, prints_ip_host};
+    ghost use Rattle.cidr.specs.declared.inet.combined.IpInet.TheVariants as host;
+
+    type Address = IpAddr;
+
+    fn new(addr: IpAddr, len: u8) -> Result<IpInet, NetworkLengthTooLongError> {
+        IpInet::new(addr, len)
+    }
+
+    fn new_host(addr: IpAddr) -> IpInet {
+        IpInet::new_host(addr)
+    }
+
+    fn increment(&mut self) -> bool {
+        self.increment()
+    }
+
+    fn decrement(&mut self) -> bool {
+        self.decrement()
+    }
+
+    fn next(self) -> Option<IpInet> {
+        self.next()
+    }
+
+    fn previous(self) -> Option<IpInet> {
+        self.previous()
+    }
+
+    fn overflowing_add(self, step: u128) -> (IpInet, bool) {
+        self.overflowing_add(step)
+    }
+
+    fn overflowing_sub(self, step: u128) -> (IpInet, bool) {
+        self.overflowing_sub(step)
+    }
+
+    fn network(&self) -> IpCidr {
+        self.network()
+    }
+
+    fn address(&self) -> IpAddr {
+        self.address()
+    }
+
+    fn first_address(&self) -> IpAddr {
+        self.first_address()
+    }
+
+    fn first(&self) -> IpInet {
+        self.first()
+    }
+
+    fn last_address(&self) -> IpAddr {
+        self.last_address()
+    }
+
+    fn last(&self) -> IpInet {
+        self.last()
+    }
+
+    fn network_length(&self) -> u8 {
+        self.network_length()
+    }
+
+    fn family(&self) -> Family {
+        self.family()
+    }
+
+    fn is_host_address(&self) -> bool {
+        self.is_host_address()
+    }
+
+    fn mask(&self) -> IpAddr {
+        self.mask()
+    }
+
+    fn contains(&self, addr: &IpAddr) -> bool {
+        self.contains(addr)
+    }
+
+    ghost equal = { elim [
+      | host.V4 a ↦ elim [
+        | host.V4 b ↦ told_in host.V4 host_v4 host_eq hosts_told a b
+        | host.V6 b ↦ apart_from_six host_family (host.V4 a) (host.V6 b) refl refl
+      ]
+      | host.V6 a ↦ elim [
+        | host.V4 b ↦ apart_from_four host_family (host.V4 b) (host.V6 a) refl refl
+        | host.V6 b ↦ told_in host.V6 host_v6 host_eq hosts_told a b
+      ]
+    ] };
+
+    ghost known = { ip_host_known };
+
+    ghost ordered = { elim [
+      | host.V4 a ↦ elim [ host.V4 b ↦ refl | host.V6 b ↦ refl ]
+      | host.V6 a ↦ elim [ host.V4 b ↦ refl | host.V6 b ↦ refl ]
+    ] };
+
+    ghost reads = { reads_ip_host };
+
+    ghost prints = { prints_ip_host };
 }

@@ -12,6 +12,7 @@ use crate::inet::combined::IpInet;
 use crate::inet_iterator::InetIterator;
 use crate::inet_pair::host_pair::{Ipv4InetPair, Ipv6InetPair};
 use crate::text::with_length::WithLength;
+use crate::traits::InetPair;
 use arrayvec::ArrayString;
 use std::fmt;
 
@@ -305,4 +306,63 @@ impl fmt::Display for WithLength<IpInetPair> {
     fn fmt<W: fmt::Write>(&self, f: &mut fmt::Formatter<W>) -> fmt::Result {
         f.write_str(self.to_text().as_str())
     }
+}
+
+impl InetPair for IpInetPair {
+    ghost use Rattle.std.specs.Prelude.{refl};
+    ghost use Rattle.cidr.specs.model.Pair.{pair_eq};
+    ghost use Rattle.cidr.specs.laws.EqualLaws.{pairs_told, told_in};
+    ghost use Rattle.cidr.specs.laws.TraitLaws.{apart_from_six, apart_from_four, pair_v4, pair_v6, ip_pair_known};
+    ghost use Rattle.cidr.specs.declared.inet_pair.combined.IpInetPair.TheVariants as pair;
+
+    type Address = IpAddr;
+
+    fn new(first: IpInet, second: IpInet) -> Result<IpInetPair, InetTupleError> {
+        IpInetPair::new(first, second)
+    }
+
+    fn new_from_addresses(
+        first: IpAddr,
+        second: IpAddr,
+        len: u8,
+    ) -> Result<IpInetPair, InetTupleError> {
+        IpInetPair::new_from_addresses(first, second, len)
+    }
+
+    fn first(&self) -> IpInet {
+        self.first()
+    }
+
+    fn second(&self) -> IpInet {
+        self.second()
+    }
+
+    fn network(&self) -> IpCidr {
+        self.network()
+    }
+
+    fn network_length(&self) -> u8 {
+        self.network_length()
+    }
+
+    fn family(&self) -> Family {
+        self.family()
+    }
+
+    fn iter(self) -> InetIterator<IpAddr> {
+        self.iter()
+    }
+
+    ghost equal = { elim [
+      | pair.V4 a ↦ elim [
+        | pair.V4 b ↦ told_in pair.V4 pair_v4 pair_eq pairs_told a b
+        | pair.V6 b ↦ apart_from_six pair_family (pair.V4 a) (pair.V6 b) refl refl
+      ]
+      | pair.V6 a ↦ elim [
+        | pair.V4 b ↦ apart_from_four pair_family (pair.V4 b) (pair.V6 a) refl refl
+        | pair.V6 b ↦ told_in pair.V6 pair_v6 pair_eq pairs_told a b
+      ]
+    ] };
+
+    ghost known = { ip_pair_known };
 }

@@ -10,13 +10,15 @@ ghost use Rattle.cidr.specs.texts.Printed.{pair_text};
 
 use crate::addr::v4::Ipv4Addr;
 use crate::addr::v6::Ipv6Addr;
-use crate::cidr::network::Network;
+use crate::cidr::network::{Ipv4Cidr, Ipv6Cidr, Network};
 use crate::errors::{InetTupleError, NetworkLengthTooLongError};
 use crate::family::Family;
-use crate::inet::host::Host;
+use crate::inet::host::{Host, Ipv4Inet, Ipv6Inet};
+use crate::inet_iterator::InetIterator;
 use crate::internal_traits::address_bits::{AddressBits, AddressText};
 use crate::text::print::{forced, parenthesized, plain};
 use crate::text::with_length::WithLength;
+use crate::traits::InetPair;
 use arrayvec::ArrayString;
 use std::alloc::AllocError;
 use std::fmt;
@@ -328,4 +330,98 @@ impl<A: AddressText> fmt::Debug for HostPair<A> {
             .field("len", &self.len)
             .finish()
     }
+}
+
+#[tactic(auto, using(crate::proofs::Views::view_laws))]
+impl InetPair for Ipv4InetPair {
+    ghost use Rattle.cidr.specs.laws.EqualLaws.{pair_eq_Decides};
+
+    type Address = Ipv4Addr;
+
+    fn new(first: Ipv4Inet, second: Ipv4Inet) -> Result<Ipv4InetPair, InetTupleError> {
+        Ipv4InetPair::new(first, second)
+    }
+
+    fn new_from_addresses(
+        first: Ipv4Addr,
+        second: Ipv4Addr,
+        len: u8,
+    ) -> Result<Ipv4InetPair, InetTupleError> {
+        Ipv4InetPair::new_from_addresses(first, second, len)
+    }
+
+    fn first(&self) -> Ipv4Inet {
+        self.first()
+    }
+
+    fn second(&self) -> Ipv4Inet {
+        self.second()
+    }
+
+    fn network(&self) -> Ipv4Cidr {
+        self.network()
+    }
+
+    fn network_length(&self) -> u8 {
+        self.network_length()
+    }
+
+    fn family(&self) -> Family {
+        self.family()
+    }
+
+    fn iter(self) -> InetIterator<Ipv4Addr> {
+        self.iter()
+    }
+
+    ghost equal = { pair_eq_Decides };
+
+    ghost known = { λ _ _ _ h. h };
+}
+
+#[tactic(auto, using(crate::proofs::Views::view_laws))]
+impl InetPair for Ipv6InetPair {
+    ghost use Rattle.cidr.specs.laws.EqualLaws.{pair_eq_Decides};
+
+    type Address = Ipv6Addr;
+
+    fn new(first: Ipv6Inet, second: Ipv6Inet) -> Result<Ipv6InetPair, InetTupleError> {
+        Ipv6InetPair::new(first, second)
+    }
+
+    fn new_from_addresses(
+        first: Ipv6Addr,
+        second: Ipv6Addr,
+        len: u8,
+    ) -> Result<Ipv6InetPair, InetTupleError> {
+        Ipv6InetPair::new_from_addresses(first, second, len)
+    }
+
+    fn first(&self) -> Ipv6Inet {
+        self.first()
+    }
+
+    fn second(&self) -> Ipv6Inet {
+        self.second()
+    }
+
+    fn network(&self) -> Ipv6Cidr {
+        self.network()
+    }
+
+    fn network_length(&self) -> u8 {
+        self.network_length()
+    }
+
+    fn family(&self) -> Family {
+        self.family()
+    }
+
+    fn iter(self) -> InetIterator<Ipv6Addr> {
+        self.iter()
+    }
+
+    ghost equal = { pair_eq_Decides };
+
+    ghost known = { λ _ _ _ h. h };
 }
