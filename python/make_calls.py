@@ -1,6 +1,7 @@
 #!/usr/bin/env python3
 """make_calls.py [--check]: writes pcidr/_calls.py, the stubs of the calls, and pcidr/_purposes.py from the header of the
-library for C. With --check it writes nothing, and prints each line that only those files have, and each that they lack."""
+library for C. With --check it writes nothing, and prints each line that only those files have, each that they lack, and each
+call that a file of the module names and the header has not."""
 from __future__ import annotations
 
 import re
@@ -24,7 +25,6 @@ from ctypes import POINTER, Structure, c_char_p, c_size_t, c_uint8, c_uint16, c_
 
 TYPE_CHECKING = False
 if TYPE_CHECKING:
-    from collections.abc import Callable
     from typing import Any
 '''
 
@@ -110,22 +110,17 @@ def signatures(made: dict[str, tuple[str, list[str]]]) -> list[str]:
     letters = dict(zip(kinds, ascii_letters, strict=False))
     words = [f"{name}:{''.join(letters[kind] for kind in (result, *parameters))}" for name, (result, parameters) in made.items()]
     lines = ['SIGNATURES = """', *wrap(" ".join(words), 140, break_long_words=False, break_on_hyphens=False), '"""', "", ""]
-    lines += ["def signatures() -> dict[str, list[Any]]:", '    """Of each call the result and the parameters."""', "    kinds = {"]
-    lines += [f'        "{letter}": {kind},' for kind, letter in letters.items()]
-    lines += ["    }", '    found = (each.split(":") for each in SIGNATURES.split())']
+    lines += ["def signatures() -> dict[str, list[Any]]:", '    """Of each call the result and the parameters."""']
+    lines += wrap(f"kinds = dict(zip(\"{''.join(letters.values())}\", ({', '.join(kinds)})))", 140, initial_indent=" " * 4, subsequent_indent=" " * 8)
+    lines += ['    found = (each.split(":") for each in SIGNATURES.split())']
     return [*lines, "    return {name: [*map(kinds.__getitem__, letters)] for name, letters in found}"]
 
 
 def stubs(header: str) -> dict[str, str]:
     """The files, by name."""
-    bare, made = without_comments(header), calls(without_comments(header))
-    typed = ["class Calls:", '    """The calls, without the `_by_value` behind some names."""', ""]
-    typed.append("    if TYPE_CHECKING:")
-    for name, (_, parameters) in made.items():
-        given = ", ".join("int" if kind in SCALARS.values() else "Any" for kind in parameters)
-        typed.append(f"        {name.removesuffix('_by_value')}: Callable[[{given}], int]")
+    bare = without_comments(header)
     codes, *others = enums(bare)
-    parts = [[HEAD, *numbers(bare)], codes, *structs(bare), signatures(made), typed]
+    parts = [[HEAD, *numbers(bare)], codes, *structs(bare), signatures(calls(bare))]
     return {"_calls.py": together(parts), "_purposes.py": together([[HEAD_OF_ENUMS.rstrip("\n")], *others])}
 
 
@@ -146,7 +141,10 @@ def main() -> None:
         for name, text in made.items():
             (MADE / name).write_text(text, encoding="utf-8")
         return
-    wrong = []
+    known = {name.removesuffix("_by_value") for name in calls(without_comments(HEADER.read_text(encoding="utf-8")))}
+    wrong = [f"pcidr/{path.name}: pcidr.h has no such call: {''.join(name)}" for path in sorted(MADE.glob("*.py"))
+             for name in re.findall(r"\bcalls\.(\w+)|_(?:by|in)\(\"(\w+)", path.read_text(encoding="utf-8"))
+             if "".join(name) not in {*known, "quick"}]
     for name, text in made.items():
         theirs, ours = joined(text), joined((MADE / name).read_text(encoding="utf-8"))
         wrong += [f"pcidr/{name}: pcidr.h has no such line: {line.strip()}" for line in ours if line not in theirs]

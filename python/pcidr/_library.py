@@ -16,9 +16,7 @@ from pcidr._calls import (
     LINE_ROOM,
     MESSAGE_ROOM,
     TEXT_ROOM,
-    Calls,
     Code,
-    PlanFault,
     PlanRow,
     Range,
     Row,
@@ -47,7 +45,7 @@ if TYPE_CHECKING:
     from typing import Any, TypeVar
 
     K = TypeVar("K")
-    T = TypeVar("T", ctypes.c_size_t, Range, Row, Value)
+    T = TypeVar("T", ctypes.c_size_t, PlanRow, Range, Row, Value)
     Call = Callable[..., int]
     # What has packed addresses: whatever `memoryview` takes.
     Buffer = Any
@@ -83,7 +81,7 @@ PATH = _find()
 _known = cache(signatures)
 
 
-class _Loaded(Calls):
+class _Loaded:
     """The calls of the library, named as those of the header but without the `pcidr_`: each is made when it is first asked
     for."""
 
@@ -93,16 +91,16 @@ class _Loaded(Calls):
         self._free, self._locked = ctypes.CDLL(PATH), ctypes.PyDLL(PATH)
         _check_version(self._free.pcidr_version())
 
-    if not TYPE_CHECKING:
-
-        def __getattr__(self, name: str) -> Call:
-            if name in self._QUICK:
-                call = self.quick(name)
-            else:
-                by_value = f"{name}_by_value"
-                call, call.argtypes = self._call(self._free, by_value if by_value in _known() else name)
-            setattr(self, name, call)
-            return call
+    def __getattr__(self, name: str) -> Call:
+        call: Any
+        if name in self._QUICK:
+            call = self.quick(name)
+        else:
+            by_value = f"{name}_by_value"
+            call, call.argtypes = self._call(self._free, by_value if by_value in _known() else name)
+        setattr(self, name, call)
+        found: Call = call
+        return found
 
     def _call(self, library: ctypes.CDLL, name: str) -> tuple[Any, list[Any]]:
         """A call, another object at each time, and its parameters."""
@@ -366,27 +364,6 @@ def read_list(text: str | Buffer, strict: bool, masks: bool) -> Values:
         return code
 
     return filled(Value, given.count(b"\n") + 1, call)
-
-
-def read_rows(text: str | Buffer, strict: bool, masks: bool) -> tuple[Values, list[tuple[str, int]], list[tuple[int, str]]]:
-    """The networks of the rows of a plan, of each its name and the number of its line, and its lines in error."""
-    given, host_bits = bytes_in(text), way_of(strict, masks)
-    count, wrong, told = ctypes.c_size_t(), ctypes.c_size_t(), ctypes.create_string_buffer(LINE_ROOM)
-    lines = given.count(b"\n") + 1
-    rows, faults = (PlanRow * lines)(), (PlanFault * lines)()
-    code = calls.read_plan(given, len(given), host_bits, rows, len(rows), count, faults, lines, wrong)
-    if code == Code.NO_ROOM:
-        rows = (PlanRow * count.value)()
-        code = calls.read_plan(given, len(given), host_bits, rows, len(rows), count, faults, lines, wrong)
-    check(code)
-    found, named, bad = (Value * count.value)(), [], []
-    for i in range(count.value):
-        found[i] = rows[i].network
-        named.append((given[rows[i].name : rows[i].name + rows[i].name_len].decode(errors="replace"), rows[i].line))
-    for fault in faults[: wrong.value]:
-        calls.plan_message(given[fault.text : fault.text + fault.text_len], fault.text_len, host_bits, told, LINE_ROOM)
-        bad.append((fault.line, told.value.decode()))
-    return found, named, bad
 
 
 def combined(call: Call, these: Values, those: Values) -> Values:

@@ -5,7 +5,7 @@ import ctypes
 from itertools import chain
 from operator import index as integer
 
-from pcidr._calls import Code, Halves, Range, Rule, Value
+from pcidr._calls import LINE_ROOM, Code, Halves, PlanFault, PlanRow, Range, Rule, Value
 from pcidr._files import Stored, opened, restored, set_of, write
 from pcidr._kinds import each_of, values_of
 from pcidr._library import (
@@ -13,6 +13,7 @@ from pcidr._library import (
     Unpacked,
     answers,
     array,
+    bytes_in,
     calls,
     check,
     combined,
@@ -21,9 +22,9 @@ from pcidr._library import (
     print_all,
     read_all,
     read_list,
-    read_rows,
     sought,
     tags_of,
+    way_of,
 )
 from pcidr._values import LOW, Address, Network, network_value, renamed, theirs
 
@@ -73,8 +74,21 @@ def read_plan(
     `NetworkSet.from_text`, and behind white space or a comma a name, which goes on to the comment. Of each row its network, its name
     and the number of its line; of a range each network of the shortest list has a row. And of each line in error its number and what
     is wrong with it. A name that is not UTF-8 has U+FFFD for what is not."""
-    networks, named, wrong = read_rows(text, strict, masks)
-    return [(network, *name) for network, name in zip(each_of(Network, networks), named)], wrong
+    given, way, told = bytes_in(text), way_of(strict, masks), ctypes.create_string_buffer(LINE_ROOM)
+    lines, wrong = given.count(b"\n") + 1, ctypes.c_size_t()
+    faults = (PlanFault * lines)()
+
+    def call(*rows: object) -> int:
+        return calls.read_plan(given, len(given), way, *rows, faults, lines, wrong)
+
+    rows = filled(PlanRow, lines, call)
+    names = (given[row.name : row.name + row.name_len].decode(errors="replace") for row in rows)
+    bad = []
+    for fault in faults[: wrong.value]:
+        calls.plan_message(given[fault.text : fault.text + fault.text_len], fault.text_len, way, told, LINE_ROOM)
+        bad.append((fault.line, told.value.decode()))
+    networks = each_of(Network, array(row.network for row in rows))
+    return [*zip(networks, names, (row.line for row in rows))], bad
 
 
 def print_networks(networks: Iterable[Network | Address]) -> list[str]:

@@ -1,6 +1,7 @@
 """What addresses, hosts and networks have of the library, by `ctypes`; `_fast.c` has the same in C."""
 from __future__ import annotations
 
+from functools import partial
 from operator import ge, gt, index, le, lt
 
 from pcidr._calls import MASK_ROOM, NAME_ROOM, Code, Special, Value
@@ -9,7 +10,7 @@ from pcidr._library import array, calls, check, key_of, printed, read, sought
 TYPE_CHECKING = False
 if TYPE_CHECKING:
     from collections.abc import Callable, Sequence
-    from typing import Any, ClassVar, TypeVar
+    from typing import Any, ClassVar, Generic, TypeVar
 
     from pcidr._library import Call, Values
     from pcidr._values import Address, AnyHost, AnyNetwork, Network, SpecialEntry
@@ -17,8 +18,26 @@ if TYPE_CHECKING:
     S = TypeVar("S", bound="Shown")
     M = TypeVar("M", bound="_Mapped")
     A = TypeVar("A", bound="OfAddress")
+    T = TypeVar("T")
+
+    class _Has(Generic[T]):
+        """An attribute of a type."""
+
+        def __get__(self, shown: object, kind: object = None) -> T: ...
+
 
 _new = object.__new__
+
+
+def _attribute(how: str, call: str, about: str) -> Any:
+    """An attribute: what a method makes of the value by a call of the library."""
+    return property(lambda shown: getattr(shown, how)(getattr(calls, call)), doc=about)
+
+
+_address_by: Callable[[str, str], _Has[Address]] = partial(_attribute, "_part")
+_address_in: Callable[[str, str], _Has[Address | None]] = partial(_attribute, "_inner")
+_string_by: Callable[[str, str], _Has[str]] = partial(_attribute, "_by")
+_flag_by: Callable[[str, str], _Has[bool]] = partial(_attribute, "_is")
 
 
 def _compared(holds: Callable[[int, int], bool]) -> Callable[[Any, Any], bool]:
@@ -122,60 +141,25 @@ class Shown:
         tag = self._value.tag
         return None if tag == 255 else 32 if tag < 64 else 128
 
-    @property
-    def first(self) -> Address:
-        """The first address of the network; `any`, which has addresses of two families, raises `ValueError`."""
-        return self._part(calls.first)
-
-    @property
-    def last(self) -> Address:
-        """The last address of the network, as `first` has the first one."""
-        return self._part(calls.last)
-
-    @property
-    def netmask(self) -> Address:
-        """The mask of the network, as an address: 255.255.255.0 of a /24. `any` has none, and raises `ValueError`."""
-        return self._part(calls.mask)
-
-    @property
-    def hostmask(self) -> Address:
-        """The inverse of the mask, as an address: 0.0.0.255 of a /24. `any` has none, and raises `ValueError`."""
-        return self._part(calls.host_mask)
-
     def _is(self, call: Call) -> bool:
         """What a call says of an address or a network."""
         return call(self._value) == 1
 
-    @property
-    def is_private(self) -> bool:
-        """Whether it is private: in 10.0.0.0/8, 172.16.0.0/12, 192.168.0.0/16 or fc00::/7. `ipaddress` calls private
-        what is not globally reachable."""
-        return self._is(calls.is_private)
-
-    @property
-    def is_loopback(self) -> bool:
-        """Whether it is in 127.0.0.0/8, or is ::1."""
-        return self._is(calls.is_loopback)
-
-    @property
-    def is_link_local(self) -> bool:
-        """Whether it is in 169.254.0.0/16 or fe80::/10."""
-        return self._is(calls.is_link_local)
-
-    @property
-    def is_multicast(self) -> bool:
-        """Whether it is in 224.0.0.0/4 or ff00::/8."""
-        return self._is(calls.is_multicast)
-
-    @property
-    def is_unspecified(self) -> bool:
-        """Whether it is 0.0.0.0 or ::."""
-        return self._is(calls.is_unspecified)
-
-    @property
-    def is_documentation(self) -> bool:
-        """Whether it is in a block for documentation, as 192.0.2.0/24 and 2001:db8::/32 are."""
-        return self._is(calls.is_documentation)
+    first = _address_by("first", """The first address of the network; `any`, which has addresses of two families, raises
+        `ValueError`.""")
+    last = _address_by("last", """The last address of the network, as `first` has the first one.""")
+    netmask = _address_by("mask", """The mask of the network, as an address: 255.255.255.0 of a /24. `any` has none,
+        and raises `ValueError`.""")
+    hostmask = _address_by("host_mask", """The inverse of the mask, as an address: 0.0.0.255 of a /24. `any` has none,
+        and raises `ValueError`.""")
+    is_private = _flag_by("is_private", """Whether it is private: in 10.0.0.0/8, 172.16.0.0/12, 192.168.0.0/16 or fc00::/7.
+        `ipaddress` calls private what is not globally reachable.""")
+    is_loopback = _flag_by("is_loopback", """Whether it is in 127.0.0.0/8, or is ::1.""")
+    is_link_local = _flag_by("is_link_local", """Whether it is in 169.254.0.0/16 or fe80::/10.""")
+    is_multicast = _flag_by("is_multicast", """Whether it is in 224.0.0.0/4 or ff00::/8.""")
+    is_unspecified = _flag_by("is_unspecified", """Whether it is 0.0.0.0 or ::.""")
+    is_documentation = _flag_by("is_documentation", """Whether it is in a block for documentation, as 192.0.2.0/24 and
+        2001:db8::/32 are.""")
 
 
 class _Mapped(Shown):
@@ -208,16 +192,13 @@ class _Addressed(Shown):
     if TYPE_CHECKING:  # they have a family, and a prefix length
 
         @property
-        def version(self) -> int:
-            ...
+        def version(self) -> int: ...
 
         @property
-        def prefixlen(self) -> int:
-            ...
+        def prefixlen(self) -> int: ...
 
         @property
-        def max_prefixlen(self) -> int:
-            ...
+        def max_prefixlen(self) -> int: ...
 
     def __int__(self) -> int:
         return self._value.high << 64 | self._value.low
@@ -263,21 +244,14 @@ class OfAddress(_Mapped, _Addressed):
         entry: SpecialEntry = _functions[2](out.high, out.low, tag, out.purpose, out.rfc, *columns)
         return entry
 
-    @property
-    def is_global(self) -> bool:
-        """Whether it is globally reachable by the registries of IANA: where it is in none of their blocks, or in one
-        that they say so of."""
-        return self._is(calls.is_global)
+    def _inner(self, call: Call) -> Address | None:
+        """The address that a call finds in it."""
+        return sought(_address, call, self._value)
 
-    @property
-    def sixtofour(self) -> Address | None:
-        """The IPv4 address of the site of a 6to4 address, of 2002::/16, or None."""
-        return sought(_address, calls.ipv4_6to4, self._value)
-
-    @property
-    def nat64(self) -> Address | None:
-        """The IPv4 address in an address of translation (NAT64), of 64:ff9b::/96, or None."""
-        return sought(_address, calls.ipv4_nat64, self._value)
+    is_global = _flag_by("is_global", """Whether it is globally reachable by the registries of IANA: where it is in none of
+        their blocks, or in one that they say so of.""")
+    sixtofour = _address_in("ipv4_6to4", """The IPv4 address of the site of a 6to4 address, of 2002::/16, or None.""")
+    nat64 = _address_in("ipv4_nat64", """The IPv4 address in an address of translation (NAT64), of 64:ff9b::/96, or None.""")
 
 
 class OfHost(_Addressed):
@@ -287,10 +261,7 @@ class OfHost(_Addressed):
     _read, _print, _order = calls.read_host, calls.print_host, calls.compare_hosts
     _whole, _exploded = calls.print_host_with_length, calls.print_exploded_host
 
-    @property
-    def ip(self) -> Address:
-        """The address."""
-        return self._part(calls.address)
+    ip = _address_by("address", """The address.""")
 
     @property
     def network(self) -> Network:
@@ -307,20 +278,12 @@ class OfHost(_Addressed):
         """The domain name of the address in reverse DNS: ``1.2.0.192.in-addr.arpa``."""
         return _name(self, self.ip._value)
 
-    @property
-    def with_prefixlen(self) -> str:
-        """The string with its prefix length also where that is full: ``192.0.2.1/32``."""
-        return printed(calls.print_host_with_length, self._value)
-
-    @property
-    def with_netmask(self) -> str:
-        """The string with the mask in place of the prefix length: ``192.0.2.1/255.255.255.0``."""
-        return self._by(calls.print_host_with_mask)
-
-    @property
-    def with_hostmask(self) -> str:
-        """The string with the inverse of the mask in place of the prefix length: ``192.0.2.1/0.0.0.255``."""
-        return self._by(calls.print_host_with_host_mask)
+    with_prefixlen = _string_by("print_host_with_length", """The string with its prefix length also where that is full:
+        ``192.0.2.1/32``.""")
+    with_netmask = _string_by("print_host_with_mask", """The string with the mask in place of the prefix length:
+        ``192.0.2.1/255.255.255.0``.""")
+    with_hostmask = _string_by("print_host_with_host_mask", """The string with the inverse of the mask in place of the prefix
+        length: ``192.0.2.1/0.0.0.255``.""")
 
 
 class OfNetwork(_Mapped):
@@ -353,25 +316,10 @@ class OfNetwork(_Mapped):
         """The number of addresses."""
         return _counts[self._value.tag]
 
-    @property
-    def network_address(self) -> Address:
-        """The first address."""
-        return self._part(calls.first)
-
-    @property
-    def broadcast_address(self) -> Address:
-        """The last address, which is that of broadcasts in IPv4."""
-        return self._part(calls.last)
-
-    @property
-    def _first_usable(self) -> Address:
-        """The first address that a host may have."""
-        return self._part(calls.first_usable)
-
-    @property
-    def _last_usable(self) -> Address:
-        """The last address that a host may have."""
-        return self._part(calls.last_usable)
+    network_address = _address_by("first", """The first address.""")
+    broadcast_address = _address_by("last", """The last address, which is that of broadcasts in IPv4.""")
+    _first_usable = _address_by("first_usable", """The first address that a host may have.""")
+    _last_usable = _address_by("last_usable", """The last address that a host may have.""")
 
     def _beside(self, call: Call) -> Network:
         made = sought(_network, call, self._value)
@@ -391,20 +339,12 @@ class OfNetwork(_Mapped):
         """The other half of the network that is twice as large; 0.0.0.0/0 and ::/0 raise `ValueError`."""
         return self._beside(calls.sibling)
 
-    @property
-    def with_prefixlen(self) -> str:
-        """The string with its prefix length also where that is full: ``192.0.2.1/32``."""
-        return printed(calls.print_network_with_length, self._value)
-
-    @property
-    def with_netmask(self) -> str:
-        """The string with the mask in place of the prefix length: ``192.0.2.0/255.255.255.0``."""
-        return self._by(calls.print_with_mask)
-
-    @property
-    def with_hostmask(self) -> str:
-        """The string with the inverse of the mask in place of the prefix length: ``192.0.2.0/0.0.0.255``."""
-        return self._by(calls.print_with_host_mask)
+    with_prefixlen = _string_by("print_network_with_length", """The string with its prefix length also where that is full:
+        ``192.0.2.1/32``.""")
+    with_netmask = _string_by("print_with_mask", """The string with the mask in place of the prefix length:
+        ``192.0.2.0/255.255.255.0``.""")
+    with_hostmask = _string_by("print_with_host_mask", """The string with the inverse of the mask in place of the prefix
+        length: ``192.0.2.0/0.0.0.255``.""")
 
 
 def _address(value: Value) -> Address:

@@ -14,7 +14,7 @@ from pcidr._kinds import OF_TABLE, each_of, finder
 from pcidr._library import ADDRESS_TAGS, Arrays, answers, array, calls, check, filled, tags_of
 from pcidr._rows import ChangingRows, Rows
 from pcidr._sets import listed, values_in
-from pcidr._values import Network, network_value
+from pcidr._values import Network, network_value, renamed
 
 TYPE_CHECKING = False
 if TYPE_CHECKING:
@@ -139,12 +139,10 @@ class _Rows(Mapping[Network, "V"]):
     if TYPE_CHECKING:
 
         @overload
-        def get(self, network: AnyNetwork, /) -> V | None:
-            ...
+        def get(self, network: AnyNetwork, /) -> V | None: ...
 
         @overload
-        def get(self, network: AnyNetwork, /, default: V | D) -> V | D:
-            ...
+        def get(self, network: AnyNetwork, /, default: V | D) -> V | D: ...
 
     def get(self, network: AnyNetwork, /, default: Any = None) -> Any:
         """The value of exactly this network, or the default, also for a string that is no network."""
@@ -198,12 +196,7 @@ class _Rows(Mapping[Network, "V"]):
                 found.append(row)
         return found
 
-    def matches(self, asked: AnyNetwork) -> list[tuple[Network, V]]:
-        """The old name of `covering`."""
-        import warnings
-
-        warnings.warn(f"{type(self).__name__}.matches is covering now", DeprecationWarning, stacklevel=2)
-        return self.covering(asked)
+    matches = renamed("matches", "covering")
 
 
 class Matches(Sequence["tuple[Network, V] | None"]):
@@ -226,12 +219,10 @@ class Matches(Sequence["tuple[Network, V] | None"]):
     if TYPE_CHECKING:
 
         @overload
-        def __getitem__(self, index: int) -> tuple[Network, V] | None:
-            ...
+        def __getitem__(self, index: int) -> tuple[Network, V] | None: ...
 
         @overload
-        def __getitem__(self, index: slice) -> Matches[V]:
-            ...
+        def __getitem__(self, index: slice) -> Matches[V]: ...
 
     def __getitem__(self, index: Any) -> Any:
         if isinstance(index, slice):
@@ -394,12 +385,10 @@ class Table(_Rows["V"], MutableMapping[Network, "V"]):
     if TYPE_CHECKING:
 
         @overload
-        def pop(self, network: AnyNetwork, /) -> V:
-            ...
+        def pop(self, network: AnyNetwork, /) -> V: ...
 
         @overload
-        def pop(self, network: AnyNetwork, /, default: V | D) -> V | D:
-            ...
+        def pop(self, network: AnyNetwork, /, default: V | D) -> V | D: ...
 
     def pop(self, network: AnyNetwork, /, default: Any = _ABSENT) -> Any:
         """Deletes the row of exactly this network, and returns its value; where there is none, the default."""

@@ -62,7 +62,7 @@ def theirs(*names: str) -> tuple[type, ...]:
 
 
 @cache
-def _loaded(names: tuple[str, ...]) -> tuple[type, ...]:
+def _loaded(names: tuple[str, ...]) -> tuple[Any, ...]:
     import ipaddress
 
     return tuple(getattr(ipaddress, f"IPv{version}{name}") for name in names for version in (4, 6))
@@ -205,9 +205,8 @@ class Address(_Common, OfAddress):
 
     def to_ipaddress(self) -> ipaddress.IPv4Address | ipaddress.IPv6Address:
         """The same address of the module `ipaddress`."""
-        import ipaddress
-
-        return ipaddress.IPv4Address(int(self)) if self.version == 4 else ipaddress.IPv6Address(int(self))
+        made: ipaddress.IPv4Address | ipaddress.IPv6Address = _loaded(("Address",))[self.version == 6](int(self))
+        return made
 
 
 class Host(_Common, OfHost):
@@ -230,10 +229,8 @@ class Host(_Common, OfHost):
 
     def to_ipaddress(self) -> ipaddress.IPv4Interface | ipaddress.IPv6Interface:
         """The same host of the module `ipaddress`, which calls it an interface."""
-        import ipaddress
-
-        parts = int(self), self.prefixlen
-        return ipaddress.IPv4Interface(parts) if self.version == 4 else ipaddress.IPv6Interface(parts)
+        made: ipaddress.IPv4Interface | ipaddress.IPv6Interface = _loaded(("Interface",))[self.version == 6]((int(self), self.prefixlen))
+        return made
 
     address = renamed("address", "ip")
     with_length = renamed("with_length", "with_prefixlen")
@@ -354,10 +351,8 @@ class Network(_Common, OfNetwork):
 
     def to_ipaddress(self) -> ipaddress.IPv4Network | ipaddress.IPv6Network:
         """The same network of the module `ipaddress`, which has none that is like `any`."""
-        import ipaddress
-
-        parts = int(self.first), self.prefixlen
-        return ipaddress.IPv4Network(parts) if self.version == 4 else ipaddress.IPv6Network(parts)
+        made: ipaddress.IPv4Network | ipaddress.IPv6Network = _loaded(("Network",))[self.version == 6]((int(self.first), self.prefixlen))
+        return made
 
     def index(self, address: AnyAddress) -> int:
         """The index of an address, the inverse of ``network[i]``; one that isn't in it raises `ValueError`."""
