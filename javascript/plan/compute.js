@@ -1,6 +1,7 @@
 // compute.js: what a plan's text says. All about networks comes from the library; here are lines, fields and names.
 
 const FAULTS = 200; // so many wrong lines are told, and of the others their number
+const PIECE = 1 << 18; // so many characters of a long text are read at a time, and a line's rest
 const NETWORK = /^(network|prefix|cidr|subnet|address|range|ip)$/i;
 const NAMES = [/^name$/i, /^description$/i, /^(comment|label|usage|site)$/i]; // the first that a header has
 
@@ -78,7 +79,7 @@ export class Reader {
         this.#pcidr = pcidr;
     }
 
-    /** A whole text, and what is free in a network. `told` is called with the part that is done. */
+    /** A whole text, and what is free in a network. `told` is called with the part that is done, and with how many lines are read, until all are. */
     read(given, view, told = () => {}) {
         const text = plainText(given);
         this.#groups.clear();
@@ -89,10 +90,11 @@ export class Reader {
     }
 
     /** Changes, one after the other: of each, how many lines from `line` on, which have the characters from `begin` up to `end`, become those
-     * of `text`. */
-    change(edits, view) {
+     * of `text`. Of changes that are soon read nothing is told. */
+    change(edits, view, told = () => {}) {
+        if (edits.every(({ text }) => text.length < PIECE)) told = () => {};
         for (const { line, count, begin, end, text } of edits) {
-            const { rows, faults } = this.#parsed(text), old = this.#rows, lines = linesOf(text), first = notBelow(old.lines, line), last = notBelow(old.lines, line + count);
+            const { rows, faults } = this.#parsed(text, told), old = this.#rows, lines = linesOf(text), first = notBelow(old.lines, line), last = notBelow(old.lines, line + count);
             const put = (array, added, by, after) => moved(moved(spliced(array, first, last, added), by, first, first + added.length), after, first + added.length);
             this.#rows = {
                 values: spliced(old.values, 24 * first, 24 * last, rows.values),
@@ -107,15 +109,30 @@ export class Reader {
                 ...this.#faults.filter((fault) => fault.line >= line + count).map((fault) => ({ ...fault, line: fault.line + lines - count })),
             ];
         }
-        return this.#plan(view, () => {});
+        return this.#plan(view, told);
     }
 
-    /** The rows of some lines, and what is wrong with the others. */
-    #parsed(text, told = () => {}) {
-        told(0.05);
+    /** The rows of some lines, and what is wrong with the others. Of long texts one piece is read after the other. */
+    #parsed(text, told) {
+        const rows = [], faults = [];
+        for (let line = 0, begin = 0; begin === 0 || begin < text.length; ) {
+            told(begin && 0.5 * begin / text.length, line);
+            const feed = text.indexOf("\n", begin + PIECE), end = feed < 0 ? text.length : feed + 1, piece = text.slice(begin, end), found = this.#piece(piece);
+            for (const [array, by] of [[found.rows.lines, line], [found.rows.begins, begin], [found.rows.ends, begin]]) moved(array, by, 0);
+            rows.push(found.rows);
+            for (const fault of found.faults) faults.push({ ...fault, line: fault.line + line });
+            if (end === 0) break;
+            line += linesOf(piece);
+            begin = end;
+        }
+        if (rows.length === 1) return { rows: rows[0], faults };
+        return { rows: Object.fromEntries(Object.keys(rows[0]).map((name) => [name, joined(rows.map((part) => part[name]))])), faults };
+    }
+
+    /** The same of one piece. */
+    #piece(text) {
         // (what web pages have for a space, and some files in front, is white space here, too)
         const { networks, lines, begins, ends, faults: refused } = this.#pcidr.readPlan(text.replace(/[\u00a0\ufeff]/g, " ")), count = lines.length;
-        told(0.5);
         const rows = { values: networks.toValues(), lines: lines.map((line) => line - 1), begins, ends, colours: new Uint8Array(count) };
         for (let row = 0; row < count; row++) {
             let end = begins[row];
@@ -132,7 +149,7 @@ export class Reader {
      * whether the one before it is of the same network, and where its name lies in the text; all merged, and what is free in a network. */
     #plan(view, told) {
         const { NetworkList, NetworkSet } = this.#pcidr, rows = this.#rows, list = NetworkList.fromValues(rows.values);
-        told(0.6);
+        told(0.5);
         const order = list.order(), sorted = list.pick(order), count = order.length, picked = (array) => {
             const made = new array.constructor(count);
             for (let i = 0; i < count; i++) made[i] = array[order[i]];
@@ -142,7 +159,7 @@ export class Reader {
         twice[0] = 0;
         // what a table of them would take is the last one of each network
         for (const row of sorted.tableOrder()) if (row + 1 < count) twice[row + 1] = 0;
-        told(0.8);
+        told(0.75);
         const outer = new Int32Array(count), depth = new Uint16Array(count), leaf = new Uint8Array(count).fill(1);
         let inside = 0, repeated = 0;
         for (let row = 0; row < count; row++) {
@@ -218,6 +235,17 @@ export function within(list, network) {
 function moved(array, by, begin, end = array.length) {
     for (let i = begin; i < end; i++) array[i] += by;
     return array;
+}
+
+/** Arrays as one. */
+function joined(arrays) {
+    const made = new arrays[0].constructor(arrays.reduce((sum, array) => sum + array.length, 0));
+    let at = 0;
+    for (const array of arrays) {
+        made.set(array, at);
+        at += array.length;
+    }
+    return made;
 }
 
 /** An array with others in the place of some elements. */

@@ -12,7 +12,7 @@ if (typeof document === "undefined") {
     onmessage = async ({ data }) => {
         reader ??= new Reader(await load(moduleBytes()));
         try {
-            const plan = data.edits ? reader.change(data.edits, data.view) : reader.read(data.text, data.view, (part) => postMessage({ part }));
+            const told = (part, lines) => postMessage({ part, lines }), plan = data.edits ? reader.change(data.edits, data.view, told) : reader.read(data.text, data.view, told);
             postMessage({ plan }, Object.values(plan).filter(ArrayBuffer.isView).map((array) => array.buffer));
         } catch (error) {
             postMessage({ error: error.message });
@@ -173,7 +173,7 @@ async function page(pcidr, script) {
             if (mine !== turn) return;
             if (data.plan) done(data.plan);
             else if (data.error) cancel(data.error);
-            else $("progress").value = data.part;
+            else reading(data);
         };
         worker.onerror = (event) => {
             event.preventDefault();
@@ -182,6 +182,11 @@ async function page(pcidr, script) {
             if (mine === turn) here();
         };
         worker.postMessage(isWhole ? { text, view: shown } : { edits, view: shown });
+    }
+    /** Tells how far a Worker has read, in words, too. Of what takes as long as one look nothing is told. */
+    function reading({ part, lines }) {
+        $("progress").value = part;
+        if (part > 0) say(lines === undefined ? `sorting the rows of ${many(lineCount)} lines` : `reading: ${many(lines)} of ${many(lineCount)} lines`);
     }
     function cancel(why = "cancelled: the map is of the text before") {
         turn++;

@@ -221,25 +221,58 @@ def large_plan(page):
             lines.append(f"{n >> 24}.{n >> 16 & 255}.{n >> 8 & 255}.{n & 255}/{length} site-{seed.randrange(40)} lan {i}")
         else:
             lines.append(f"2001:db8:{seed.randrange(65536):x}:{seed.randrange(65536):x}::/64 site-{seed.randrange(40)} lan {i}")
+    # while a Worker reads, the page tells how far it is, by its bar and in words, and goes on
+    page.push("#new")
+    page.browser.run("""const $ = (id) => document.getElementById(id);
+        window.seen = [];
+        window.ticks = 0;
+        window.ticking = setInterval(() => { if (!$('work').hidden) window.ticks++; }, 5);
+        new MutationObserver(() => window.seen.push([$('work').hidden, $('progress').value, $('status').textContent])).observe($('status'), { childList: true })""")
     page.write("\n".join(lines))
     is_so(page.text("#status").startswith("100,000 networks"), page.text("#status"))
+    seen, ticks = page.browser.run("clearInterval(window.ticking); return [window.seen.filter(([isHidden]) => !isHidden), window.ticks]")
+    bars, words = [bar for _, bar, _ in seen], [word for _, _, word in seen]
+    read = [int(word.split()[1].replace(",", "")) for word in words if word.startswith("reading: ")]
+    is_so(len(read) > 5 and read == sorted(set(read)) and 0 < read[0] and read[-1] < 100000, f"the lines that a Worker tells it has read: {read}")
+    is_so(len(bars) > 5 and bars == sorted(set(bars)) and 0 < bars[0] and bars[-1] < 1, f"the bar of a Worker: {bars}")
+    is_so(words[:1] == [f"reading: {read[0] if read else 0:,} of 100,000 lines"] and words[-1:] == ["sorting the rows of 100,000 lines"], f"what is told while a Worker reads: {words[:1]} {words[-1:]}")
+    is_so(ticks > 3, f"the page goes on while a Worker reads: {ticks} ticks of a clock")
     changes = []
     for count in ("100,001", "100,002", "100,003"):
         before = page.browser.seconds()
         page.press("f")
         changes.append(page.browser.seconds() - before)
         is_so(page.text("#status").startswith(f"{count} networks"), page.text("#status"))
-    page.ask("10.20.17.9")
+    looked = page.ask("10.20.17.9")
     took = page.browser.run("""document.getElementById('asked').value = '10.20.17.9';
         const begin = performance.now(); document.getElementById('find').requestSubmit(); return performance.now() - begin""")
     colours, share = page.picture()
     is_so(colours > 8 and share < 0.9, f"the map of 100,000 rows: {colours} colours, {share:.2f} of one")
     print(f"the page with 100,000 rows: a change {changes[0]:.1f} s of processor time at first, then {min(changes):.2f}; a look-up with all that is shown {took:.0f} ms")
-    # cancel, while a Worker reads
-    answer = page.browser.run("""document.getElementById('undo').click();
-        const isShown = !document.getElementById('work').hidden; document.getElementById('cancel').click();
-        return [isShown, document.getElementById('work').hidden, document.getElementById('status').textContent]""")
-    is_so(answer == [True, True, "cancelled: the map is of the text before"], answer)
+    # cancel, while a Worker has read some lines of another text: nothing comes of it, and the map, the lists and look-ups are of the text before
+    answer = page.browser.wait("""const $ = (id) => document.getElementById(id), box = $('text'), data = new DataTransfer(), seen = [];
+        const cancelled = new Promise((done) => {
+            const watch = new MutationObserver(() => {
+                seen.push($('status').textContent);
+                if (seen.length !== 3) return;
+                seen.push($('work').hidden, $('progress').value < 0.5);
+                $('cancel').click();
+                done();
+            });
+            watch.observe($('status'), { childList: true });
+        });
+        data.setData('text/plain', args[0]);
+        box.focus();
+        box.select();
+        box.dispatchEvent(new ClipboardEvent('paste', { clipboardData: data, cancelable: true }));
+        await cancelled;
+        await new Promise((done) => setTimeout(done, 700));
+        return [seen, $('work').hidden, $('status').textContent, document.documentElement.dataset.state, $('tab-plan').textContent]""", "\n".join(reversed(lines)))["ok"]
+    is_so(all(word.startswith("reading: ") for word in answer[0][:3]) and answer[0][3:5] == [False, True], f"what is told before it is cancelled: {answer[0]}")
+    is_so(answer[1:] == [True, "cancelled: the map is of the text before", "ready", "Plan 100,003"], answer[1:])
+    is_so(page.ask("10.20.17.9") == looked, f"a look-up after it is cancelled: {page.text('#status')}")
+    page.press("u")
+    is_so(page.text("#status").startswith("100,003 networks"), f"undone after it was cancelled: {page.text('#status')}")
 
 
 def spoken(page):

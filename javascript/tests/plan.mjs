@@ -120,8 +120,19 @@ const cost = (act) => {
     const begin = process.cpuUsage(), result = act(), { user, system } = process.cpuUsage(begin);
     return [(user + system) / 1e6, result];
 };
-const reader = new Reader(pcidr), [read, whole] = cost(() => reader.read(lines, "10.0.0.0/8"));
+const reader = new Reader(pcidr), heard = [], [read, whole] = cost(() => reader.read(lines, "10.0.0.0/8", (...how) => heard.push(how)));
 assert.equal(whole.lines.length, 100000);
+// it is read piece by piece, and tells how far it is
+const counts = heard.map(([, count]) => count).filter((count) => count !== undefined), parts = heard.map(([part]) => part);
+assert.ok(counts.length > 8 && counts[0] === 0 && counts.at(-1) < 100000 && counts.every((count, i) => i === 0 || count > counts[i - 1]), String(counts));
+assert.ok(parts.every((part, i) => part < 1 && (i === 0 || part > parts[i - 1])), String(parts));
+// and what is read so is what the library says of the whole
+for (const text of [Array.from({ length: 60000 }, word).join("\n"), lines, `${"# c\n".repeat(100000)}10.0.0.0/8 x`]) {
+    const made = new Reader(pcidr).read(text, null), direct = pcidr.readPlan(text), order = direct.networks.order(), picked = (array) => Array.from(order, (row) => array[row]);
+    assert.deepEqual([made.lines, made.nameBegins, made.nameEnds].map((array) => [...array]), [picked(direct.lines.map((line) => line - 1)), picked(direct.begins), picked(direct.ends)]);
+    assert.deepEqual([made.values, made.wrong], [direct.networks.pick(order).toValues(), direct.wrong]);
+    assert.deepEqual(made.faults.map(({ line, message }) => `line ${line + 1}: ${message}`), direct.faults.slice(0, made.faults.length).map(({ message }) => message));
+}
 const [change, changed] = cost(() => reader.change([{ line: 50000, count: 1, begin: lines.split("\n", 50000).join("\n").length + 1, end: lines.split("\n", 50001).join("\n").length + 1, text: "10.0.0.0/9 new\n" }], "10.0.0.0/8"));
 assert.equal(changed.lines.length, 100000);
 console.log(`the map's cells, and what texts and changes say, are as wanted; 100,000 rows take ${read.toFixed(2)} s of processor time, a change of them ${change.toFixed(2)}`);
