@@ -90,3 +90,20 @@ export function placed({ x, y, a, b, step }, words, from, rows) {
     }
     return to;
 }
+
+/** The same, with the places of a map before by the same curve: of the networks that both begin and end with they are taken. */
+export function placedLike(before, curve, words, from, rows) {
+    const count = rows.length, old = before?.rows.length ?? 0, most = Math.min(count, old), to = new Float32Array(4 * count);
+    const isSame = (row, other) => {
+        const one = WORDS * rows[row], two = WORDS * before.rows[other];
+        for (let i = 0; i < WORDS; i++) if (words[one + i] !== before.words[two + i]) return false;
+        return true;
+    };
+    let head = 0, tail = 0;
+    while (head < most && isSame(head, head)) head++;
+    while (tail < most - head && isSame(count - 1 - tail, old - 1 - tail)) tail++;
+    if (head) to.set(before.to.subarray(0, 4 * head));
+    to.set(placed(curve, words, from, rows.subarray(head, count - tail)), 4 * head);
+    if (tail) to.set(before.to.subarray(4 * (old - tail)), 4 * (count - tail));
+    return { words, rows, to };
+}

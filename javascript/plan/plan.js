@@ -1,6 +1,6 @@
 // plan.js: the page. What networks are, contain, leave free and become comes from the library; here are text, drawing and keys.
 import { load } from "pcidr";
-import { boxes, hilbert, placed, upToLength } from "curve.js";
+import { boxes, hilbert, placed, placedLike, upToLength } from "curve.js";
 import { Reader, applied, isTable, lastUpTo, lineChange, linesOf, within } from "compute.js";
 
 /** The module as bytes: make_page.py writes it into the page. */
@@ -414,10 +414,11 @@ async function page(pcidr, script) {
             dot.stroke();
         }
         const hatch = pen.createPattern(tile, "repeat"), edge = css("--edge"), bad = css("--bad"), dim = css("--dim"), panel = css("--panel");
-        const [begin, end] = within(plan.list, view), boxes = placed(curve(), plan.words, view.prefixlen, upToLength(plan.words, 128, begin, end));
+        const shape = [view, $("hilbert").checked, width, height].join(" "), before = drawn?.shape === shape ? drawn : null;
+        const [begin, end] = within(plan.list, view), rowPlaces = placedLike(before?.rowPlaces, curve(), plan.words, view.prefixlen, upToLength(plan.words, 128, begin, end)), boxes = rowPlaces.to.slice();
         // what is free in less than a pixel is not drawn: a row stands beside it
         const { list: free, words: freeWords } = gapsOf(view), finest = view.prefixlen + Math.ceil(Math.log2(canvas.width * canvas.height));
-        const shownFree = upToLength(freeWords, finest, 0, free.length), freeBoxes = placed(curve(), freeWords, view.prefixlen, shownFree);
+        const shownFree = upToLength(freeWords, finest, 0, free.length), freePlaces = placedLike(before?.freePlaces, curve(), freeWords, view.prefixlen, shownFree), freeBoxes = freePlaces.to;
         const around = rowsAround(view), base = around.length ? plan.depth[around[around.length - 1]] : 0;
         const box = (x, y, a, b, fill, isDashed) => {
             pen.fillStyle = fill;
@@ -504,7 +505,7 @@ async function page(pcidr, script) {
             for (let row = begin; row < end; row++) fill(boxes, 4 * (row - begin), colours[plan.colours[row]]);
             pen.putImageData(image, 0, 0);
         }
-        return { begin, boxes, free: free.pick(shownFree), freeBoxes };
+        return { shape, rowPlaces, freePlaces, begin, boxes, free: free.pick(shownFree), freeBoxes };
     }
     /** What lies at a place of the map: the innermost row, or what is free. */
     function under(event) {

@@ -1,7 +1,7 @@
 // node plan.mjs PACKAGE: the parts of the page that need no browser: where networks lie on the map, and what a text says.
 import assert from "node:assert/strict";
 import { pathToFileURL } from "node:url";
-import { boxes, hilbert, placed, upToLength } from "../plan/curve.js";
+import { boxes, hilbert, placed, placedLike, upToLength } from "../plan/curve.js";
 import { Reader, applied, isTable, lastUpTo, lineChange, linesOf, plainText, within } from "../plan/compute.js";
 
 const { load } = await import(`${pathToFileURL(process.argv[2])}/pcidr.js`);
@@ -47,6 +47,16 @@ for (const make of [boxes, hilbert]) {
 }
 assert.deepEqual([...upToLength(wordsOf(new NetworkList(["10.0.0.0/8", "10.0.0.0/25", "10.0.1.0/24", "10.0.2.0/24"])), 24, 1, 4)], [2, 3]);
 assert.deepEqual([...upToLength(wordsOf(new NetworkList(["::/0", "2001:db8::/33", "2001:db8::/32"])), 32, 0, 3)], [0, 2]);
+
+// after a change the places are those of the whole map
+for (const make of [boxes, hilbert]) {
+    let before = null;
+    for (const removed of [[], [0], [5], [5, 6], [], [299], [0, 299], [7, 100, 200], Array.from({ length: 300 }, (_, i) => i), []]) {
+        const words = wordsOf(new NetworkList([...new Network("10.0.0.0/8").subnets(17)].slice(0, 300))), kept = Uint32Array.from({ length: 300 }, (_, i) => i).filter((i) => !removed.includes(i));
+        before = placedLike(before, make(512, 400), words, 8, kept);
+        assert.deepEqual(before.to, placed(make(512, 400), words, 8, kept));
+    }
+}
 
 // ---- what a text says
 
