@@ -111,9 +111,11 @@ function bound(c, module) {
 
     // ---- strings
 
+    const letters = []; // of a short string: a decoder, or a view of the bytes, takes two or three times as long
     const read = (length, at = text) => {
-        const part = bytes.subarray(at, at + length);
-        return length < 100 && part.every((byte) => byte < 128) ? String.fromCharCode.apply(null, part) : decoder.decode(part);
+        letters.length = 0;
+        for (let i = at; length < 100 && i < at + length && bytes[i] < 128; i++) letters.push(bytes[i]);
+        return letters.length === length ? String.fromCharCode.apply(null, letters) : decoder.decode(bytes.subarray(at, at + length));
     };
     /** Runs `call` on the place and the length of a string in the module's memory. */
     function written(string, call) {

@@ -7,6 +7,7 @@ import { pathToFileURL } from "node:url";
 const { load, PcidrError } = await import(`${pathToFileURL(process.argv[2])}/pcidr.js`);
 const { Network } = await load();
 const EACH = 1000;
+Error.stackTraceLimit = 0; // 40,000 strings are refused
 
 /** The generator `mulberry32`. */
 function numbers(seed) {
