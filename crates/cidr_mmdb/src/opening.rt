@@ -1,0 +1,48 @@
+//! Opening a file.
+ghost use Rattle.std.specs.Prelude.{IfErr, IfOk};
+ghost use Rattle.cidr_mmdb.specs.Databases.{IsOpened, IsRefused};
+
+use crate::database::Database;
+use crate::errors::OpenError;
+use crate::metadata::{last_marker, tree_layout};
+use crate::records::node_bytes;
+use crate::trees::Tree;
+
+/// Finds the parts of a file in its bytes. What is read of the metadata are three numbers, each of the first pair that has its name:
+/// `node_count`, `record_size` and `ip_version`.
+///
+/// It takes no memory, and at most some 128 KiB of steps, whatever the bytes are.
+///
+/// ```
+/// let database = open(&bytes)?;
+/// database.tree.node_count // 3
+/// ```
+pub fn open(bytes: &[u8]) -> Result<Database<'_>, OpenError>
+    ensures opened { IfOk result (IsOpened bytes.now) }
+    ensures refused { IfErr result (IsRefused bytes.now) }
+{
+    let Some(at) = last_marker(bytes) else {
+        return Err(OpenError::NoMarker);
+    };
+    let metadata = &bytes[at + 14..];
+    let layout = match tree_layout(metadata) {
+        Ok(layout) => layout,
+        Err(e) => {
+            return Err(OpenError::Metadata(e));
+        }
+    };
+    let size = layout.node_count as usize * node_bytes(layout.record_size);
+    if at < size + 16 {
+        return Err(OpenError::TreeTooLong);
+    }
+    Ok(Database {
+        tree: Tree {
+            bytes: &bytes[..size],
+            node_count: layout.node_count,
+            record_size: layout.record_size,
+        },
+        width: layout.width,
+        data: &bytes[size + 16..at],
+        metadata,
+    })
+}
