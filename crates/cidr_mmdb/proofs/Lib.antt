@@ -1,3 +1,7 @@
 pub mod Ends
+pub mod Figures
 pub mod Pairs
+pub mod Sameness
+pub mod Sizes
+pub mod Texts
 pub mod Walking

@@ -3,3 +3,8 @@ pub mod Trees
 pub mod Fields
 pub mod Metadata
 pub mod Databases
+pub mod LookUps
+pub mod Numerals
+pub mod Json
+pub mod Writing
+pub mod Messages

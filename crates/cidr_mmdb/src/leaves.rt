@@ -60,7 +60,8 @@ pub(crate) fn leaf_end(section: &[u8], field: Field) -> Option<usize>
 
 /// Where a string ends.
 fn string_end(section: &[u8], field: Field) -> Option<usize>
-    ensures { result ≡ string_end section.now field }
+    ensures value { result ≡ string_end section.now field }
+    ensures within { IfSome result (λ end. field.payload + field.size ≤ length section.now) }
 {
     match field.kind {
         Kind::Utf8String => leaf_end(section, field),
@@ -71,7 +72,8 @@ fn string_end(section: &[u8], field: Field) -> Option<usize>
 /// The name at a place, and where its field ends.
 #[tactic(auto, unfolding(crate::specs::Fields::name_at))]
 pub(crate) fn name(section: &[u8], at: usize) -> Option<(Field, usize)>
-    ensures { result ≡ name_at section.now at }
+    ensures value { result ≡ name_at section.now at }
+    ensures within { IfSome result (λ name. name.0.payload + name.0.size ≤ length section.now) }
 {
     let first = field(section, at)?;
     if is_pointer(first.kind) {

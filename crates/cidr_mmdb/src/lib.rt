@@ -1,6 +1,6 @@
 //! The MaxMind DB file format 2.0, read: which value a file has for an address, as JSON, proved for any bytes.
 //!
-//! [`open`] finds the parts of a file in its bytes. [`Database::lookup`] gives the network that an address is in, and the place of its
+//! [`open`] finds the parts of a file in its bytes. [`lookup`] gives the network that an address is in, and the place of its
 //! value in the data section, and [`Database::json`] the value there.
 #![tactic(auto)]
 
@@ -8,18 +8,24 @@ mod database;
 mod errors;
 mod fields;
 mod found;
+mod json;
 mod kinds;
+pub mod laws;
+mod leaf_texts;
 mod leaves;
+mod looking;
 mod metadata;
 mod numbers;
+mod numerals;
 mod opening;
 mod records;
 mod trees;
 
 pub use database::Database;
-pub use errors::{MetadataError, OpenError};
+pub use errors::{JsonError, MetadataError, OpenError};
 pub use found::Found;
 pub use kinds::{Field, Kind};
+pub use looking::{Answer, lookup};
 pub use opening::open;
 pub use records::RecordSize;
-pub use trees::{Tree, Walk};
+pub use trees::Tree;

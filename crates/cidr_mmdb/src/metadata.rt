@@ -38,7 +38,7 @@ pub(crate) fn last_marker(bytes: &[u8]) -> Option<usize>
         return None;
     }
     let mut end = bytes.len() - 13;
-    'marker: while end > 0 {
+    while end > 0 {
         let at = end - 1;
         if at + NEAR < bytes.len() {
             return None;
@@ -149,7 +149,7 @@ fn value_of(section: &[u8], name: &[u8], pairs: u32, at: usize) -> Option<usize>
 {
     let mut left = pairs;
     let mut place = at;
-    'pairs: while left > 0 {
+    while left > 0 {
         let (string, value) = name_at(section, place)?;
         if is_named(section, string, name) {
             return Some(value);
@@ -209,7 +209,7 @@ fn end_of_all(section: &[u8], at: usize, count: usize, depth: u32) -> Option<usi
 {
     let mut place = at;
     let mut left = count;
-    'fields: while left > 0 {
+    while left > 0 {
         place = end(section, place, depth)?;
         left -= 1;
     }

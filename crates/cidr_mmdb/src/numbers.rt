@@ -30,3 +30,21 @@ pub(crate) fn four(bytes: &[u8], at: usize) -> u32
         + u32::from(bytes[at + 2]) * 256
         + u32::from(bytes[at + 3])
 }
+
+/// The number of so many bytes.
+pub(crate) fn number(bytes: &[u8], at: usize, count: u32) -> u128
+    requires within { at + count ≤ length bytes.now }
+    requires few { count ≤ 16 }
+    ensures value { result ≡ number_at bytes.now at count }
+    ensures below { result < 256 ^ count }
+{
+    let mut value: u128 = 0;
+    let mut place = at;
+    let mut left = count;
+    while left > 0 {
+        value = value * 256 + u128::from(bytes[place]);
+        place += 1;
+        left -= 1;
+    }
+    value
+}

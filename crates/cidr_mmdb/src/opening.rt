@@ -15,7 +15,7 @@ use crate::trees::Tree;
 ///
 /// ```
 /// let database = open(&bytes)?;
-/// database.tree.node_count // 3
+/// database.tree.node_count // 1
 /// ```
 pub fn open(bytes: &[u8]) -> Result<Database<'_>, OpenError>
     ensures opened { IfOk result (IsOpened bytes.now) }

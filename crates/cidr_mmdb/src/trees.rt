@@ -19,7 +19,7 @@ pub struct Tree<'a> {
 
 /// Where a walk ends.
 #[derive(Clone, Copy, Debug, PartialEq, Eq)]
-pub struct Walk {
+pub(crate) struct Walk {
     /// The record that it ends at.
     pub record: u32,
     /// How many bits of the address it has not read: the lowest.
@@ -28,7 +28,7 @@ pub struct Walk {
 
 impl<'a> Tree<'a> {
     /// Walks from the root by the lowest `width` bits of an address, the most significant first: in at most that many steps.
-    pub fn walk(&self, address: u128, width: u32) -> Walk
+    pub(crate) fn walk(&self, address: u128, width: u32) -> Walk
         requires { width ≤ 128 }
         ensures record { result.record ≡ (walk (record_at self.now.record_size self.now.bytes.now) self.now.node_count address 0 width).0 }
         ensures left { result.left ≡ (walk (record_at self.now.record_size self.now.bytes.now) self.now.node_count address 0 width).1 }
@@ -36,7 +36,7 @@ impl<'a> Tree<'a> {
     {
         let mut record = 0;
         let mut left = width;
-        'walk: while left > 0 {
+        while left > 0 {
             if record >= self.node_count {
                 break;
             }

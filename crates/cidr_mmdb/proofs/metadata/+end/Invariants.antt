@@ -12,8 +12,8 @@ abbrev pub decreases-end_of_all : goal.decreases-end_of_all
 decreases-end_of_all l = 3 * l.depth + 1
 
 -- from here on they end where all end
-abbrev pub invariant-end_of_all-fields : goal.invariant-end_of_all-fields
-invariant-end_of_all-fields l = end_of_all (end_at l.section l.depth) l.left l.place ≡ end_of_all (end_at l.section l.depth) l.count l.at
+abbrev pub invariant-end_of_all-loop-left : goal.invariant-end_of_all-loop-left
+invariant-end_of_all-loop-left l = end_of_all (end_at l.section l.depth) l.left l.place ≡ end_of_all (end_at l.section l.depth) l.count l.at
 
-abbrev pub decreases-end_of_all-fields : goal.decreases-end_of_all-fields
-decreases-end_of_all-fields l = l.left
+abbrev pub decreases-end_of_all-loop-left : goal.decreases-end_of_all-loop-left
+decreases-end_of_all-loop-left l = l.left
