@@ -27,6 +27,7 @@ HEADS = {
                     "use core::net::Ipv4Addr;"],
     "cidr_routes": ["use cidr::Ipv4Cidr;", "use cidr_routes::{lists::*, *};", "use cidr_sets::access::Action;",
                     "use cidr_support::{alloc::Global, vec::Vec};"],
+    "cidr_mmdb": ["use cidr::Ipv4Cidr;", "use cidr_mmdb::*;", "use cidr_support::alloc::Global;"],
     "cidr_files": ["use cidr_files::*;", "use cidr_lookup::{Address, Key};", "use cidr_support::{alloc::Global, vec::Vec};",
                    "use core::net::{Ipv4Addr, Ipv6Addr};",
                    "fn name<'a>(table: &FileTables<'a>, address: Ipv4Addr) -> Option<&'a str> {",
@@ -46,12 +47,18 @@ PAYLOADS = ('let payloads = [("192.0.2.0/24", 24, 64496), ("192.0.0.0/16", 16, 6
             "let payloads = Vec::from_slice(Global, &payloads)?;")
 PREFIXES = ('let rows = [(Action::Deny, "10.2.0.0/16", 16, 32), (Action::Permit, "10.0.0.0/8", 16, 24)];\n'
             "let rows = rows.map(|(action, n, low, high)| Row { action, network: n.parse::<Ipv4Cidr>().unwrap(), low, high });")
+# A MaxMind DB file of one node: the lower half of IPv4 has a country.
+MMDB = r"""let mut bytes = b"\x00\x00\x11\x00\x00\x01".to_vec();
+bytes.extend([0; 16]);
+bytes.extend(b"\xe1\x47country\x42NL");
+bytes.extend(b"\xab\xcd\xefMaxMind.com\xe3\x4anode_count\xc1\x01\x4brecord_size\xa1\x18\x4aip_version\xa1\x04");"""
 # What an example goes on with, where it does not make it: the values of the programs of the repository.
 GIVEN = {
     "cidr_table": {
         "routes": 'let rows = [("0.0.0.0/0".parse()?, 1), ("10.0.0.0/8".parse()?, 2), ("10.1.0.0/16".parse()?, 3)];\n'
                   "let mut routes: Routes = rows.into_iter().collect();",
     },
+    "cidr_mmdb": {"bytes": MMDB, "database": f"{MMDB}\nlet database = open(&bytes).unwrap();"},
     "cidr_files": {"file": FILE, "table": TABLE_OF_A_FILE},
     "cidr_lookup": {
         "routes": ROUTES,
