@@ -1,5 +1,5 @@
 //! Parts of small programs, written by the public calls of `cidr`, `cidr_table`, `cidr_forwarding`, `cidr_lookup`,
-//! `cidr_routes`, `cidr_sets` and `cidr_ext` only and proved from their public contracts only.
+//! `cidr_routes`, `cidr_mmdb`, `cidr_sets` and `cidr_ext` only and proved from their public contracts only.
 #![tactic(auto)]
 
 pub mod access_list;
@@ -17,6 +17,7 @@ pub mod headline;
 pub mod host_lengths;
 pub mod look_ups;
 pub mod lookup_tables;
+pub mod mmdb_networks;
 pub mod names_and_subnets;
 pub mod nesting;
 pub mod network_lengths;
