@@ -689,14 +689,14 @@ uint32_t pcidr_contains_each(const pcidr_value *networks, size_t networks_len, c
 
 /* The longest match: for each of the asked networks or addresses the index, in `networks`, of the longest network that it
  * is in, and PCIDR_NO_INDEX where it is in none, at the same index of `out`. The networks may be in any order, which is
- * fastest where they ascend; of a network that repeats the last index counts. Errors as above. Allocates, and makes a
- * table at each call: pass many at once. */
+ * fastest where they ascend; of a network that repeats the last index counts. Errors as above. Allocates, and sorts
+ * the networks at each call: pass many at once. */
 uint32_t pcidr_longest_match_each(const pcidr_value *networks, size_t networks_len, const pcidr_value *asked,
                                   size_t asked_len, size_t *out, size_t out_len);
 
 /* For each network of a list the index of the smallest other one that contains it, and PCIDR_NO_INDEX where none does, at
  * the same index of `out`. Equal networks do not contain each other here; of a network that repeats the last index counts.
- * Errors as above. Allocates, and makes a table. */
+ * Errors as above. Allocates, and sorts the list. */
 uint32_t pcidr_nearest_each(const pcidr_value *networks, size_t networks_len, size_t *out, size_t out_len);
 
 /* The indexes of the networks of a list in ascending order, and of equal ones in that of the list (sort); or the same of

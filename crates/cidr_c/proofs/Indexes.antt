@@ -1,23 +1,19 @@
 -- Networks with their indexes, and the longest match among them.
-use Rattle.std.proofs.Common.{◌≡◌, ℕ, zero, suc, ◌+◌, ◌<◌, ◌≤◌, List, [], ◌∷◌, ◌++◌, drop, length, take, get_or, slice_get, Some, map, inl, inr, refl, sym, ap, ◌∙◌, arith, subst}
-use Rattle.std.specs.List.{Contains}
-use Rattle.std.specs.Map.{keys_of}
-use Rattle.std.proofs.lemmas.Bool.{cases_lt}
-use Rattle.std.proofs.lemmas.List.{take_more, length-take-le}
-use Rattle.cidr.specs.either.IpNetwork.{any_bits}
-use Rattle.cidr.specs.model.Network.{BeginsWith}
+use Rattle.std.proofs.Common.{◌≡◌, ℕ, zero, suc, ◌+◌, ◌<◌, List, [], ◌∷◌, ◌++◌, drop, length, take, get_or, slice_get, Some, map, inl, inr, refl, sym, ap, ap₂, ◌∙◌, arith, subst}
+use Rattle.std.specs.List.Sorted.{IsPermutation}
+use Rattle.std.proofs.lemmas.List.{get_or-map, length-map, take_more, length-take-le}
+use Rattle.std.proofs.lemmas.Option.{get_or_from_slice_get, same_Some, slice_get-get_or, slice_get_within}
 use Rattle.cidr.specs.declared.cidr.any.AnyIpCidr.{AnyIpCidr}
 use Rattle.cidr.proofs.BothEnds.{contains_got}
 use Rattle.cidr_table.specs.model.Loading.{placed}
 use Rattle.cidr_table.proofs.LastPlaces.{placed_push}
-use Rattle.cidr_table.proofs.LastRows.{EndsAt, last_row}
-use Rattle.cidr_table.proofs.MapLaws.{contains_cases, contains_nothing}
-use Rattle.cidr_c.specs.calls.Lookups.{AreLongestIndexes, AreIndexed, IsLongestIndex, IsRowIndex}
+use Rattle.cidr_lists.proofs.NumberedRows.{same_rows}
+use Rattle.cidr_c.specs.Nested.{AreNearestPut, AreRowsOfList}
+use Rattle.cidr_c.specs.calls.Lookups.{AreAllAnswered, AreAnswered}
 use Rattle.cidr_c.specs.calls.Batches.{AreNetworkValues}
-use Rattle.cidr_c.specs.calls.Ordering.{AreNearestIndexes, IsAround, IsNearestIndex, IsNearestRowIndex}
-use Rattle.cidr_c.specs.model.Values.{network_in}
+use Rattle.cidr_c.specs.calls.Ordering.{IsNearestIndex}
+use Rattle.cidr_c.specs.model.Values.{IsNetworkValue, network_in}
 use Rattle.cidr_c.specs.declared.values.CValue.{CValue}
-use Rattle.cidr_c.proofs.Answering.{AreFirst, all}
 
 -- one network more
 pub placed_more : (ns : List AnyIpCidr) (i : ℕ) (d : AnyIpCidr) → i < length ns
@@ -28,10 +24,6 @@ placed_more ns i d h =
     ∙ (sym (placed_push 0 (take i ns) (get_or ns i d)) ∙ ap (placed 0) (sym (take_more ns i d h)))
 
 module _ {C : Type 0} where
-  keys_placed : (n : ℕ) (keys : List C) → keys_of (placed n keys) ≡ keys
-  keys_placed n [] = refl
-  keys_placed n (k ∷ keys) = ap (λ l. k ∷ l) (keys_placed (n + 1) keys)
-
   row_placed : (n : ℕ) (keys : List C) (row : C × ℕ) (i : ℕ) → slice_get (placed n keys) i ≡ Some row
       → (row.1 ≡ n + i) × (slice_get keys i ≡ Some row.0)
   row_placed n [] row i h = absurd (cc)
@@ -40,59 +32,36 @@ module _ {C : Type 0} where
       (omega (arith, ap (λ (r : C × ℕ). r.1) same), ap (λ (r : C × ℕ). Some r.0) same)
   row_placed n (k ∷ keys) row (suc i) h = let t = row_placed (n + 1) keys row i h in (omega (arith, t.0), t.1)
 
-  -- a key that no last row has is in no row
-  no_end : (xs : List (C × ℕ)) (key : C) → ((row : C × ℕ) → EndsAt xs row → row.0 ≡ key → ⊥) → ¬ (Contains (keys_of xs) key)
-  no_end [] key none c = contains_nothing key c
-  no_end (x ∷ xs) key none c =
-      let later = no_end xs key (λ row e same. none row (inr e) same) in
-      elim (contains_cases x.0 key (keys_of xs) c) [
-        | inl e ↦ none x (inl (refl, subst (λ k. ¬ (Contains (keys_of xs) k)) (sym e) later)) e
-        | inr behind ↦ later behind
-      ]
+  placed_here : (n : ℕ) (keys : List C) (i : ℕ) (key : C) → slice_get keys i ≡ Some key → slice_get (placed n keys) i ≡ Some (key, n + i)
+  placed_here n [] i key h = absurd (cc)
+  placed_here n (k ∷ keys) zero key h =
+      let same : k ≡ key = same_Some k key h in
+      let at : n ≡ n + zero = omega arith in
+      ap₂ (λ (x : C) (m : ℕ). Some (x, m)) same at
+  placed_here n (k ∷ keys) (suc i) key h =
+      let at : n + 1 + i ≡ n + suc i = omega arith in
+      placed_here (n + 1) keys i key h ∙ ap (λ (m : ℕ). Some (key, m)) at
 
-pub longest_index : (ns : List AnyIpCidr) (rows : List (AnyIpCidr × ℕ)) (asked : AnyIpCidr) (index : ℕ) → AreIndexed ns rows
-    → IsRowIndex rows asked index → IsLongestIndex ns asked index
-longest_index ns rows asked index last (inl found) =
-    let row = found.0 in
-    let is = found.1 in
-    let stands = (last row).0 is.here in
-    let at = row_placed 0 ns row stands.place stands.here in
-    let place : stands.place ≡ index = omega (arith, at.0, found.2) in
-    let here : slice_get ns index ≡ Some row.0 = subst (λ (k : ℕ). slice_get ns k ≡ Some row.0) place at.1 in
-    inl (
-      record {
-        key = row.0;
-        here = here;
-        begins = is.begins;
-        longest = λ other c begins. elim (cases_lt (length (any_bits row.0)) (length (any_bits other))) [
-          | inl lt ↦ absurd (no_end (placed 0 ns) other
-              (λ (r : AnyIpCidr × ℕ) e same.
-              let most = is.longest r ((last r).1 (last_row (placed 0 ns) r e)) (subst (λ k. BeginsWith (any_bits asked) (any_bits k)) (sym same) begins) in
-              omega (arith, lt, most, ap (λ k. length (any_bits k)) same))
-              (subst (λ l. Contains l other) (sym (keys_placed 0 ns)) c))
-          | inr ge ↦ ge
-        ];
-      },
-      λ other lt e.
-          stands.last other (omega (arith, place, lt)) (subst (λ l. slice_get l other ≡ Some row.0) (sym (keys_placed 0 ns)) (e ∙ here)),
-    )
-longest_index ns rows asked index last (inr none) = inr (
-  none.0,
-  λ key c begins. no_end (placed 0 ns) key
-      (λ (r : AnyIpCidr × ℕ) e same.
-      none.1 r ((last r).1 (last_row (placed 0 ns) r e)) (subst (λ k. BeginsWith (any_bits asked) (any_bits k)) (sym same) begins))
-      (subst (λ l. Contains l key) (sym (keys_placed 0 ns)) c),
+-- in whatever order they are
+pub listed_rows : (ns : List AnyIpCidr) (rows : List (AnyIpCidr × ℕ)) → IsPermutation (placed 0 ns) rows → AreRowsOfList ns rows
+listed_rows ns rows moved row = (
+  λ c.
+      let d = (same_rows (placed 0 ns) rows moved row).0 c in
+      let at = row_placed 0 ns row d.0 (slice_get-get_or (placed 0 ns) d.0 row d.1 ∙ ap Some d.2) in
+      let is : d.0 ≡ row.1 = omega (arith, at.0) in
+      subst (λ (k : ℕ). slice_get ns k ≡ Some row.0) is at.1,
+  λ there.
+      let is : 0 + row.1 ≡ row.1 = omega arith in
+      let here : slice_get (placed 0 ns) row.1 ≡ Some row = placed_here 0 ns row.1 row.0 there ∙ ap (λ (m : ℕ). Some (row.0, m)) is in
+      (same_rows (placed 0 ns) rows moved row).1 (contains_got (placed 0 ns) row.1 row here),
 )
 
-pub matched : (values asked : List CValue) (rows : List (AnyIpCidr × ℕ)) (old out : List ℕ) (n : ℕ) → AreNetworkValues values
-    → AreIndexed (map network_in values) rows → length asked ≤ n → AreFirst (IsRowIndex rows) n asked out
-    → drop (length asked) out ≡ drop (length asked) old → AreLongestIndexes values asked old out 0
-matched values asked rows old out n fine last past first behind = record {
+-- each asked value has its answer
+pub all_done : (Answers : AnyIpCidr → ℕ → Type 0) (values asked : List CValue) (old out : List ℕ) → AreNetworkValues values
+    → AreAnswered Answers asked out → drop (length asked) out ≡ drop (length asked) old → AreAllAnswered Answers values asked old out 0
+all_done Answers values asked old out fine answered behind = record {
   networks = λ _. fine;
-  answers = λ _. all (IsLongestIndex (map network_in values)) n asked out past
-      (λ i v lt found.
-      let had = first i v lt found in
-      (had.0, had.1, had.2, longest_index (map network_in values) rows (network_in v) had.1 last had.3));
+  answers = λ _. answered;
   value = λ z. absurd (omega (arith, z));
   room = λ z. absurd (omega (arith, z));
   codes = inl refl;
@@ -101,50 +70,15 @@ matched values asked rows old out n fine last past first behind = record {
   refused = λ none. absurd (none fine);
 }
 
-pub nearest_index : (ns : List AnyIpCidr) (rows : List (AnyIpCidr × ℕ)) (network : AnyIpCidr) (index : ℕ) → AreIndexed ns rows
-    → IsNearestRowIndex rows network index → IsNearestIndex ns network index
-nearest_index ns rows network index last (inl found) =
-    let row = found.0 in
-    let stands = (last row).0 found.1 in
-    let at = row_placed 0 ns row stands.place stands.here in
-    let place : stands.place ≡ index = omega (arith, at.0, found.4) in
-    let here : slice_get ns index ≡ Some row.0 = subst (λ (k : ℕ). slice_get ns k ≡ Some row.0) place at.1 in
-    inl (
-      row.0,
-      here,
-      found.2,
-      λ i other there around. elim (cases_lt (length (any_bits row.0)) (length (any_bits other))) [
-        | inl lt ↦ absurd (no_end (placed 0 ns) other
-            (λ (r : AnyIpCidr × ℕ) e same.
-            let most = found.3 r ((last r).1 (last_row (placed 0 ns) r e)) (subst (IsAround network) (sym same) around) in
-            omega (arith, lt, most, ap (λ k. length (any_bits k)) same))
-            (subst (λ l. Contains l other) (sym (keys_placed 0 ns)) (contains_got ns i other there)))
-        | inr ge ↦ ge
-      ],
-      λ other lt e.
-          stands.last other (omega (arith, place, lt)) (subst (λ l. slice_get l other ≡ Some row.0) (sym (keys_placed 0 ns)) e),
-    )
-nearest_index ns rows network index last (inr none) = inr (
-  none.0,
-  λ i other there around. no_end (placed 0 ns) other
-      (λ (r : AnyIpCidr × ℕ) e same.
-      none.1 r ((last r).1 (last_row (placed 0 ns) r e)) (subst (IsAround network) (sym same) around))
-      (subst (λ l. Contains l other) (sym (keys_placed 0 ns)) (contains_got ns i other there)),
-)
-
-pub nearest : (values : List CValue) (rows : List (AnyIpCidr × ℕ)) (old out : List ℕ) (n : ℕ) → AreNetworkValues values
-    → AreIndexed (map network_in values) rows → length values ≤ n → AreFirst (IsNearestRowIndex rows) n values out
-    → drop (length values) out ≡ drop (length values) old → AreNearestIndexes values old out 0
-nearest values rows old out n fine last past first behind = record {
-  networks = λ _. fine;
-  answers = λ _. all (IsNearestIndex (map network_in values)) n values out past
-      (λ i v lt found.
-      let had = first i v lt found in
-      (had.0, had.1, had.2, nearest_index (map network_in values) rows (network_in v) had.1 last had.3));
-  value = λ z. absurd (omega (arith, z));
-  room = λ z. absurd (omega (arith, z));
-  codes = inl refl;
-  behind = behind;
-  stays = λ h. elim h [ inl z ↦ absurd (omega (arith, z)) | inr z ↦ absurd (omega (arith, z)) ];
-  refused = λ none. absurd (none fine);
-}
+-- the nearest ones that are put are those of the values
+pub all_nearest : (values : List CValue) (out : List ℕ) → AreNetworkValues values → AreNearestPut (map network_in values) out
+    → AreAnswered (IsNearestIndex (map network_in values)) values out
+all_nearest values out fine put i v found =
+    let lt = slice_get_within values i v found in
+    let is : get_or values i v ≡ v = get_or_from_slice_get values i v v found in
+    let size : i < length (map network_in values) = omega (arith, lt, length-map values network_in) in
+    let here : slice_get (map network_in values) i ≡ Some (network_in v) =
+    slice_get-get_or (map network_in values) i (network_in v) size
+    ∙ ap Some (get_or-map network_in values i v (network_in v) lt ∙ ap network_in is) in
+    let its = put i (network_in v) here in
+    (subst IsNetworkValue is (fine i v lt), its.0, its.1, its.2)

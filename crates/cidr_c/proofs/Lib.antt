@@ -23,6 +23,7 @@ pub mod NetworkLists
 pub mod Networks
 pub mod Ordered
 pub mod Orders
+pub mod Outers
 pub mod Places
 pub mod Readings
 pub mod Related

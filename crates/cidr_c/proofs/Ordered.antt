@@ -1,5 +1,5 @@
--- Rows of networks in order, their indexes in the caller's room, and the nearest network around another one.
-use Rattle.std.proofs.Common.{◌≡◌, ◌≢◌, ◌⊎◌, ℕ, ◌+◌, ◌<◌, ◌≤◌, Bool, List, [], ◌∷◌, ◌++◌, length, length-append, take, get_or, slice_get, Some, map, map-id, inl, inr, sym, ap, ◌∙◌, arith, subst}
+-- Rows of networks in order, and their indexes in the caller's room.
+use Rattle.std.proofs.Common.{◌≡◌, ◌≢◌, ◌⊎◌, ℕ, ◌+◌, ◌<◌, Bool, List, [], ◌∷◌, ◌++◌, length, take, get_or, slice_get, Some, map, map-id, inl, inr, sym, ap, ◌∙◌, arith, subst}
 use Rattle.std.specs.Cmp.{IsTotalOrder}
 use Rattle.std.specs.List.Sorted.{IsStrictlySortedBy}
 use Rattle.std.specs.Map.{keys_of}
@@ -7,20 +7,14 @@ use Rattle.std.specs.declared.cmp.Ordering.{Ordering}
 use Rattle.std.specs.declared.cmp.Ordering.TheVariants.{Less, Equal, Greater}
 use Rattle.std.proofs.lemmas.Bool.{cases_lt}
 use Rattle.std.proofs.lemmas.Cmp.{tied_itself}
-use Rattle.std.proofs.lemmas.List.{get_or-map, length-map, map-append, take-append-le, take_more}
+use Rattle.std.proofs.lemmas.List.{get_or-map, length-map, map-append, take_more}
 use Rattle.std.proofs.lemmas.Map.Keys.{Less-from_sorted}
 use Rattle.std.proofs.lemmas.Option.{get_or_from_slice_get, same_Some, slice_get_within}
-use Rattle.cidr.specs.either.IpNetwork.{any_bits}
 use Rattle.cidr.specs.model.Bits.{bit_cmp}
-use Rattle.cidr.specs.model.Network.{BeginsWith}
 use Rattle.cidr.specs.declared.cidr.any.AnyIpCidr.{AnyIpCidr}
-use Rattle.cidr_ext.specs.model.Tree.{IsHalfOf}
-use Rattle.cidr_ext.proofs.Halves.{not_longer}
 use Rattle.cidr_lists.specs.Nearness.{AreRowsInOrder}
 use Rattle.cidr_c.specs.calls.Batches.{IsListInRoom, IsListPut}
 use Rattle.cidr_c.specs.calls.Calls.{IsAnyValue}
-use Rattle.cidr_c.specs.calls.Lookups.{IsRowIndex, no_index}
-use Rattle.cidr_c.specs.calls.Ordering.{IsNearestRowIndex}
 use Rattle.cidr_c.proofs.Listed.{listed}
 
 -- ---- rows whose networks ascend, each once
@@ -82,37 +76,3 @@ indexes_put IsTaken Holds list old new count made code fine holds (inl none) = r
 }
 indexes_put IsTaken Holds list old new count made code fine holds (inr put) =
     listed IsTaken IsAnyValue (λ (i : ℕ). i) Holds list old new count made code fine (λ _ _ _. tt) (subst Holds (sym (map-id list)) holds) put
-
--- ---- the nearest network around another one: the longest match of its parent
-begins_shorter : (n p o : List Bool) (b : Bool) → n ≡ p ++ b ∷ [] → BeginsWith n o → length o < length n → BeginsWith p o
-begins_shorter n p o b half begins shorter =
-    let fits : length o ≤ length p = omega (arith, shorter, ap length half, length-append p (b ∷ [])) in
-    sym (take-append-le (length o) p (b ∷ []) fits) ∙ (ap (take (length o)) (sym half) ∙ begins)
-
-begins_longer : (n p o : List Bool) (b : Bool) → n ≡ p ++ b ∷ [] → BeginsWith p o → BeginsWith n o × (length o < length n)
-begins_longer n p o b half begins =
-    let fits : length o ≤ length p = not_longer o p begins in (
-      ap (take (length o)) half ∙ (take-append-le (length o) p (b ∷ []) fits ∙ begins),
-      omega (arith, fits, ap length half, length-append p (b ∷ [])),
-    )
-
-pub nearest_row : (rows : List (AnyIpCidr × ℕ)) (network parent : AnyIpCidr) (index : ℕ) → IsHalfOf (any_bits network) (any_bits parent)
-    → IsRowIndex rows parent index → IsNearestRowIndex rows network index
-nearest_row rows network parent index (b, half) (inl found) =
-    let row = found.0 in
-    let is = found.1 in
-    inl (
-      row,
-      is.here,
-      begins_longer (any_bits network) (any_bits parent) (any_bits row.0) b half is.begins,
-      λ other c around. is.longest other c (begins_shorter (any_bits network) (any_bits parent) (any_bits other.0) b half around.0 around.1),
-      found.2,
-    )
-nearest_row rows network parent index (b, half) (inr none) = inr (
-  none.0,
-  λ row c around. none.1 row c (begins_shorter (any_bits network) (any_bits parent) (any_bits row.0) b half around.0 around.1),
-)
-
-pub none_nearest : (rows : List (AnyIpCidr × ℕ)) (network : AnyIpCidr) (index : ℕ) → any_bits network ≡ [] → index ≡ no_index
-    → IsNearestRowIndex rows network index
-none_nearest rows network index none is = inr (is, λ row c around. absurd (omega (arith, around.1, ap length none)))

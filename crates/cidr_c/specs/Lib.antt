@@ -1,5 +1,6 @@
 -- What has to be believed: the model, and what calls return and leave. A law that a trait cites is checked and not
--- believed.
+-- believed. `Nested` is what private functions promise each other.
 pub mod model
 pub mod calls
 pub mod laws
+pub mod Nested

@@ -6,11 +6,12 @@ ghost use Rattle.cidr_table.specs.model.Loading.{placed};
 ghost use Rattle.cidr_c.specs.calls.Batches.{AreNetworkValues};
 ghost use Rattle.cidr_c.specs.calls.Calls.{IsYesOrNo};
 ghost use Rattle.cidr_c.specs.model.Codes.{no_memory, no_value};
-ghost use Rattle.cidr_c.specs.calls.Lookups.{AreContained, AreIndexed, AreLongestIndexes, IsRowIndex};
+ghost use Rattle.cidr_c.specs.calls.Lookups.{AreContained, AreIndexed, AreLongestIndexes};
 ghost use Rattle.cidr_c.specs.model.Values.{network_in};
 
 use crate::batches::networks_of;
 use crate::codes::{NO_MEMORY, NO_ROOM, NO_VALUE, OK};
+use crate::nested::{longest_in, nested_rows};
 use crate::sets::set_of;
 use crate::values::{CValue, value_network};
 use cidr::AnyIpCidr;
@@ -57,7 +58,8 @@ fn held(set: &NetworkSet<AnyIpCidr>, network: &AnyIpCidr) -> u8
 /// For each asked network the index of the longest network that it is in, or `usize::MAX` where it is in none. The
 /// networks may be in any order; of one that repeats the last index counts. Errors as of `pcidr_contains_each`.
 ///
-/// It allocates, and puts the networks in order: O(n log n) at each call.
+/// It allocates, and puts the networks in order: O(n log n) at each call, and then O(log n) for each asked one, and a step for each
+/// network around what stands before it.
 #[unsafe(no_mangle)]
 pub extern "C" fn pcidr_longest_match_each(
     alloc: Global,
@@ -67,8 +69,8 @@ pub extern "C" fn pcidr_longest_match_each(
 ) -> u32
     ensures { AreLongestIndexes networks.now asked.now out.old out.new result }
 {
-    let table = match table_of(alloc, networks) {
-        Ok(table) => table,
+    let nested = match nested_rows(alloc, networks) {
+        Ok(nested) => nested,
         Err(code) => return code,
     };
     if out.len() < asked.len() {
@@ -78,7 +80,7 @@ pub extern "C" fn pcidr_longest_match_each(
         let Some(network) = value_network(&asked[i]) else {
             return NO_VALUE;
         };
-        out[i] = index_of(&table, &network);
+        out[i] = longest_in(&nested, &network);
     }
     OK
 }
@@ -118,14 +120,4 @@ fn with_indexes(
         rows.push((networks[i], i))?;
     }
     Ok(rows)
-}
-
-/// The index of the longest match, or `usize::MAX` where there is none.
-pub fn index_of(table: &LpmTable<AnyIpCidr, usize>, asked: &AnyIpCidr) -> usize
-    ensures { IsRowIndex table.now.rows asked.now result }
-{
-    match table.lookup(asked) {
-        Some(row) => row.1,
-        None => usize::MAX,
-    }
 }

@@ -6,7 +6,7 @@ use Rattle.cidr.specs.declared.cidr.any.AnyIpCidr.{AnyIpCidr}
 use Rattle.cidr_table.specs.model.Cover.{IsFull}
 use Rattle.cidr_table.specs.model.LastRows.{AreLastRows}
 use Rattle.cidr_table.specs.model.Loading.{placed}
-use Rattle.cidr_table.specs.model.Prefixes.{IsLongestAt, IsLongestMatch, IsLookedUp}
+use Rattle.cidr_table.specs.model.Prefixes.{IsLongestAt, IsLongestMatch}
 use Rattle.cidr_c.specs.calls.Batches.{AreIndexesSought, AreNetworkValues, bits_in}
 use Rattle.cidr_c.specs.calls.Calls.{IsYesOrNo}
 use Rattle.cidr_c.specs.model.Codes.{no_memory, no_room, no_value}
@@ -72,9 +72,3 @@ AreRelatedPut Holds networks asked =
 -- of the networks with their indexes the last of each
 abbrev pub AreIndexed : List AnyIpCidr → List (AnyIpCidr × ℕ) → Type 0
 AreIndexed networks rows = AreLastRows (placed 0 networks) rows
-
--- the index of the row that is looked up, or that which stands for none
-abbrev pub IsRowIndex : List (AnyIpCidr × ℕ) → AnyIpCidr → ℕ → Type 0
-IsRowIndex rows asked index =
-    ((row : AnyIpCidr × ℕ) × IsLookedUp any_bits (any_bits asked) rows (Some row) × (index ≡ row.1))
-    ⊎ ((index ≡ no_index) × IsLookedUp any_bits (any_bits asked) rows None)

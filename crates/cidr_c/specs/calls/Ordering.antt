@@ -1,5 +1,5 @@
 -- Lists of networks in order, by their indexes, and the network that stands nearest around each.
-use Rattle.std.specs.Prelude.{◌≡◌, ◌≢◌, ◌⊎◌, ℕ, ◌<◌, ◌≤◌, List, Contains, length, map, slice_get, Some}
+use Rattle.std.specs.Prelude.{◌≡◌, ◌≢◌, ◌⊎◌, ℕ, ◌<◌, ◌≤◌, List, length, map, slice_get, Some}
 use Rattle.std.specs.List.Sorted.{IsPermutation}
 use Rattle.cidr.specs.either.IpNetwork.{any_bits}
 use Rattle.cidr.specs.model.Network.{BeginsWith}
@@ -46,12 +46,3 @@ IsNearestIndex networks network index =
 -- each network of the list has its own
 abbrev pub AreNearestIndexes : List CValue → List ℕ → List ℕ → ℕ → Type 0
 AreNearestIndexes values = AreAllAnswered (IsNearestIndex (map network_in values)) values values
-
--- ---- what private functions promise each other
--- the index of the row of the smallest network around this one, or that which stands for none
-abbrev pub IsNearestRowIndex : List (AnyIpCidr × ℕ) → AnyIpCidr → ℕ → Type 0
-IsNearestRowIndex rows network index =
-    ((row : AnyIpCidr × ℕ) × Contains rows row × IsAround network row.0
-    × ((other : AnyIpCidr × ℕ) → Contains rows other → IsAround network other.0 → length (any_bits other.0) ≤ length (any_bits row.0))
-    × (index ≡ row.1))
-    ⊎ ((index ≡ no_index) × ((row : AnyIpCidr × ℕ) → Contains rows row → ¬ (IsAround network row.0)))

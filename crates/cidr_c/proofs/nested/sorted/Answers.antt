@@ -1,5 +1,5 @@
 use Rattle.cidr_lists.proofs.NumberedRows.{ascending}
-use Rattle.cidr_c.proofs.ordering.sorted.Goals as goal
+use Rattle.cidr_c.proofs.nested.sorted.Goals as goal
 
 pub returns-clause-ascending : goal.returns-clause-ascending
 returns-clause-ascending g c =
