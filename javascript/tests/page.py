@@ -403,12 +403,14 @@ def main():
         print("javascript: there is no chromium with chromedriver: the page was not tried")
         return 0
     address = pathlib.Path(sys.argv[1]).resolve().as_uri()
-    browser = driver.Browser()
+    browser = driver.Browser(1000, 640) # a larger window costs more of each picture
     try:
         page = Page(browser, address)
         small_plan(page)
         wrong_lines(page)
+        browser.size(1400, 850)
         large_plan(page)
+        browser.size(1000, 640)
         screen_reader(page)
         colours(page)
         browser.go(address)
