@@ -56,6 +56,12 @@ suffix_ascends_from (suc k) (y ∷ t) h = suffix_ascends_from k t (rest_ascends 
 pub suffix_ascends : (s t : List (List Bool)) → IsSuffix s t → Ascend t → Ascend s
 suffix_ascends s t h a = subst Ascend (sym h.1) (suffix_ascends_from h.0 t a)
 
+pub suffix_apart : (s t : List (List Bool)) → IsSuffix s t → HoldNoOther t → HoldNoOther s
+suffix_apart s t h k p q c d = k p q (inside p c) (inside q d)
+  where
+    inside : (x : List Bool) → Contains s x → Contains t x
+    inside x c = suffix_contains h.0 t x (subst (λ l. Contains l x) h.1 c)
+
 pub suffix_networks : (w : ℕ) (s t : List (List Bool)) → IsSuffix s t → AreNetworks w t → AreNetworks w s
 suffix_networks w s t h n p c = n p (suffix_contains h.0 t p (subst (λ l. Contains l p) h.1 c))
 
@@ -422,20 +428,22 @@ module _ (these those : List (List Bool)) where
     pub ascend_left : Ascend left
     pub before : (x y : List Bool) → Contains done x → Contains todo y → bit_cmp x y ≡ Less
     pub apart : HoldNoOther todo
+    pub apart_left : HoldNoOther left
     pub kept : (y : List Bool) → Contains todo y → Contains these y
     pub each : (x : List Bool) → Contains done x → IsMemberOf (λ a. Covers these a × ¬ (Covers those a)) x
     pub suffix : IsSuffix left those
     pub fits : (w : ℕ) → AreNetworks w those
         → length done + length todo + w * length left ≤ length these + w * length those
 
-  pub cutting_none : Ascend these → HoldNoOther these → Ascend those → IsCutting [] these those
-  cutting_none h o k = record {
+  pub cutting_none : Ascend these → HoldNoOther these → Ascend those → HoldNoOther those → IsCutting [] these those
+  cutting_none h o k n = record {
     covers = λ a la. (λ c. inr c, λ c. elim c [ inl d ↦ absurd (contains_nothing d.0 d.1) | inr d ↦ d ]);
     ascend = none_ascend;
     ascend_todo = h;
     ascend_left = k;
     before = λ x y c d. absurd (contains_nothing x c);
     apart = o;
+    apart_left = n;
     kept = λ y c. c;
     each = λ x c. absurd (contains_nothing x c);
     suffix = suffix_all those;
@@ -486,6 +494,7 @@ module _ (these those : List (List Bool)) where
         ascend_left = suffix_ascends rest left k.suffix h.ascend_left;
         before = λ x y c d. k.before y (behind_first y y d (begins_itself y)) x c;
         apart = λ x y c d. h.apart x y (contains_later p x ps c) (contains_later p y ps d);
+        apart_left = suffix_apart rest left k.suffix h.apart_left;
         kept = λ y c. h.kept y (contains_later p y ps c);
         each = λ x c. elim (k.each x c) [ inl d ↦ h.each x d | inr d ↦ rest_member hs ht p ps done left h x d ];
         suffix = suffix_of rest left those k.suffix h.suffix;
@@ -547,7 +556,7 @@ module _ (p : List Bool) (short : length p ≤ 129) (others : List (List Bool)) 
   begun : IsCutting (p ∷ []) others [] (p ∷ []) others
   begun =
       let one = one_reduced p short in
-      cutting_none (p ∷ []) others one.ascending (spread_from_reduced 129 (p ∷ []) one).apart h.ascending
+      cutting_none (p ∷ []) others one.ascending (spread_from_reduced 129 (p ∷ []) one).apart h.ascending (spread_from_reduced 129 others h).apart
 
   pub complement_set : (new rest : List (List Bool)) → IsDifferenceStep p [] new others rest → IsComplement 129 p others new
   complement_set new rest k =

@@ -6,7 +6,7 @@ use Rattle.std.proofs.lemmas.Map.Keys.{Less-from_sorted}
 use Rattle.std.proofs.lemmas.Option.{get_or_from_slice_get, none-some, same_Some, slice_get_within}
 use Rattle.std.specs.Iterator.{MakesProgress, item_count}
 use Rattle.std.specs.List.{Contains, slice_get}
-use Rattle.std.specs.Prelude.{IfNone, MatchOption}
+use Rattle.std.specs.Prelude.{IfNone, MatchOption, OnErr, Result, Ok, Err}
 use Rattle.std.specs.declared.cmp.Ordering.{Ordering}
 use Rattle.std.specs.declared.cmp.Ordering.TheVariants.{Less, Equal, Greater}
 use Rattle.cidr.specs.model.Bits.{bit_cmp}
@@ -372,6 +372,10 @@ nothing (x ∷ xs) e = absurd (omega (arith, e))
 pub by_none : {X : Type 0} (o : Option X) (N : Type 0) (P : X → Type 0) → ((x : X) → o ≡ Some x → ⊥) → MatchOption o N P → N
 by_none None N P never h = h
 by_none (Some x) N P never h = absurd (never x refl)
+
+pub on_err : {X E P : Type 0} (r : Result X E) → P → OnErr r P
+on_err (Ok x) p = tt
+on_err (Err e) p = p
 
 pub if_none_then : {X P Q : Type 0} (o : Option X) → IfNone o P → (P → Q) → IfNone o Q
 if_none_then None h f = f h

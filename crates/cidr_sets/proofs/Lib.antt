@@ -21,6 +21,7 @@ pub mod Joining
 pub mod OneRange
 pub mod Steps
 pub mod Cuts
+pub mod CutsWithin
 pub mod Between
 pub mod Parts
 pub mod Edits

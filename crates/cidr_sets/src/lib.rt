@@ -25,6 +25,7 @@ mod search;
 mod set;
 pub mod slices;
 mod walk;
+mod writing;
 
 pub use cidr_table::is_inside;
 pub use pools::PoolNetwork;

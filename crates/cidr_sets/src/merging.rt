@@ -1,8 +1,11 @@
 //! Steps through two lists of networks at once.
-ghost use Rattle.std.specs.Prelude.{◌≡◌, ◌+◌, ◌⊎◌, length, map, MatchOption};
+ghost use Rattle.std.specs.Prelude.{◌≡◌, ◌⊎◌, ◌+◌, ◌-◌, ◌≤◌, [], length, map, MatchOption};
 ghost use Rattle.std.specs.Option.{option_map};
-ghost use Rattle.cidr_sets.specs.internal.Steps.{Ascend, IsIntersectionStep, IsUnionStep};
+ghost use Rattle.cidr_table.specs.model.Cover.{IsReduced};
+ghost use Rattle.cidr_sets.specs.model.Sets.{IsIntersection};
+ghost use Rattle.cidr_sets.specs.internal.Steps.{Ascend, IsMerge, IsIntersectionStep, IsUnionStep};
 
+use crate::writing::Writable;
 use cidr::NetworkBits;
 use cidr_table::is_inside;
 use std::cmp::Ordering;
@@ -56,5 +59,53 @@ pub(crate) fn next_shared<'a, C: NetworkBits + Copy>(
     match first.cmp(second) {
         Ordering::Less => Some((None, behind, right)),
         _ => Some((None, left, rest)),
+    }
+}
+
+/// Writes the networks of both lists, ascending, and each once, where there is room for all.
+pub(crate) fn write_merged<C: NetworkBits + Copy, O: Writable<C>>(
+    out: &mut O,
+    these: &[C],
+    those: &[C],
+)
+    requires these { Ascend (map C.bits these.now) }
+    requires those { Ascend (map C.bits those.now) }
+    requires none { O.written out.old ≡ [] }
+    requires room { length these.now + length those.now ≤ O.room out.old }
+    ensures fits { length (O.written out.new) ≤ length these.now + length those.now }
+    ensures merge { IsMerge (map C.bits these.now) (map C.bits those.now) (map C.bits (O.written out.new)) }
+    ensures one { O.AreOne out.old out.new }
+{
+    let mut left = these;
+    let mut right = those;
+    while let Some((network, behind, rest)) = next_of(left, right) {
+        out.put(*network);
+        left = behind;
+        right = rest;
+    }
+}
+
+/// Writes the networks of the addresses that both of two sets have, ascending, where there is room for all.
+pub(crate) fn write_shared<C: NetworkBits + Copy, O: Writable<C>>(
+    out: &mut O,
+    these: &[C],
+    those: &[C],
+)
+    requires these { IsReduced 129 (map C.bits these.now) }
+    requires those { IsReduced 129 (map C.bits those.now) }
+    requires none { O.written out.old ≡ [] }
+    requires room { length these.now + length those.now ≤ O.room out.old + 1 }
+    ensures fits { length (O.written out.new) ≤ length these.now + length those.now - 1 }
+    ensures set { IsIntersection 129 (map C.bits these.now) (map C.bits those.now) (map C.bits (O.written out.new)) }
+    ensures one { O.AreOne out.old out.new }
+{
+    let mut left = these;
+    let mut right = those;
+    while let Some((shared, behind, rest)) = next_shared(left, right) {
+        if let Some(network) = shared {
+            out.put(network);
+        }
+        left = behind;
+        right = rest;
     }
 }

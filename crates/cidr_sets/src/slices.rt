@@ -11,11 +11,12 @@ ghost use Rattle.cidr.specs.model.Network.{BeginsWith};
 ghost use Rattle.cidr_table.specs.model.Cover.{AreNetworks, Covers, IsReduced};
 ghost use Rattle.cidr_sets.specs.model.Sets.{IsSetOf, IsUnion, IsIntersection, IsDifference, IsComplement};
 ghost use Rattle.cidr_sets.specs.model.Ranges.{IsBetween, IsFilled, IsOverfull, IsBetweenEdges, all_bits, most, side};
-ghost use Rattle.cidr_sets.specs.internal.Steps.{Ascend, IsDifferenceStep, IsOver};
+ghost use Rattle.cidr_sets.specs.internal.Steps.{Ascend, IsMerge};
 
-use crate::merging::{next_of, next_shared};
+use crate::merging::{write_merged, write_shared};
 use crate::ranges::{Addressed, all_from};
-use crate::rests::{half, is_passed, skip};
+use crate::rests::{half, is_passed, write_complement, write_rests};
+use crate::writing::Filled;
 use cidr::{BitString, NetworkBits};
 use cidr_table::laws::keys::has_at_most_129_bits;
 use cidr_table::{is_inside, least_cover_in_place};
@@ -65,18 +66,9 @@ pub fn intersection<C: NetworkBits + Copy>(these: &[C], those: &[C], out: &mut [
     ensures fits { result ≤ length these.now + length those.now - 1 }
     ensures set { IsIntersection 129 (map C.bits these.now) (map C.bits those.now) (map C.bits (take result out.new)) }
 {
-    let mut left = these;
-    let mut right = those;
-    let mut n = 0;
-    while let Some((shared, behind, rest)) = next_shared(left, right) {
-        if let Some(network) = shared {
-            out[n] = network;
-            n += 1;
-        }
-        left = behind;
-        right = rest;
-    }
-    n
+    let mut filled = Filled::new(out);
+    write_shared(&mut filled, these, those);
+    filled.count()
 }
 
 /// Writes the networks of the addresses that the first of two sets has and the other has not to the first elements of
@@ -106,16 +98,9 @@ pub fn difference<C: NetworkBits + Copy>(these: &[C], those: &[C], out: &mut [C]
     ensures short { IfNone result ((set : List (List Bool))
         → IsDifference 129 (map C.bits these.now) (map C.bits those.now) set → length out.old < length set) }
 {
-    let mut todo = these;
-    let mut left = those;
-    let mut n = 0;
-    while let Some((network, behind)) = todo.split_first() {
-        let (count, rest) = write_rest(out, n, network, left)?;
-        n = count;
-        todo = behind;
-        left = rest;
-    }
-    Some(n)
+    let mut filled = Filled::new(out);
+    write_rests(&mut filled, these, those).ok()?;
+    Some(filled.count())
 }
 
 /// Writes the networks of the addresses of a network that a set has not to the first elements of `out`, and returns how
@@ -145,9 +130,9 @@ pub fn complement_in<C: NetworkBits + Copy>(
     ensures short { IfNone result ((set : List (List Bool))
         → IsComplement 129 (C.bits network.now) (map C.bits networks.now) set → length out.old < length set) }
 {
-    has_at_most_129_bits(network);
-    let (count, _) = write_rest(out, 0, network, networks)?;
-    Some(count)
+    let mut filled = Filled::new(out);
+    write_complement(&mut filled, network, networks).ok()?;
+    Some(filled.count())
 }
 
 /// Writes the networks of the addresses from the first to the last, both included, to the first elements of `out`, and
@@ -265,49 +250,6 @@ fn keep_distinct<C: PartialEq + Copy>(elements: &mut [C]) -> usize
     kept
 }
 
-/// Writes the networks of the addresses of a network that the others have not, ascending, after the first `n`, and
-/// returns how many there are then, and those of the others that can have addresses behind the network; `None` where
-/// `out` has no room for them.
-fn write_rest<'a, C: NetworkBits + Copy>(
-    out: &mut [C],
-    n: usize,
-    network: &C,
-    others: &'a [C],
-) -> Option<(usize, &'a [C])>
-    requires others { Ascend (map C.bits others.now) }
-    requires within { n ≤ length out.old }
-    requires ascend { Ascend (map C.bits (take n out.old)) }
-    requires before { (x : List Bool) → Contains (map C.bits (take n out.old)) x
-        → bit_cmp x (C.bits network.now) ≡ Less }
-    ensures cut { IfSome result (λ r. IsDifferenceStep (C.bits network.now) (map C.bits (take n out.old))
-        (map C.bits (take r.0 out.new)) (map C.bits others.now) (map C.bits r.1.now)) }
-    ensures within { IfSome result (λ r. r.0 ≤ length out.old) }
-    ensures over { IfNone result
-        (IsOver (C.bits network.now) (map C.bits (take n out.old)) (map C.bits others.now) (length out.old)) }
-{
-    let left = skip(network, others);
-    let Some((first, behind)) = left.split_first() else {
-        let count = write(out, n, network)?;
-        return Some((count, left));
-    };
-    if is_inside(network, first) {
-        let rest = if first.len() == network.len() {
-            behind
-        } else {
-            left
-        };
-        return Some((n, rest));
-    }
-    if !is_inside(first, network) {
-        let count = write(out, n, network)?;
-        return Some((count, left));
-    }
-    let lower = half(network, first, false);
-    let (count, rest) = write_rest(out, n, &lower, left)?;
-    let upper = half(network, first, true);
-    write_rest(out, count, &upper, rest)
-}
-
 /// Writes one network after the first `n`, and returns how many there are then; `None` where there is no room.
 fn write<C: Copy>(out: &mut [C], n: usize, network: &C) -> Option<usize>
     ensures some { IfSome result (λ count. (count ≡ n + 1) × (n < length out.old) × (out.new ≡ set out.old n network.now)) }
@@ -327,18 +269,9 @@ fn merge<C: NetworkBits + Copy>(these: &[C], those: &[C], out: &mut [C]) -> usiz
     requires room { length these.now + length those.now ≤ length out.old }
     ensures fits { result ≤ length these.now + length those.now }
     ensures within { length out.new ≡ length out.old }
-    ensures ascend { Ascend (map C.bits (take result out.new)) }
-    ensures covers { (a : List Bool) → (Covers (map C.bits these.now) a ⊎ Covers (map C.bits those.now) a)
-        ↔ Covers (map C.bits (take result out.new)) a }
+    ensures merge { IsMerge (map C.bits these.now) (map C.bits those.now) (map C.bits (take result out.new)) }
 {
-    let mut left = these;
-    let mut right = those;
-    let mut n = 0;
-    while let Some((network, behind, rest)) = next_of(left, right) {
-        out[n] = *network;
-        n += 1;
-        left = behind;
-        right = rest;
-    }
-    n
+    let mut filled = Filled::new(out);
+    write_merged(&mut filled, these, those);
+    filled.count()
 }

@@ -22,6 +22,11 @@ pub record IsUnionStep (ls rs : List (List Bool)) (x : List Bool) (bs us : List 
   pub ascend_right : Ascend us
   pub fewer : length bs + length us < length ls + length rs
 
+-- the networks of both lists, ascending, and each once
+pub record IsMerge (these those merged : List (List Bool)) : Type 0 where
+  pub ascend : Ascend merged
+  pub covers : (a : List Bool) → (Covers these a ⊎ Covers those a) ↔ Covers merged a
+
 -- the list begins with the network, if there is one
 abbrev pub BeginsWithSome : Option (List Bool) → List Bool → Type 0
 BeginsWithSome None a = ⊥
@@ -42,6 +47,18 @@ pub record IsIntersectionStep (ls rs : List (List Bool)) (x : Option (List Bool)
 -- the list comes after all that begin with the network
 abbrev pub IsBehind : List Bool → List Bool → Type 0
 IsBehind p a = (bit_cmp p a ≡ Less) × ¬ (BeginsWith a p)
+
+-- none lies in another
+abbrev pub AreApart : List (List Bool) → Type 0
+AreApart s = (p q : List Bool) → Contains s p → Contains s q → BeginsWith q p → p ≡ q
+
+-- the first is not before p
+abbrev pub StartsFrom : List Bool → List (List Bool) → Type 0
+StartsFrom p s = (q : List Bool) → slice_get s 0 ≡ Some q → bit_cmp q p ≢ Less
+
+-- the first is behind all that begin with p
+abbrev pub StartsBehind : List Bool → List (List Bool) → Type 0
+StartsBehind p s = (q : List Bool) → slice_get s 0 ≡ Some q → IsBehind p q
 
 -- what is left of some networks without the first ones, which come before p and don't contain it
 pub record IsSkipped (p : List Bool) (others rest : List (List Bool)) : Type 0 where

@@ -12,8 +12,8 @@ ghost use Rattle.std.specs.Vec.{vec_capacity};
 ghost use Rattle.cidr_sets.specs.model.Sets.{IsUnion, IsIntersection, IsDifference, IsSymmetricDifference, IsComplement, Meets, IsSubset, AreDisjoint};
 
 use crate::lookup::{covers, upto};
-use crate::merging::{next_of, next_shared};
-use crate::rests::{half, skip};
+use crate::merging::{write_merged, write_shared};
+use crate::rests::{write_complement, write_rests};
 use crate::set::{NetworkSet, joined};
 use cidr::NetworkBits;
 use cidr_table::is_inside;
@@ -36,7 +36,7 @@ impl<C: NetworkBits + Copy> NetworkSet<C> {
     {
         let (these, those) = (self.as_slice(), other.as_slice());
         let mut networks = with_room(self.networks.allocator().clone()?, these, those)?;
-        push_merged(&mut networks, these, those);
+        write_merged(&mut networks, these, those);
         Ok(joined(networks))
     }
 
@@ -55,7 +55,7 @@ impl<C: NetworkBits + Copy> NetworkSet<C> {
     {
         let (these, those) = (self.as_slice(), other.as_slice());
         let mut networks = with_room(self.networks.allocator().clone()?, these, those)?;
-        push_shared(&mut networks, these, those);
+        write_shared(&mut networks, these, those);
         Ok(NetworkSet { networks })
     }
 
@@ -75,7 +75,7 @@ impl<C: NetworkBits + Copy> NetworkSet<C> {
             → length set ≤ length self.now + w * length other.now) }
     {
         let mut rest = Vec::new(self.networks.allocator().clone()?);
-        push_rests(&mut rest, self.as_slice(), other.as_slice())?;
+        write_rests(&mut rest, self.as_slice(), other.as_slice())?;
         Ok(NetworkSet { networks: rest })
     }
 
@@ -147,9 +147,8 @@ impl<C: NetworkBits + Copy> NetworkSet<C> {
         ensures fits { IfOk result (λ set. (w : ℕ) → AreNetworks w (map C.bits self.now)
             → length set ≤ w * length self.now + 1) }
     {
-        has_at_most_129_bits(network);
         let mut rest = Vec::new(self.networks.allocator().clone()?);
-        push_rest(&mut rest, network, self.as_slice())?;
+        write_complement(&mut rest, network, self.as_slice())?;
         Ok(NetworkSet { networks: rest })
     }
 
@@ -176,109 +175,6 @@ fn with_room<C>(alloc: Global, these: &[C], those: &[C]) -> Result<Vec<C>, Alloc
 {
     let room = these.len().checked_add(those.len()).ok_or(AllocError)?;
     Vec::with_capacity(alloc, room)
-}
-
-/// Pushes the networks of both lists, ascending, and each once, where there is room for all.
-fn push_merged<C: NetworkBits + Copy>(out: &mut Vec<C>, these: &[C], those: &[C])
-    requires these { Ascend (map C.bits these.now) }
-    requires those { Ascend (map C.bits those.now) }
-    requires none { out.old.items ≡ [] }
-    requires room { length these.now + length those.now ≤ vec_capacity out.old }
-    ensures fits { length out.new.items ≤ length these.now + length those.now }
-    ensures ascend { Ascend (map C.bits out.new.items) }
-    ensures covers { (a : List Bool) → (Covers (map C.bits these.now) a ⊎ Covers (map C.bits those.now) a)
-        ↔ Covers (map C.bits out.new.items) a }
-{
-    let mut left = these;
-    let mut right = those;
-    while let Some((network, behind, rest)) = next_of(left, right) {
-        out.push_reserved(*network);
-        left = behind;
-        right = rest;
-    }
-}
-
-/// Pushes the networks of the addresses that both of two sets have, ascending, where there is room for all.
-fn push_shared<C: NetworkBits + Copy>(out: &mut Vec<C>, these: &[C], those: &[C])
-    requires these { IsReduced 129 (map C.bits these.now) }
-    requires those { IsReduced 129 (map C.bits those.now) }
-    requires none { out.old.items ≡ [] }
-    requires room { length these.now + length those.now ≤ vec_capacity out.old }
-    ensures fits { length out.new.items ≤ length these.now + length those.now - 1 }
-    ensures set { IsIntersection 129 (map C.bits these.now) (map C.bits those.now) (map C.bits out.new.items) }
-{
-    let mut left = these;
-    let mut right = those;
-    while let Some((shared, behind, rest)) = next_shared(left, right) {
-        if let Some(network) = shared {
-            out.push_reserved(network);
-        }
-        left = behind;
-        right = rest;
-    }
-}
-
-/// Pushes the networks of the addresses that a set has and another has not, ascending.
-fn push_rests<C: NetworkBits + Copy>(
-    out: &mut Vec<C>,
-    networks: &[C],
-    others: &[C],
-) -> Result<(), AllocError>
-    requires networks { IsReduced 129 (map C.bits networks.now) }
-    requires others { IsReduced 129 (map C.bits others.now) }
-    requires none { out.old.items ≡ [] }
-    ensures set { OnOk result
-        (IsDifference 129 (map C.bits networks.now) (map C.bits others.now) (map C.bits out.new.items)) }
-    ensures fits { OnOk result ((w : ℕ) → AreNetworks w (map C.bits others.now)
-        → length out.new.items ≤ length networks.now + w * length others.now) }
-{
-    let mut todo = networks;
-    let mut left = others;
-    while let Some((network, behind)) = todo.split_first() {
-        left = push_rest(out, network, left)?;
-        todo = behind;
-    }
-    Ok(())
-}
-
-/// Pushes the networks of the addresses of a network that the others have not, ascending, and returns those of the
-/// others that can have addresses behind the network.
-///
-/// A network that one of the others contains has none, and one that contains none of the others is pushed itself. Any
-/// other is halved.
-pub(super) fn push_rest<'a, C: NetworkBits + Copy>(
-    out: &mut Vec<C>,
-    network: &C,
-    others: &'a [C],
-) -> Result<&'a [C], AllocError>
-    requires others { Ascend (map C.bits others.now) }
-    requires ascend { Ascend (map C.bits out.old.items) }
-    requires before { (x : List Bool) → Contains (map C.bits out.old.items) x
-        → bit_cmp x (C.bits network.now) ≡ Less }
-    ensures { IfOk result (λ rest. IsDifferenceStep (C.bits network.now) (map C.bits out.old.items)
-        (map C.bits out.new.items) (map C.bits others.now) (map C.bits rest.now)) }
-{
-    let left = skip(network, others);
-    let Some((first, behind)) = left.split_first() else {
-        out.push(*network)?;
-        return Ok(left);
-    };
-    if is_inside(network, first) {
-        return Ok(if first.len() == network.len() {
-            behind
-        } else {
-            left
-        });
-    }
-    if !is_inside(first, network) {
-        out.push(*network)?;
-        return Ok(left);
-    }
-    let lower = half(network, first, false);
-    let rest = push_rest(out, &lower, left)?;
-    let upper = half(network, first, true);
-    let last = push_rest(out, &upper, rest)?;
-    Ok(last)
 }
 
 /// The first of the networks that lie in one that none of them contains.

@@ -6,8 +6,8 @@ ghost use Rattle.cidr_sets.specs.model.Sets.{IsUnion, IsDifference};
 use crate::lookup::{covers, upto};
 use crate::neighbours::{inside_of, joined_with};
 use crate::replacing::{cut, put, replace};
+use crate::rests::write_rest;
 use crate::set::NetworkSet;
-use crate::set::algebra::push_rest;
 use cidr::NetworkBits;
 use cidr_table::laws::keys::has_at_most_129_bits;
 use std::alloc::AllocError;
@@ -82,6 +82,6 @@ fn split<C: NetworkBits + Copy>(networks: &mut Vec<C>, network: &C) -> Result<()
     let mut single = Vec::new(alloc);
     single.push(*network)?;
     let mut rests = Vec::new(alloc);
-    push_rest(&mut rests, &outer, single.as_slice())?;
+    write_rest(&mut rests, &outer, single.as_slice())?;
     replace(networks, end - 1, end, rests.as_slice())
 }

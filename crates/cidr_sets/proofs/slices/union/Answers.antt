@@ -9,7 +9,7 @@ use Rattle.cidr_sets.proofs.slices.union.Goals as goal
 pub least_cover_in_place-requires : goal.least_cover_in_place-requires
 least_cover_in_place-requires g c =
     sorted_by g.C.BitString.bits g.C.Ord.cmp g.met.C.NetworkBits.ordered (take c.merge-count.result c.merge-count.new.out)
-    c.merge-count.ensures.ascend
+    c.merge-count.ensures.merge.ascend
 
 pub returns-clause-set : goal.returns-clause-set
 returns-clause-set g c =
@@ -23,5 +23,5 @@ returns-clause-set g c =
     subst (λ xs. IsUnion 129 these those (map f xs))
     (sym (take-append-le n out (drop c.merge-count.result c.merge-count.new.out) size))
     (set_alike 129 (Covers keys) (λ a. Covers these a ⊎ Covers those a) (map f (take n out))
-    (λ a la. ((c.merge-count.ensures.covers a).1, (c.merge-count.ensures.covers a).0))
+    (λ a la. ((c.merge-count.ensures.merge.covers a).1, (c.merge-count.ensures.merge.covers a).0))
     (set_from_cover 129 keys (map f (take n out)) c.least_cover_in_place.ensures.cover))

@@ -9,5 +9,5 @@ returns-clause-set g c =
     let these = map f c.as_slice-these.result.now in
     let those = map f c.as_slice-those.result.now in
     rw (← c.as_slice-these.ensures.networks, ← c.as_slice-those.ensures.networks)
-    (set_alike 129 (Covers (map f c.push_merged.new.out.items)) (λ a. Covers these a ⊎ Covers those a) (map f c.joined.result)
-    (λ a la. ((c.push_merged.ensures.covers a).1, (c.push_merged.ensures.covers a).0)) c.joined.ensures.set)
+    (set_alike 129 (Covers (map f c.write_merged.new.out.items)) (λ a. Covers these a ⊎ Covers those a) (map f c.joined.result)
+    (λ a la. ((c.write_merged.ensures.merge.covers a).1, (c.write_merged.ensures.merge.covers a).0)) c.joined.ensures.set)

@@ -19,14 +19,14 @@ overflow_sub-end g c =
     (holder_before (map f xs) (f c.args.network.now) c.upto-end.result c.requires.reduced
     (rw c.as_slice.ensures.value at c.upto-end.ensures.place) c.requires.covered).0
 
-pub push_rest-requires-clause-others : goal.push_rest-requires-clause-others
-push_rest-requires-clause-others g c =
+pub write_rest-requires-clause-others : goal.write_rest-requires-clause-others
+write_rest-requires-clause-others g c =
     let f = g.C.BitString.bits in
     let is : c.push.new.self.items ≡ c.args.network.now ∷ [] = c.in_ok-push.ensures.items ∙ ap (λ l. l ++ c.args.network.now ∷ []) c.new-single.ensures.items in
     simp (c.as_slice-2.ensures.value, is) (one_ascends (f c.args.network.now))
 
-pub push_rest-requires-clause-ascend : goal.push_rest-requires-clause-ascend
-push_rest-requires-clause-ascend g c = subst (λ l. Ascend (map g.C.BitString.bits l)) (sym c.new-rests.ensures.items) none_ascend
+pub write_rest-requires-clause-ascend : goal.write_rest-requires-clause-ascend
+write_rest-requires-clause-ascend g c = subst (λ l. Ascend (map g.C.BitString.bits l)) (sym c.new-rests.ensures.items) none_ascend
 
 pub overflow_sub-end-2 : goal.overflow_sub-end-2
 overflow_sub-end-2 g c =
@@ -53,12 +53,12 @@ returns-clause-ok g c =
     let after : i + 1 ≡ end = omega (arith, holder.0) in
     let parted : IsParted s q (take i s) (drop end s) =
     subst (λ k. IsParted s q (take i s) (drop k s)) after (parted_at s c.requires.reduced q i low here) in
-    let new = map f c.push_rest.new.out.items in
-    let cut : IsDifferenceStep q [] new (p ∷ []) (map f c.in_ok-push_rest.field-0.now) = search rules in
+    let new = map f c.write_rest.new.out.items in
+    let cut : IsDifferenceStep q [] new (p ∷ []) (map f c.in_ok-write_rest.field-0.now) = search rules in
     let rest = without_part s c.requires.reduced p c.has_at_most_129_bits.ensures q (take i s) (drop end s) new _ parted (i, low, here) inside cut in
-    let left : IsDifference 129 s (p ∷ []) (map f (take i xs ++ c.push_rest.new.out.items ++ drop end xs)) =
+    let left : IsDifference 129 s (p ∷ []) (map f (take i xs ++ c.write_rest.new.out.items ++ drop end xs)) =
     subst (IsDifference 129 s (p ∷ []))
-    (ap₂ (λ u v. u ++ new ++ v) (take-map f i xs) (drop-map f end xs) ∙ sym (map_three f (take i xs) c.push_rest.new.out.items (drop end xs))) rest in
+    (ap₂ (λ u v. u ++ new ++ v) (take-map f i xs) (drop-map f end xs) ∙ sym (map_three f (take i xs) c.write_rest.new.out.items (drop end xs))) rest in
     on_ok_weaker c.replace.result
     (λ is. subst (λ l. IsDifference 129 s (p ∷ []) (map f l)) (sym is)
     (subst (λ l. IsDifference 129 s (p ∷ []) (map f (take i xs ++ l ++ drop end xs))) (sym c.as_slice-3.ensures.value) left))
