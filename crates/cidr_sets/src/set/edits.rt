@@ -18,7 +18,7 @@ impl<C: NetworkBits + Copy> NetworkSet<C> {
     /// Networks that lie in it are dropped, and with the other half of it, it becomes one network, as far up as it goes.
     /// It takes two binary searches, a look at each network that goes, and one move of the networks behind: O(n), of
     /// IPv4 some 7 µs among 100,000 and 200 µs among a million. It allocates nothing where the set has all its
-    /// addresses, or where a network goes. `from_networks` and `union` add many at once.
+    /// addresses, or where a network goes. `insert_all` adds many at once.
     ///
     /// ```
     /// let mut pool = NetworkSet::new(rt.alloc());
@@ -45,7 +45,7 @@ impl<C: NetworkBits + Copy> NetworkSet<C> {
     /// Networks that lie in it are dropped, and one that contains it is halved, as often as the network has bits more:
     /// O(w) for addresses of w bits. It takes two binary searches, a look at each network that goes, and one move of
     /// the networks behind: O(n), in about the time of `insert`. It allocates only where a network contains it.
-    /// `difference` removes many at once.
+    /// `remove_all` removes many at once.
     ///
     /// ```
     /// pool.remove(&"10.64.0.0/10".parse()?)?;
@@ -63,6 +63,47 @@ impl<C: NetworkBits + Copy> NetworkSet<C> {
         }
         let (start, end) = inside_of(self.as_slice(), network);
         cut(&mut self.networks, start, end);
+        Ok(())
+    }
+
+    /// Adds the addresses of some networks, which may come in any order, overlap and repeat. Where an allocation fails,
+    /// the set stays as it was.
+    ///
+    /// It sorts a copy of the networks and makes one union: O(n + k log k) for k networks and a set of n, where k calls of
+    /// `insert` move the set k times.
+    ///
+    /// ```
+    /// let mut pool = NetworkSet::<Ipv4Cidr>::new(rt.alloc());
+    /// pool.insert_all(&["10.128.0.0/9".parse()?, "10.0.0.0/9".parse()?])?;
+    /// pool.as_slice() // [10.0.0.0/8]
+    /// ```
+    pub fn insert_all(&mut self, networks: &[C]) -> Result<(), AllocError>
+        ensures ok { OnOk result (IsUnion 129 (map C.bits self.old) (map C.bits networks.now) (map C.bits self.new)) }
+        ensures err { OnErr result (self.new ≡ self.old) }
+    {
+        let added = NetworkSet::from_networks(self.networks.allocator().clone()?, networks)?;
+        let set = self.union(&added)?;
+        *self = set;
+        Ok(())
+    }
+
+    /// Removes the addresses of some networks, which may come in any order, overlap and repeat. Where an allocation
+    /// fails, the set stays as it was.
+    ///
+    /// It sorts a copy of the networks and makes one difference, as `insert_all` makes a union.
+    ///
+    /// ```
+    /// pool.remove_all(&["10.128.0.0/10".parse()?, "10.192.0.0/10".parse()?])?;
+    /// pool.as_slice() // [10.0.0.0/9]
+    /// ```
+    pub fn remove_all(&mut self, networks: &[C]) -> Result<(), AllocError>
+        ensures ok { OnOk result
+            (IsDifference 129 (map C.bits self.old) (map C.bits networks.now) (map C.bits self.new)) }
+        ensures err { OnErr result (self.new ≡ self.old) }
+    {
+        let removed = NetworkSet::from_networks(self.networks.allocator().clone()?, networks)?;
+        let set = self.difference(&removed)?;
+        *self = set;
         Ok(())
     }
 }
