@@ -13,7 +13,7 @@ use Rattle.cidr_table.proofs.Ascending.{sorted_push}
 use Rattle.cidr_table.proofs.Halves.{begins_begins, begins_itself, either_half, half_begins, parent_half}
 use Rattle.cidr_table.proofs.MapLaws.{contains_nothing}
 use Rattle.cidr_table.proofs.Reduced.{covers_more}
-use Rattle.cidr_sets.specs.model.Ranges.{IsBetween, IsFilled, IsOverfull, IsPart, IsBetweenEdges, Reaches, all_bits, most, side}
+use Rattle.cidr_sets.specs.model.Ranges.{IsBetween, IsCutBy, IsFilled, IsOverfull, IsPart, IsBetweenEdges, Reaches, all_bits, most, side}
 use Rattle.cidr_sets.specs.model.Sets.{IsSetOf}
 use Rattle.cidr_sets.specs.internal.Steps.{Ascend, IsBehind}
 use Rattle.cidr_sets.proofs.Addresses.{set_alike}
@@ -23,9 +23,6 @@ use Rattle.cidr_sets.proofs.Members.{IsMemberOf, members_fit, set_of_members}
 use Rattle.cidr_sets.proofs.Sides.{between_reaches}
 
 -- ---- how a network lies to an edge
-abbrev pub IsCutBy : Bool → List Bool → List Bool → Type 0
-IsCutBy bit e p = BeginsWith e p × (all_bits bit (drop (length p) e) ≡ false)
-
 pub behind_first : (p f : List Bool) → IsBehind p f → side false f p ≡ 0
 unfolding side
 behind_first [] f h = absurd (h.1 refl)
@@ -400,6 +397,14 @@ module _ (IsIn : List Bool → Type 0) (p : List Bool) (old : List (List Bool)) 
   overfull_whole room k full = record {
     networks = old ++ p ∷ [];
     over = omega (arith, full, length-append old (p ∷ []));
+    ascend = k.ascend;
+    each = k.each;
+  }
+
+  pub overfull_less : (room more : ℕ) → room ≤ more → IsOverfull IsIn p old more → IsOverfull IsIn p old room
+  overfull_less room more le k = record {
+    networks = k.networks;
+    over = omega (arith, le, k.over);
     ascend = k.ascend;
     each = k.each;
   }

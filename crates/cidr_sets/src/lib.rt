@@ -24,6 +24,7 @@ mod rests;
 mod search;
 mod set;
 pub mod slices;
+mod spans;
 mod walk;
 mod writing;
 

@@ -1,21 +1,21 @@
 //! Ranges of addresses: from a first to a last one.
-ghost use Rattle.std.specs.Prelude.{◌≡◌, ◌≢◌, ◌↔◌, ◌⊎◌, ◌+◌, ◌-◌, ◌≤◌, ◌<◌, ◌++◌, ◌∷◌, [], Bool, List, Some, length, take, drop, true, false, slice_get, replicate, not, map, IfOk, OnOk};
+ghost use Rattle.std.specs.Prelude.{◌≡◌, ◌≢◌, ◌+◌, ◌≤◌, ◌∷◌, [], Bool, true, false, List, length, drop, map, IfOk};
 ghost use Rattle.std.specs.Iterator.{YieldsFirstBy, item_count};
 ghost use Rattle.std.specs.declared.cmp.Ordering.TheVariants.{Greater};
 ghost use Rattle.cidr.specs.model.Bits.{bit_cmp};
-ghost use Rattle.cidr.specs.model.Network.{BeginsWith, HasWidth, first_of, last_of};
+ghost use Rattle.cidr.specs.model.Network.{HasWidth, first_of, last_of};
 ghost use Rattle.cidr.specs.either.IpAddress.{ip_address_bits};
 ghost use Rattle.cidr_table.specs.model.Cover.{Covers, IsReduced};
 ghost use Rattle.cidr_table.specs.model.CoverAddresses.{IsIpAddressBits};
-ghost use Rattle.cidr_sets.specs.model.Ranges.{AreBeginless, AreComplete, AreRanges, HaveEnds, IsBetween, IsPadded, Reaches, all_bits, any_first, any_last, touches};
+ghost use Rattle.cidr_sets.specs.model.Ranges.{AreBeginless, AreComplete, AreRanges, HaveEnds, IsBetween, IsPadded, all_bits, any_first, any_last, touches};
 ghost use Rattle.cidr_sets.specs.laws.RangeLaws.{plain_beginless, ip_beginless, plain_complete, ip_complete, plain_ends, any_ends, plain_inside, any_inside, v4_fits, v6_fits};
 ghost use Rattle.cidr_sets.specs.model.Sets.{IsSetOf};
 
-use crate::set::{NetworkSet, reduced};
+use crate::set::NetworkSet;
+use crate::spans::write_range;
 use cidr::{AnyIpCidr, BitString, IpAddr, Ipv4Addr, Ipv4Cidr, Ipv6Addr, Ipv6Cidr, NetworkBits};
 use cidr_table::laws::keys::has_at_most_129_bits;
 use std::alloc::{AllocError, Global};
-use std::cmp::Ordering;
 use std::iter::FusedIterator;
 use std::marker::Model;
 
@@ -201,20 +201,9 @@ impl<C: Addressed + Copy> NetworkSet<C> {
             length set + 2 ≤ length (C.address_bits first) + length (C.address_bits last)) }
         ensures addresses { C.IsAddress (C.address_bits first) × C.IsAddress (C.address_bits last) }
     {
-        let (first, last) = (C::single(first), C::single(last));
-        has_at_most_129_bits(&first);
-        has_at_most_129_bits(&last);
         let mut networks = Vec::new(alloc);
-        match first.cmp(&last) {
-            Ordering::Less => {
-                let len = first.shared_prefix_len(&last) + 1;
-                push_side(&mut networks, &first, len, true)?;
-                push_side(&mut networks, &last, len, false)?;
-            }
-            Ordering::Equal => networks.push(first)?,
-            Ordering::Greater => {}
-        }
-        Ok(reduced(networks))
+        write_range(&mut networks, first, last)?;
+        Ok(NetworkSet::of_reduced(networks))
     }
 
     /// The longest ranges of addresses in the set, ascending. No two touch: between one and the next is an address that
@@ -310,52 +299,4 @@ pub(crate) fn all_from<C: BitString>(network: &C, from: usize, bit: bool) -> boo
     ensures { result ≡ all_bits bit (drop from (C.bits network.now)) }
 {
     (from..network.len()).all(|i| network.get(i) == bit)
-}
-
-/// Pushes networks of the addresses that begin with the first `len` bits of an edge and, where they first differ from
-/// it, have the bit `up`: those from the edge on, or those up to it.
-fn push_side<C: BitString + Copy>(
-    out: &mut Vec<C>,
-    edge: &C,
-    len: usize,
-    up: bool,
-) -> Result<(), AllocError>
-    requires { len ≤ length (C.bits edge.now) }
-    ensures side { OnOk result ((a : List Bool) → length a ≡ 129 → Covers (map C.bits out.new.items) a
-        ↔ (Covers (map C.bits out.old.items) a
-        ⊎ (BeginsWith a (take len (C.bits edge.now)) × Reaches up (C.bits edge.now) a))) }
-    ensures fits { OnOk result (length out.new.items
-        ≤ length out.old.items + 1 + (length (C.bits edge.now) - (len + 1))) }
-{
-    has_at_most_129_bits(edge);
-    let mut block = trimmed(edge, len, up);
-    out.push(block)?;
-    let start = block.len();
-    while block.len() > len {
-        let last = block.len() - 1;
-        let bit = block.get(last);
-        block.clip(last);
-        if bit != up {
-            let mut sibling = block;
-            sibling.append(up);
-            out.push(sibling)?;
-        }
-    }
-    Ok(())
-}
-
-/// The network of an edge without its last bits, down to `len` bits, that aren't `up`.
-fn trimmed<C: BitString + Copy>(edge: &C, len: usize, up: bool) -> C
-    requires { len ≤ length (C.bits edge.now) }
-    ensures bits { C.bits edge.now ≡ C.bits result
-        ++ replicate (length (C.bits edge.now) - length (C.bits result)) (not up) }
-    ensures within { len ≤ length (C.bits result) }
-    ensures upto { length (C.bits result) ≤ length (C.bits edge.now) }
-    ensures tight { (length (C.bits result) ≡ len) ⊎ (slice_get (C.bits result) (length (C.bits result) - 1) ≡ Some up) }
-{
-    let mut block = *edge;
-    while block.len() > len && block.get(block.len() - 1) != up {
-        block.clip(block.len() - 1);
-    }
-    block
 }

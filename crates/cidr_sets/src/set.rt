@@ -94,6 +94,14 @@ impl<C: NetworkBits + Copy> NetworkSet<C> {
         reduced(networks)
     }
 
+    /// The set of networks in normal form.
+    pub(crate) fn of_reduced(networks: Vec<C>) -> Self
+        requires { IsReduced 129 (map C.bits networks.items) }
+        ensures { result ≡ networks.items }
+    {
+        NetworkSet { networks }
+    }
+
     /// Whether the set has all addresses of a network. An address is asked for as the network of full prefix length.
     ///
     /// It is [`contains`](crate::contains) over `probe`: one binary search and a look at one neighbour. Where the number

@@ -2,24 +2,20 @@
 //!
 //! The caller has to prove that the networks of each set are in normal form, as `as_slice` of a set has them:
 //! ascending, none in another, and no two the halves of one. So are those that are written. `from_networks` takes any.
-ghost use Rattle.std.specs.Prelude.{◌≡◌, ◌+◌, ◌-◌, ◌*◌, ◌≤◌, ◌<◌, ◌⊎◌, ◌↔◌, ℕ, Bool, List, length, take, drop, false, true, map, set, Contains, IfSome, IfNone};
+ghost use Rattle.std.specs.Prelude.{◌≡◌, ◌+◌, ◌-◌, ◌*◌, ◌≤◌, ◌<◌, ℕ, Bool, List, length, take, map, IfSome, IfNone};
 ghost use Rattle.std.specs.List.{dedup};
-ghost use Rattle.std.specs.declared.cmp.Ordering.TheVariants.{Less};
-ghost use Rattle.std.specs.Bool.{Decides};
-ghost use Rattle.cidr.specs.model.Bits.{bit_cmp};
-ghost use Rattle.cidr.specs.model.Network.{BeginsWith};
 ghost use Rattle.cidr_table.specs.model.Cover.{AreNetworks, Covers, IsReduced};
 ghost use Rattle.cidr_sets.specs.model.Sets.{IsSetOf, IsUnion, IsIntersection, IsDifference, IsComplement};
-ghost use Rattle.cidr_sets.specs.model.Ranges.{IsBetween, IsFilled, IsOverfull, IsBetweenEdges, all_bits, most, side};
+ghost use Rattle.cidr_sets.specs.model.Ranges.{IsBetween};
 ghost use Rattle.cidr_sets.specs.internal.Steps.{Ascend, IsMerge};
 
 use crate::merging::{write_merged, write_shared};
-use crate::ranges::{Addressed, all_from};
-use crate::rests::{half, is_passed, write_complement, write_rests};
+use crate::ranges::Addressed;
+use crate::rests::{write_complement, write_rests};
+use crate::spans::write_range;
 use crate::writing::Filled;
-use cidr::{BitString, NetworkBits};
-use cidr_table::laws::keys::has_at_most_129_bits;
-use cidr_table::{is_inside, least_cover_in_place};
+use cidr::NetworkBits;
+use cidr_table::least_cover_in_place;
 
 /// Writes the networks of the addresses that one of two sets has, or both, to the first elements of `out`, and returns
 /// how many they are.
@@ -161,58 +157,9 @@ pub fn from_range<C: Addressed + Copy>(
     ensures short { IfNone result ((set : List (List Bool))
         → IsSetOf 129 (IsBetween (C.address_bits first) (C.address_bits last)) set → length out.old < length set) }
 {
-    let (first, last) = (C::single(first), C::single(last));
-    has_at_most_129_bits(&first);
-    has_at_most_129_bits(&last);
-    write_between(out, 0, &C::null(), &first, &last)
-}
-
-/// Writes the networks of the addresses of a network from a first to a last one, ascending, after the first `n`, and
-/// returns how many there are then; `None` where `out` has no room for them.
-///
-/// A network that has none of them is left out, and one that has only such is written itself. Any other is halved.
-fn write_between<C: NetworkBits + Copy>(
-    out: &mut [C],
-    n: usize,
-    network: &C,
-    first: &C,
-    last: &C,
-) -> Option<usize>
-    requires within { n ≤ length out.old }
-    requires ascend { Ascend (map C.bits (take n out.old)) }
-    requires before { (x : List Bool) → Contains (map C.bits (take n out.old)) x
-        → bit_cmp x (C.bits network.now) ≡ Less }
-    ensures filled { IfSome result (λ count. IsFilled (IsBetweenEdges (C.bits first.now) (C.bits last.now))
-        (C.bits network.now) (map C.bits (take n out.old)) (map C.bits (take count out.new))) }
-    ensures fits { IfSome result (λ count. count ≤ n + most (side false (C.bits first.now) (C.bits network.now))
-        (side true (C.bits last.now) (C.bits network.now))) }
-    ensures within { IfSome result (λ count. count ≤ length out.old) }
-    ensures over { IfNone result (IsOverfull (IsBetweenEdges (C.bits first.now) (C.bits last.now))
-        (C.bits network.now) (map C.bits (take n out.old)) (length out.old)) }
-{
-    has_at_most_129_bits(network);
-    has_at_most_129_bits(first);
-    has_at_most_129_bits(last);
-    if is_passed(network, first) || is_passed(last, network) {
-        return Some(n);
-    }
-    let starts = is_cut(network, first, false);
-    if !starts && !is_cut(network, last, true) {
-        return write(out, n, network);
-    }
-    let edge = if starts { first } else { last };
-    let lower = half(network, edge, false);
-    let count = write_between(out, n, &lower, first, last)?;
-    let upper = half(network, edge, true);
-    write_between(out, count, &upper, first, last)
-}
-
-/// Whether an edge lies in a network, and has other bits than `bit` behind the network's.
-fn is_cut<C: BitString>(network: &C, edge: &C, bit: bool) -> bool
-    ensures { Decides result (BeginsWith (C.bits edge.now) (C.bits network.now)
-        × (all_bits bit (drop (length (C.bits network.now)) (C.bits edge.now)) ≡ false)) }
-{
-    is_inside(edge, network) && !all_from(edge, network.len(), bit)
+    let mut filled = Filled::new(out);
+    write_range(&mut filled, first, last).ok()?;
+    Some(filled.count())
 }
 
 /// Makes a slice of networks, which may come in any order, overlap and repeat, the set of their addresses: it stands in
@@ -248,18 +195,6 @@ fn keep_distinct<C: PartialEq + Copy>(elements: &mut [C]) -> usize
         }
     }
     kept
-}
-
-/// Writes one network after the first `n`, and returns how many there are then; `None` where there is no room.
-fn write<C: Copy>(out: &mut [C], n: usize, network: &C) -> Option<usize>
-    ensures some { IfSome result (λ count. (count ≡ n + 1) × (n < length out.old) × (out.new ≡ set out.old n network.now)) }
-    ensures full { IfNone result (length out.old ≤ n) }
-{
-    if n >= out.len() {
-        return None;
-    }
-    out[n] = *network;
-    Some(n + 1)
 }
 
 /// Writes the networks of both lists, ascending, and each once.

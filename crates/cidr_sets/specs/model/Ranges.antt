@@ -1,5 +1,5 @@
 -- Ranges of addresses: all from a first to a last one, in the order of their bits.
-use Rattle.std.specs.Prelude.{◌≡◌, ◌≢◌, ◌↔◌, ◌⊎◌, ℕ, zero, suc, ◌+◌, ◌<◌, ◌≤◌, Bool, true, false, ◌&&◌, if◌then◌else◌, List, [], ◌∷◌, ◌++◌, length, take, replicate, Some}
+use Rattle.std.specs.Prelude.{◌≡◌, ◌≢◌, ◌↔◌, ◌⊎◌, ℕ, zero, suc, ◌+◌, ◌<◌, ◌≤◌, Bool, true, false, ◌&&◌, if◌then◌else◌, List, [], ◌∷◌, ◌++◌, length, take, drop, replicate, Some}
 use Rattle.std.specs.Bool.{beq}
 use Rattle.std.specs.List.{Contains, slice_get}
 use Rattle.std.specs.declared.cmp.Ordering.TheVariants.{Less, Greater}
@@ -99,6 +99,10 @@ side bit (true ∷ e) (true ∷ p) = side bit e p
 side bit (false ∷ e) (false ∷ p) = side bit e p
 side bit (true ∷ e) (false ∷ p) = if bit then 1 else 0
 side bit (false ∷ e) (true ∷ p) = if bit then 0 else 1
+
+-- the edge lies in the network p, and has other bits than `bit` behind it
+abbrev pub IsCutBy : Bool → List Bool → List Bool → Type 0
+IsCutBy bit e p = BeginsWith e p × (all_bits bit (drop (length p) e) ≡ false)
 
 -- how many networks a network has at most in a range, by how it lies to the first and the last address
 unfoldable pub most : ℕ → ℕ → ℕ
