@@ -1,6 +1,6 @@
 #!/usr/bin/perl
 # Writes files of each record size and both versions, with and without aliases, with values of each type: write.pl FOLDER
-# With a count it writes one file, rows.mmdb, of so many rows of IPv4: write.pl FOLDER ROWS
+# With a count it writes two files of so many rows of IPv4, with trees of IPv4 and of IPv6: write.pl FOLDER ROWS
 use strict;
 use warnings;
 use MaxMind::DB::Writer::Tree;
@@ -31,20 +31,21 @@ sub written {
     close $file or die $!;
 }
 
-if ($rows) {
+for my $version ($rows ? (4, 6) : ()) {
     my $tree = MaxMind::DB::Writer::Tree->new(
-        ip_version => 4, record_size => 24, database_type => 'Test', languages => ['en'], description => { en => 'rows' },
+        ip_version => $version, record_size => 24, database_type => 'Test', languages => ['en'], description => { en => 'rows' },
         map_key_type_callback => sub { $type{ $_[0] } // die "type of $_[0]" }, remove_reserved_networks => 0,
     );
     srand(7);
     for my $n (1 .. $rows) {
         my $length = 8 + int(rand(17));
         my $first = int(rand(2**32)) >> (32 - $length) << (32 - $length);
-        $tree->insert_network(join('.', unpack('C4', pack('N', $first))) . "/$length", { name => "row " . $n % 500, asn => $n % 500 });
+        my $octets = join('.', unpack('C4', pack('N', $first)));
+        $tree->insert_network($version == 4 ? "$octets/$length" : "::$octets/" . ($length + 96), { name => "row " . $n % 500, asn => $n % 500 });
     }
-    written('rows', $tree);
-    exit;
+    written("rows-v$version", $tree);
 }
+exit if $rows;
 
 for my $size (24, 28, 32) {
     for my $version (4, 6) {

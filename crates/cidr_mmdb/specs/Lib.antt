@@ -4,6 +4,7 @@ pub mod Fields
 pub mod Metadata
 pub mod Databases
 pub mod LookUps
+pub mod Starts
 pub mod Numerals
 pub mod Json
 pub mod Writing

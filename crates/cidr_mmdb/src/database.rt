@@ -1,10 +1,11 @@
 //! A file that is open.
-ghost use Rattle.std.specs.Prelude.{◌≤◌};
+ghost use Rattle.std.specs.Prelude.{◌≡◌, ◌≤◌};
+ghost use Rattle.cidr_mmdb.specs.Starts.{start_of};
 
 use crate::errors::JsonError;
 use crate::found::Found;
 use crate::json::text_at;
-use crate::trees::Tree;
+use crate::trees::{Tree, Walk};
 use std::alloc::Global;
 
 /// The parts of a file. [`open`](crate::open) finds them in its bytes.
@@ -18,13 +19,17 @@ pub struct Database<'a> {
     pub data: &'a [u8],
     /// The metadata: a map, as the first field of these bytes.
     pub metadata: &'a [u8],
+    /// The record behind the first 96 bits of ::/96 in a tree of IPv6, and else the root: where a walk by an IPv4 address begins.
+    pub(crate) ipv4_start: u32,
     ghost family: { width ≤ 128 },
+    ghost start: { ipv4_start ≡ start_of tree width },
 }
 
 impl<'a> Database<'a> {
-    ghost use Rattle.std.specs.Prelude.{◌≡◌, ◌≤◌, ℕ, length, IfErr, IfOk, Some};
+    ghost use Rattle.std.specs.Prelude.{◌≡◌, ◌≤◌, ◌<◌, ◌-◌, ◌^◌, ℕ, length, IfErr, IfOk, Some};
     ghost use Rattle.cidr_mmdb.specs.Databases.{said_by};
     ghost use Rattle.cidr_mmdb.specs.Json.{IsUnwritten, json_at};
+    ghost use Rattle.cidr_mmdb.specs.Trees.{record_at, walk};
 
     /// The value at a place of the data section as JSON, as [`lookup`](crate::lookup) found it, of at most `limit` bytes.
     ///
@@ -53,6 +58,20 @@ impl<'a> Database<'a> {
         ensures none { IfErr result (IsUnwritten limit (json_at self.now.metadata.now 512 0)) }
     {
         text_at(alloc, self.metadata, 0, limit)
+    }
+
+    /// The walk by an address of so many bits; that by one of IPv4 begins behind the bits before it, so that no more bits are left than it
+    /// has.
+    pub(crate) fn walk(&self, address: u128, width: u32) -> Walk
+        requires within { width ≤ self.now.width }
+        requires fits { address < 2 ^ width }
+        ensures record { result.record ≡ (walk (record_at self.now.tree.record_size self.now.tree.bytes.now) self.now.tree.node_count address 0 self.now.width).0 }
+        ensures left { width - result.left ≡ width - (walk (record_at self.now.tree.record_size self.now.tree.bytes.now) self.now.tree.node_count address 0 self.now.width).1 }
+    {
+        if width == 32 {
+            return self.tree.walk(self.ipv4_start, address, 32);
+        }
+        self.tree.walk(0, address, self.width)
     }
 
     /// What a record says.

@@ -21,7 +21,7 @@ pub struct Answer<C: FamilyCidr> {
 /// ends before all of these 96 bits are read, the network is 0.0.0.0/0. In a tree of IPv4 there is nothing for an IPv6 address, of
 /// ::/0.
 ///
-/// It takes a step for each bit that it reads, at most 32 or 128, and allocates nothing.
+/// It takes a step for each bit of the address that it reads, at most 32 of IPv4 and 128 of IPv6, and allocates nothing.
 ///
 /// ```
 /// let answer = lookup::<Ipv4Cidr>(&database, "10.1.2.3".parse()?);
@@ -41,7 +41,7 @@ pub fn lookup<C: FamilyCidr>(database: &Database<'_>, address: C::Address) -> An
             found: Found::Nothing,
         };
     }
-    let walk = database.tree.walk(C::to_number(address), database.width);
+    let walk = database.walk(C::to_number(address), width);
     network.clip(width.saturating_sub(walk.left) as usize);
     Answer {
         network,

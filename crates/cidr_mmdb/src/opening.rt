@@ -35,13 +35,16 @@ pub fn open(bytes: &[u8]) -> Result<Database<'_>, OpenError>
     if at < size + 16 {
         return Err(OpenError::TreeTooLong);
     }
+    let tree = Tree {
+        bytes: &bytes[..size],
+        node_count: layout.node_count,
+        record_size: layout.record_size,
+    };
+    let start = tree.walk(0, 0, layout.width.saturating_sub(32));
     Ok(Database {
-        tree: Tree {
-            bytes: &bytes[..size],
-            node_count: layout.node_count,
-            record_size: layout.record_size,
-        },
+        tree,
         width: layout.width,
+        ipv4_start: start.record,
         data: &bytes[size + 16..at],
         metadata,
     })

@@ -27,14 +27,14 @@ pub(crate) struct Walk {
 }
 
 impl<'a> Tree<'a> {
-    /// Walks from the root by the lowest `width` bits of an address, the most significant first: in at most that many steps.
-    pub(crate) fn walk(&self, address: u128, width: u32) -> Walk
+    /// Walks from a record by the lowest `width` bits of an address, the most significant first: in at most that many steps.
+    pub(crate) fn walk(&self, from: u32, address: u128, width: u32) -> Walk
         requires { width ≤ 128 }
-        ensures record { result.record ≡ (walk (record_at self.now.record_size self.now.bytes.now) self.now.node_count address 0 width).0 }
-        ensures left { result.left ≡ (walk (record_at self.now.record_size self.now.bytes.now) self.now.node_count address 0 width).1 }
+        ensures record { result.record ≡ (walk (record_at self.now.record_size self.now.bytes.now) self.now.node_count address from width).0 }
+        ensures left { result.left ≡ (walk (record_at self.now.record_size self.now.bytes.now) self.now.node_count address from width).1 }
         ensures fewer { result.left ≤ width }
     {
-        let mut record = 0;
+        let mut record = from;
         let mut left = width;
         while left > 0 {
             if record >= self.node_count {

@@ -7,7 +7,7 @@ abbrev pub invariant-loop-left : goal.invariant-loop-left
 invariant-loop-left l = record {
   few : l.left ≤ l.width;
   same : walk (record_at l.self.record_size l.self.bytes.now) l.self.node_count l.address l.record l.left
-      ≡ walk (record_at l.self.record_size l.self.bytes.now) l.self.node_count l.address 0 l.width;
+      ≡ walk (record_at l.self.record_size l.self.bytes.now) l.self.node_count l.address l.from l.width;
 }
 
 abbrev pub decreases-loop-left : goal.decreases-loop-left
