@@ -1,0 +1,163 @@
+//! The values that a field of a packet has, and ranges of them.
+ghost use Rattle.std.specs.Prelude.{◌≡◌, ◌+◌, ◌-◌, ◌<◌, ◌&&◌, ℕ, nat_le, min, max, option_map};
+ghost use Rattle.cidr_rules.specs.Packets.{is_between, range_of};
+ghost use Rattle.cidr_rules.specs.Regions.{above_of, below_of, common_of};
+
+/// The values of a field, which stand in a row as numbers do.
+pub trait FieldValue: Copy {
+    /// The number of a value.
+    ghost number: { Self → ℕ };
+
+    /// Whether this value is the other or comes before it.
+    ///
+    /// ```
+    /// 80u16.is_upto(443) // true
+    /// ```
+    fn is_upto(self, other: Self) -> bool
+        ensures { result ≡ nat_le (number self) (number other) };
+
+    /// The next value. The caller has to prove that a greater one is given.
+    ///
+    /// ```
+    /// 80u16.next(443) // 81
+    /// ```
+    fn next(self, greater: Self) -> Self
+        requires { number self < number greater }
+        ensures { number result ≡ number self + 1 };
+
+    /// The value before. The caller has to prove that a lesser one is given.
+    ///
+    /// ```
+    /// 443u16.previous(80) // 442
+    /// ```
+    fn previous(self, less: Self) -> Self
+        requires { number less < number self }
+        ensures { number result ≡ number self - 1 };
+}
+
+impl FieldValue for u8 {
+    ghost number = { λ n. n };
+
+    fn is_upto(self, other: u8) -> bool {
+        self <= other
+    }
+
+    fn next(self, _greater: u8) -> u8 {
+        self + 1
+    }
+
+    fn previous(self, _less: u8) -> u8 {
+        self - 1
+    }
+}
+
+impl FieldValue for u16 {
+    ghost number = { λ n. n };
+
+    fn is_upto(self, other: u16) -> bool {
+        self <= other
+    }
+
+    fn next(self, _greater: u16) -> u16 {
+        self + 1
+    }
+
+    fn previous(self, _less: u16) -> u16 {
+        self - 1
+    }
+}
+
+/// The values from one to another, both included. There is none where the last comes before the first.
+#[derive(Debug, Clone, Copy, Drop)]
+pub struct Range<T: FieldValue> {
+    /// The least value.
+    pub first: T,
+    /// The greatest value.
+    pub last: T,
+}
+
+impl<T: FieldValue> Range<T> {
+    /// Whether a value is in the range.
+    ///
+    /// ```
+    /// Range { first: 1024u16, last: 65535 }.contains(8080) // true
+    /// ```
+    pub fn contains(&self, value: T) -> bool
+        ensures { result ≡ is_between (range_of T.number self.now) (T.number value) }
+    {
+        self.first.is_upto(value) && value.is_upto(self.last)
+    }
+
+    /// Whether there is a value in the range.
+    pub(crate) fn has_value(&self) -> bool
+        ensures { result ≡ nat_le (range_of T.number self.now).first (range_of T.number self.now).last }
+    {
+        self.first.is_upto(self.last)
+    }
+
+    /// Whether neither of two ranges ends before the other begins.
+    pub(crate) fn meets(&self, other: &Range<T>) -> bool
+        ensures { result ≡ (nat_le (range_of T.number other.now).first (range_of T.number self.now).last
+            && nat_le (range_of T.number self.now).first (range_of T.number other.now).last) }
+    {
+        other.first.is_upto(self.last) && self.first.is_upto(other.last)
+    }
+
+    /// Whether the range begins and ends within another.
+    pub(crate) fn is_within(&self, other: &Range<T>) -> bool
+        ensures { result ≡ (nat_le (range_of T.number other.now).first (range_of T.number self.now).first
+            && nat_le (range_of T.number self.now).last (range_of T.number other.now).last) }
+    {
+        other.first.is_upto(self.first) && self.last.is_upto(other.last)
+    }
+
+    /// The values of both ranges.
+    pub(crate) fn common(&self, other: &Range<T>) -> Range<T>
+        ensures { range_of T.number result ≡ common_of (range_of T.number self.now) (range_of T.number other.now) }
+    {
+        Range {
+            first: later(self.first, other.first),
+            last: earlier(self.last, other.last),
+        }
+    }
+
+    /// What is below a hole.
+    pub(crate) fn below(&self, hole: &Range<T>) -> Option<Range<T>>
+        ensures { option_map (range_of T.number) result ≡ below_of (range_of T.number self.now) (range_of T.number hole.now) }
+    {
+        if hole.first.is_upto(self.first) {
+            return None;
+        }
+        Some(Range {
+            first: self.first,
+            last: hole.first.previous(self.first),
+        })
+    }
+
+    /// What is above a hole.
+    pub(crate) fn above(&self, hole: &Range<T>) -> Option<Range<T>>
+        ensures { option_map (range_of T.number) result ≡ above_of (range_of T.number self.now) (range_of T.number hole.now) }
+    {
+        if self.last.is_upto(hole.last) {
+            return None;
+        }
+        Some(Range {
+            first: hole.last.next(self.last),
+            last: self.last,
+        })
+    }
+}
+
+/// The value that comes later.
+fn later<T: FieldValue>(one: T, other: T) -> T
+    ensures { T.number result ≡ max (T.number one) (T.number other) }
+{
+    if one.is_upto(other) { other } else { one }
+}
+
+/// The value that comes earlier.
+fn earlier<T: FieldValue>(one: T, other: T) -> T
+    ensures { T.number result ≡ min (T.number one) (T.number other) }
+{
+    if one.is_upto(other) { one } else { other }
+}

@@ -1,0 +1,18 @@
+//! Access lists of five fields, proved: which packets they permit, which of their rules decide nothing, and how two differ.
+#![tactic(auto)]
+
+mod differences;
+mod errors;
+mod fields;
+mod parts;
+mod regions;
+mod rules;
+mod search;
+mod shadows;
+
+pub use differences::differing_packet;
+pub use errors::RulesError;
+pub use fields::{FieldValue, Range};
+pub use regions::{Packet, Region};
+pub use rules::{Action, Rule, decides, permits};
+pub use shadows::{pruned, redundant, shadowed};
