@@ -1,0 +1,83 @@
+//! Answers questions about routes of one family, ipv4 or ipv6, which the argument names. Lines of the standard input:
+//!
+//!     payload NETWORK MAX_LENGTH AS        a payload
+//!     row LIST permit|deny NETWORK LOW HIGH        a row of a prefix list, by the name of the list
+//!     validity NETWORK AS        prints valid, invalid or unknown; AS is - for a path that ends in a set
+//!     permits LIST NETWORK        prints true or false
+//!     same LIST LIST        prints same, or a network, a length and first or second
+//!
+//! The payloads stand before the first question about them.
+
+use cidr::{Ipv4Cidr, Ipv6Cidr};
+use cidr_lookup::Keyed;
+use cidr_routes::lists::{difference, permits, Row};
+use cidr_routes::{Payload, Payloads, Validity};
+use cidr_sets::access::Action;
+use cidr_support::alloc::Global;
+use std::collections::HashMap;
+use std::fmt::{Debug, Display};
+use std::io::{self, BufRead, Write};
+use std::str::FromStr;
+
+fn main() {
+    match std::env::args().nth(1).as_deref() {
+        Some("ipv4") => answer::<Ipv4Cidr>(),
+        Some("ipv6") => answer::<Ipv6Cidr>(),
+        _ => panic!("ipv4 or ipv6"),
+    }
+}
+
+fn number<N: FromStr>(text: &str) -> N
+where
+    N::Err: Debug,
+{
+    text.parse().unwrap()
+}
+
+fn answer<C: Keyed + FromStr + Display>()
+where
+    C::Err: Debug,
+{
+    let mut payloads = Vec::new();
+    let mut ready: Option<Payloads<C>> = None;
+    let mut lists: HashMap<String, Vec<Row<C>>> = HashMap::new();
+    let mut out = io::BufWriter::new(io::stdout().lock());
+    for line in io::stdin().lock().lines() {
+        let line = line.unwrap();
+        let words: Vec<&str> = line.split(' ').collect();
+        match words[..] {
+            ["payload", network, max_length, origin] => payloads.push(Payload {
+                network: number(network),
+                max_length: number(max_length),
+                origin: number(origin),
+            }),
+            ["row", list, action, network, low, high] => lists.entry(list.to_string()).or_default().push(Row {
+                action: if action == "permit" { Action::Permit } else { Action::Deny },
+                network: number(network),
+                low: number(low),
+                high: number(high),
+            }),
+            ["validity", network, origin] => {
+                let held = ready.get_or_insert_with(|| {
+                    Payloads::new(Global, cidr_support::vec::Vec::from_slice(Global, &payloads).unwrap()).unwrap()
+                });
+                let origin = if origin == "-" { None } else { Some(number(origin)) };
+                let text = match held.validity(&number(network), origin) {
+                    Validity::Valid => "valid",
+                    Validity::InvalidLength | Validity::InvalidOrigin => "invalid",
+                    Validity::NotFound => "unknown",
+                };
+                writeln!(out, "{text}").unwrap();
+            }
+            ["permits", list, network] => writeln!(out, "{}", permits(&lists[list], &number(network))).unwrap(),
+            ["same", one, other] => match difference(Global, &lists[one], &lists[other]).unwrap() {
+                None => writeln!(out, "same").unwrap(),
+                Some(it) => {
+                    let side = if it.by_first { "first" } else { "second" };
+                    writeln!(out, "{} {} {side}", it.network, it.len).unwrap();
+                }
+            },
+            _ => panic!("{line}"),
+        }
+    }
+}
