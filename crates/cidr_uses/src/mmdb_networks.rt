@@ -18,7 +18,9 @@ pub fn has_one_answer<C: FamilyCidr>(
     requires { BeginsWith (C.Address.bits other) (take (looked_up database.now (width_of C.FAMILY) (number (C.Address.bits address))).1 (C.Address.bits address)) }
     ensures { IsTrue result }
 {
-    one_answer::<C>(database, address, other);
+    one_answer();
+    C::to_number(address);
+    C::to_number(other);
     let answer = lookup::<C>(database, address);
     lookup::<C>(database, other).found == answer.found
 }
