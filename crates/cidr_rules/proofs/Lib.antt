@@ -2,6 +2,7 @@ pub mod Boxes
 pub mod Cells
 pub mod Cuts
 pub mod Deciding
+pub mod Endpoints
 pub mod Holes
 pub mod Pairs
 pub mod Needless

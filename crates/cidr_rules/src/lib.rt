@@ -1,6 +1,7 @@
 //! Access lists of five fields, proved: which packets they permit, which of their rules decide nothing, and how two differ.
 #![tactic(auto)]
 
+mod addresses;
 mod differences;
 mod errors;
 mod fields;
@@ -10,6 +11,7 @@ mod rules;
 mod search;
 mod shadows;
 
+pub use addresses::Endpoint;
 pub use differences::differing_packet;
 pub use errors::RulesError;
 pub use fields::{FieldValue, Range};
