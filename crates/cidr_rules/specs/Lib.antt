@@ -2,6 +2,7 @@
 -- each other.
 pub mod Packets
 pub mod Lists
+pub mod Entries
 pub mod Messages
 pub mod Regions
 pub mod Parts

@@ -3,6 +3,7 @@
 
 mod addresses;
 mod differences;
+mod entries;
 mod errors;
 mod fields;
 mod parts;
@@ -13,6 +14,7 @@ mod shadows;
 
 pub use addresses::Endpoint;
 pub use differences::differing_packet;
+pub use entries::{Entry, Traffic, Transport};
 pub use errors::RulesError;
 pub use fields::{FieldValue, Range};
 pub use regions::{Packet, Region};
