@@ -53,12 +53,15 @@ one_point f u t l p lf lt next = elim (cases_lt f p) [
 cuts_all : (points : List ℕ) (f u t l : ℕ) → f < t → t ≤ l → u + 1 ≡ t
     → cuts points f u + cuts points t l + equal_to points t ≤ cuts points f l
 cuts_all [] f u t l lf lt next = omega arith
-cuts_all (p ∷ points) f u t l lf lt next = omega (arith,
-    sum_by-cons (λ q. cond {A = ℕ} (nat_lt f q && nat_le q u) 1 0) p points,
-    sum_by-cons (λ q. cond {A = ℕ} (nat_lt t q && nat_le q l) 1 0) p points,
-    sum_by-cons (λ q. cond {A = ℕ} (nat_eq q t) 1 0) p points,
-    sum_by-cons (λ q. cond {A = ℕ} (nat_lt f q && nat_le q l) 1 0) p points,
-    one_point f u t l p lf lt next, cuts_all points f u t l lf lt next)
+cuts_all (p ∷ points) f u t l lf lt next = omega (
+  arith,
+  sum_by-cons (λ q. cond {A = ℕ} (nat_lt f q && nat_le q u) 1 0) p points,
+  sum_by-cons (λ q. cond {A = ℕ} (nat_lt t q && nat_le q l) 1 0) p points,
+  sum_by-cons (λ q. cond {A = ℕ} (nat_eq q t) 1 0) p points,
+  sum_by-cons (λ q. cond {A = ℕ} (nat_lt f q && nat_le q l) 1 0) p points,
+  one_point f u t l p lf lt next,
+  cuts_all points f u t l lf lt next,
+)
 
 equal_some : (points : List ℕ) (t : ℕ) → Contains points t → 1 ≤ equal_to points t
 equal_some points t (k, lt, is) =
@@ -97,28 +100,36 @@ module _ (points : List ℕ) (r s : Range ℕ) (low : s.first ≤ r.last) (high 
   pub beside : part_of points (below_of r s) + part_of points (above_of r s) + ranges_between points (common_of r s) ≤ ranges_between points r
   beside = elim (cases_lt r.first s.first) [
     | inl before ↦ elim (cases_lt s.last r.last) [
-      | inl behind ↦ omega (arith,
-          part_yes points (nat_lt r.first s.first) (record { first = r.first; last = s.first - 1 }) (lt-ltb _ _ before),
-          part_yes points (nat_lt s.last r.last) (record { first = s.last + 1; last = r.last }) (lt-ltb _ _ behind),
-          common_cuts s.first s.last (omega arith) (omega arith),
-          cuts_split points r.first (s.first - 1) s.first r.last before low (omega arith) starts,
-          cuts_split points s.first s.last (s.last + 1) r.last (omega arith) (omega arith) refl ends)
-      | inr upto ↦ omega (arith,
-          part_yes points (nat_lt r.first s.first) (record { first = r.first; last = s.first - 1 }) (lt-ltb _ _ before),
-          part_no points (nat_lt s.last r.last) (record { first = s.last + 1; last = r.last }) (le-ltb _ _ upto),
-          common_cuts s.first r.last (omega arith) (omega arith),
-          cuts_split points r.first (s.first - 1) s.first r.last before low (omega arith) starts)
+      | inl behind ↦ omega (
+        arith,
+        part_yes points (nat_lt r.first s.first) (record { first = r.first; last = s.first - 1 }) (lt-ltb _ _ before),
+        part_yes points (nat_lt s.last r.last) (record { first = s.last + 1; last = r.last }) (lt-ltb _ _ behind),
+        common_cuts s.first s.last (omega arith) (omega arith),
+        cuts_split points r.first (s.first - 1) s.first r.last before low (omega arith) starts,
+        cuts_split points s.first s.last (s.last + 1) r.last (omega arith) (omega arith) refl ends,
+      )
+      | inr upto ↦ omega (
+        arith,
+        part_yes points (nat_lt r.first s.first) (record { first = r.first; last = s.first - 1 }) (lt-ltb _ _ before),
+        part_no points (nat_lt s.last r.last) (record { first = s.last + 1; last = r.last }) (le-ltb _ _ upto),
+        common_cuts s.first r.last (omega arith) (omega arith),
+        cuts_split points r.first (s.first - 1) s.first r.last before low (omega arith) starts,
+      )
     ]
     | inr none ↦ elim (cases_lt s.last r.last) [
-      | inl behind ↦ omega (arith,
-          part_no points (nat_lt r.first s.first) (record { first = r.first; last = s.first - 1 }) (le-ltb _ _ none),
-          part_yes points (nat_lt s.last r.last) (record { first = s.last + 1; last = r.last }) (lt-ltb _ _ behind),
-          common_cuts r.first s.last (omega arith) (omega arith),
-          cuts_split points r.first s.last (s.last + 1) r.last (omega arith) (omega arith) refl ends)
-      | inr upto ↦ omega (arith,
-          part_no points (nat_lt r.first s.first) (record { first = r.first; last = s.first - 1 }) (le-ltb _ _ none),
-          part_no points (nat_lt s.last r.last) (record { first = s.last + 1; last = r.last }) (le-ltb _ _ upto),
-          common_cuts r.first r.last (omega arith) (omega arith))
+      | inl behind ↦ omega (
+        arith,
+        part_no points (nat_lt r.first s.first) (record { first = r.first; last = s.first - 1 }) (le-ltb _ _ none),
+        part_yes points (nat_lt s.last r.last) (record { first = s.last + 1; last = r.last }) (lt-ltb _ _ behind),
+        common_cuts r.first s.last (omega arith) (omega arith),
+        cuts_split points r.first s.last (s.last + 1) r.last (omega arith) (omega arith) refl ends,
+      )
+      | inr upto ↦ omega (
+        arith,
+        part_no points (nat_lt r.first s.first) (record { first = r.first; last = s.first - 1 }) (le-ltb _ _ none),
+        part_no points (nat_lt s.last r.last) (record { first = s.last + 1; last = r.last }) (le-ltb _ _ upto),
+        common_cuts r.first r.last (omega arith) (omega arith),
+      )
     ]
   ]
 
@@ -173,14 +184,22 @@ module _ (holes : List (List (Range ℕ))) where
   cut_cells (q ∷ rs) from zero k b a m lt e h =
       let same : k ≡ from = omega arith in
       let there = rw same at h in
-      omega (arith, here q rs from b, here q rs from a,
-      spread_right (part_of (edges holes from) b) (part_of (edges holes from) a) (ranges_between (edges holes from) m)
-      (ranges_between (edges holes from) q) (cells holes (from + 1) rs) there)
+      omega (
+        arith,
+        here q rs from b,
+        here q rs from a,
+        spread_right (part_of (edges holes from) b) (part_of (edges holes from) a) (ranges_between (edges holes from) m)
+            (ranges_between (edges holes from) q) (cells holes (from + 1) rs) there,
+      )
   cut_cells (q ∷ rs) from (suc d) k b a m lt e h =
       let rest = cut_cells rs (from + 1) d k b a m (omega (arith, lt)) (omega (arith, e)) h in
-      omega (arith, later q rs from d b, later q rs from d a,
-      spread_left (ranges_between (edges holes from) q) (piece_cells holes (from + 1) rs d b) (piece_cells holes (from + 1) rs d a)
-      (cells holes (from + 1) (set rs d m)) (cells holes (from + 1) rs) rest)
+      omega (
+        arith,
+        later q rs from d b,
+        later q rs from d a,
+        spread_left (ranges_between (edges holes from) q) (piece_cells holes (from + 1) rs d b) (piece_cells holes (from + 1) rs d a)
+            (cells holes (from + 1) (set rs d m)) (cells holes (from + 1) rs) rest,
+      )
 
   pub cells_some : (from : ℕ) (rs : List (Range ℕ)) → 1 ≤ cells holes from rs
   unfolding cells

@@ -170,19 +170,25 @@ module _ (d : ℕ) (rs left hole rest : List (Range ℕ)) (old new more : List (
         within = rw (t.left, take_more_set left d m ll, take_more hole d (record { first = 0; last = 0 }) ls)
             (within_push (take d left) (take d hole) m s h.within (omega arith) (omega arith));
         long = ap length t.left ∙ length-set left d m ∙ h.long;
-        counts = λ x. rw (t.left, t.boxes) (omega (arith, h.counts x,
-            held-append x (new ++ piece left d (below_of q s)) (piece left d (above_of q s)),
-            held-append x new (piece left d (below_of q s)),
-            held_piece x left d (nat_lt q.first s.first) below,
-            held_piece x left d (nat_lt s.last q.last) above,
-            three_parts below above m (nat_lt q.first s.first) (nat_lt s.last q.last) left d ll (λ n. three_between q s n lo hi fs) x));
-        fewer = λ holes has. rw (t.left, t.boxes) (omega (arith, h.fewer holes has,
-            cells-append holes (new ++ piece left d (below_of q s)) (piece left d (above_of q s)),
-            cells-append holes new (piece left d (below_of q s)),
-            piece_sum holes left d (below_of q s),
-            piece_sum holes left d (above_of q s),
-            cut_cells holes left 0 d d (below_of q s) (above_of q s) m ll (omega arith)
-            (beside (edges holes d) q s lo hi fs (edges_start holes hole d has) (edges_end holes hole d has))));
+        counts = λ x. rw (t.left, t.boxes) (omega (
+          arith,
+          h.counts x,
+          held-append x (new ++ piece left d (below_of q s)) (piece left d (above_of q s)),
+          held-append x new (piece left d (below_of q s)),
+          held_piece x left d (nat_lt q.first s.first) below,
+          held_piece x left d (nat_lt s.last q.last) above,
+          three_parts below above m (nat_lt q.first s.first) (nat_lt s.last q.last) left d ll (λ n. three_between q s n lo hi fs) x,
+        ));
+        fewer = λ holes has. rw (t.left, t.boxes) (omega (
+          arith,
+          h.fewer holes has,
+          cells-append holes (new ++ piece left d (below_of q s)) (piece left d (above_of q s)),
+          cells-append holes new (piece left d (below_of q s)),
+          piece_sum holes left d (below_of q s),
+          piece_sum holes left d (above_of q s),
+          cut_cells holes left 0 d d (below_of q s) (above_of q s) m ll (omega arith)
+              (beside (edges holes d) q s lo hi fs (edges_start holes hole d has) (edges_end holes hole d has)),
+        ));
       }
 
 pub cut_end : (d : ℕ) (rs left hole : List (Range ℕ)) (old new : List (List (Range ℕ))) → length rs ≤ d → length hole ≤ d

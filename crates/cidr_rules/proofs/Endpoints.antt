@@ -84,16 +84,23 @@ module _ {C V : Type 0} (w : ℕ) (network_bits : C → List Bool) (value : V �
       ↔ (BeginsWith s (network_bits entry.source) × BeginsWith d (network_bits entry.destination) × IsOfTraffic entry.traffic p from to)
   packets s d p from to ls ld lp lf lt =
       let f = five (range_of value rule.region.source) (range_of value rule.region.destination) rule.region.protocol rule.region.source_port rule.region.destination_port
-          (number s) (number d) p from to in
+      (number s) (number d) p from to in
       let t = traffic_in entry.traffic p from to lp lf lt in (
         λ i.
-            let k = f.0 i in
-            ((source s ls).0 k.0, (target d ld).0 k.1,
-            t.0 (ap (λ r. is_between r p) (sym ep) ∙ k.2, ap (λ r. is_between r from) (sym es) ∙ k.3, ap (λ r. is_between r to) (sym et) ∙ k.4)),
+            let k = f.0 i in (
+              (source s ls).0 k.0,
+              (target d ld).0 k.1,
+              t.0 (ap (λ r. is_between r p) (sym ep) ∙ k.2, ap (λ r. is_between r from) (sym es) ∙ k.3, ap (λ r. is_between r to) (sym et) ∙ k.4),
+            ),
         λ k.
             let m = t.1 k.2 in
-            f.1 ((source s ls).1 k.0, (target d ld).1 k.1,
-            ap (λ r. is_between r p) ep ∙ m.0, ap (λ r. is_between r from) es ∙ m.1, ap (λ r. is_between r to) et ∙ m.2),
+            f.1 (
+              (source s ls).1 k.0,
+              (target d ld).1 k.1,
+              ap (λ r. is_between r p) ep ∙ m.0,
+              ap (λ r. is_between r from) es ∙ m.1,
+              ap (λ r. is_between r to) et ∙ m.2,
+            ),
       )
 
   pub is_rule : IsRuleOf w network_bits value entry rule

@@ -96,8 +96,8 @@ module _ {A : Type 0} (number : A → ℕ) where
       pub pair_found : differ (permits_at rules i) (permits_at others j) ≡ true → (found : Option (Packet A))
           → MatchOption found ((x : List ℕ) → ¬ (IsFree number rs (take i rules) (take j others) x)) (λ p. IsFree number rs (take i rules) (take j others) (fields_of number p))
           → MatchOption found
-              ((x : List ℕ) → stops_at number rules i x ≡ true → stops_at number others j x ≡ true → is_permitted number rules x ≡ is_permitted number others x)
-              (λ p. is_permitted number rules (fields_of number p) ≢ is_permitted number others (fields_of number p))
+          ((x : List ℕ) → stops_at number rules i x ≡ true → stops_at number others j x ≡ true → is_permitted number rules x ≡ is_permitted number others x)
+          (λ p. is_permitted number rules (fields_of number p) ≢ is_permitted number others (fields_of number p))
       pair_found e None none = pair_empty none
       pair_found e (Some p) free = pair_some e (fields_of number p) free
 

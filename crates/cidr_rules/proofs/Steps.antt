@@ -57,7 +57,7 @@ module _ {A : Type 0} (number : A → ℕ) (rs : List (Range ℕ)) (holes : List
         | inr f ↦ let k : None ≡ Some i = rw f at e in absurd (cc k)
       ] in
       let same : position_or_len (λ h. meet rs (ranges_of number h)) holes ≡ i =
-          let k : Some (position_or_len (λ h. meet rs (ranges_of number h)) holes) ≡ Some i = rw (lt-ltb _ _ lt) at e in cc k in
+      let k : Some (position_or_len (λ h. meet rs (ranges_of number h)) holes) ≡ Some i = rw (lt-ltb _ _ lt) at e in cc k in
       let there : i < length holes = omega (arith, lt, same) in (
         omega (arith, there, length-map holes (ranges_of number)),
         λ d.

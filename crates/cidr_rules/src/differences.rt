@@ -79,8 +79,7 @@ pub(crate) fn packet_of_rule<A: FieldValue>(
 /// packets. Which rules decide it, [`decides`](crate::decides) tells.
 ///
 /// For each two rules of different actions it looks at parts of what both have, and cuts them by the earlier rules of both lists
-/// that meet them. Of n and m rules these are at most (n + 1) (m + 1) (2n + 2m + 1)^5 parts, and where one list is an edit of the
-/// other mostly some hundred. Where it has looked at `limit` parts and more are left, it returns `TooManyParts`. It keeps the
+/// that meet them. Of n and m rules these are at most (n + 1) (m + 1) (2n + 2m + 1)^5 parts. Where it has looked at `limit` parts and more are left, it returns `TooManyParts`. It keeps the
 /// regions of n + m rules, and 10 parts for each that was looked at.
 pub fn differing_packet<A: FieldValue>(
     alloc: Global,

@@ -36,7 +36,7 @@ fn is_shadowed<A: FieldValue>(
 /// rule, or it has none.
 ///
 /// For each rule it looks at parts of its region, and cuts them by the earlier rules that meet them: of n rules at most
-/// n (2n + 1)^5 parts, and of real lists mostly one or two a rule, each beside n rules. Where it has looked at `limit` parts and
+/// n (2n + 1)^5 parts, each beside n rules. Where it has looked at `limit` parts and
 /// more are left, it returns `TooManyParts`. Beside the answer it keeps the regions of n rules, and 10 parts for each that was
 /// looked at.
 pub fn shadowed<A: FieldValue>(
@@ -146,10 +146,7 @@ fn put_back<A: FieldValue>(rest: &mut Vec<Rule<A>>, rules: &[Rule<A>], i: usize)
 }
 
 /// The rules behind the first.
-fn behind_first<A: FieldValue>(
-    alloc: Global,
-    rules: &[Rule<A>],
-) -> Result<Vec<Rule<A>>, AllocError>
+fn behind_first<A: FieldValue>(alloc: Global, rules: &[Rule<A>]) -> Result<Vec<Rule<A>>, AllocError>
     ensures { IfOk result (λ rest. rest.items ≡ drop 1 rules.now) }
 {
     let mut rest = Vec::new(alloc);

@@ -10,8 +10,12 @@ loop-i-preserved g c =
     let same = rw c.in-None.is at c.in_ok-found.ensures.found in
     record {
       same = same_more g.A.FieldValue.number (λ _. true) c.args.rules.now c.args.others.now c.args.rules.now c.loop-i.i c.loop-i.invariant.same (λ x _ stops. same x stops);
-      spent = omega (arith, row_more c.loop-i.i ((length c.args.others.now + 1) * most_parts (length c.args.rules.now + length c.args.others.now)),
-          c.in_ok-found.ensures.spent, c.loop-i.invariant.spent);
+      spent = omega (
+        arith,
+        row_more c.loop-i.i ((length c.args.others.now + 1) * most_parts (length c.args.rules.now + length c.args.others.now)),
+        c.in_ok-found.ensures.spent,
+        c.loop-i.invariant.spent,
+      );
     }
 
 pub returns-in_err-found-clause-limit : goal.returns-in_err-found-clause-limit

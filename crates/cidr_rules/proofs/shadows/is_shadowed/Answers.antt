@@ -9,8 +9,7 @@ use Rattle.cidr_rules.proofs.shadows.is_shadowed.Goals as goal
 pub returns-in-Some-clause-answer : goal.returns-in-Some-clause-answer
 returns-in-Some-clause-answer g c =
     let r = get_or c.args.rules.now c.args.i c.index-rules-i.result in
-    let free = rw (c.first_rules-earlier.ensures, c.first_rules-none.ensures) at (rw c.in-Some.is at c.in_ok-packet.ensures.found) in
-    (
+    let free = rw (c.first_rules-earlier.ensures, c.first_rules-none.ensures) at (rw c.in-Some.is at c.in_ok-packet.ensures.found) in (
       fields_of g.A.FieldValue.number c.in-Some.field-0,
       used_at g.A.FieldValue.number c.args.rules.now c.args.i r c.requires (get_or_default c.args.rules.now c.args.i c.index-rules-i.result r c.requires)
           (fields_of g.A.FieldValue.number c.in-Some.field-0) free,
