@@ -28,6 +28,7 @@ HEADS = {
     "cidr_routes": ["use cidr::Ipv4Cidr;", "use cidr_routes::{lists::*, *};", "use cidr_sets::access::Action;",
                     "use cidr_support::{alloc::Global, vec::Vec};"],
     "cidr_mmdb": ["use cidr::Ipv4Cidr;", "use cidr_mmdb::*;", "use cidr_support::alloc::Global;"],
+    "cidr_rules": ["use cidr::*;", "use cidr_rules::*;"],
     "cidr_files": ["use cidr_files::*;", "use cidr_lookup::{Address, Key};", "use cidr_support::{alloc::Global, vec::Vec};",
                    "use core::net::{Ipv4Addr, Ipv6Addr};",
                    "fn name<'a>(table: &FileTables<'a>, address: Ipv4Addr) -> Option<&'a str> {",
