@@ -46,7 +46,7 @@ ROUTES = ('let rows = [("0.0.0.0/0".parse()?, 1), ("10.0.0.0/8".parse()?, 2), ("
 PAYLOADS = ('let payloads = [("192.0.2.0/24", 24, 64496), ("192.0.0.0/16", 16, 64497)];\n'
             "let payloads = payloads.map(|(n, max_length, origin)| Payload { network: n.parse::<Ipv4Cidr>().unwrap(), max_length, origin });\n"
             "let payloads = Vec::from_slice(Global, &payloads)?;")
-PREFIXES = ('let rows = [(Action::Deny, "10.2.0.0/16", 16, 32), (Action::Permit, "10.0.0.0/8", 16, 24)];\n'
+PREFIXES = ('let rows = [(Action::Deny, "10.2.0.0/16", 16, 32), (Action::Permit, "10.0.0.0/8", 16, 24), (Action::Deny, "10.3.0.0/16", 20, 24)];\n'
             "let rows = rows.map(|(action, n, low, high)| Row { action, network: n.parse::<Ipv4Cidr>().unwrap(), low, high });")
 # A MaxMind DB file of one node: the lower half of IPv4 has a country.
 MMDB = r"""let mut bytes = b"\x00\x00\x11\x00\x00\x01".to_vec();

@@ -110,6 +110,20 @@ def compare(what, who, questions, theirs, ours):
 
 
 def compare_lists(program, version, who, lists, asked, theirs):
-    """The same of what lists permit."""
+    """The same of what lists permit: by their rows, without the rows that are told to decide nothing, and by the rows of what
+    is permitted."""
+    given = row_lines(lists)
     questions = [f"permits {name} {net}" for name, net in asked]
-    return compare(f"lists of IPv{version}", who, asked, theirs, ask_crate(program, version, row_lines(lists) + questions))
+    wrong = compare(f"lists of IPv{version}", who, asked, theirs, ask_crate(program, version, given + questions))
+    left = {name: [rows[i] for i in range(len(rows)) if i not in told] for (name, rows), told in zip(lists.items(), shadowed(program, version, lists))}
+    count = len(given) - len(row_lines(left))
+    ours = ask_crate(program, version, row_lines(left) + questions)
+    wrong += compare(f"the same without {count} of {len(given)} rows, which decide nothing", who, asked, theirs, ours)
+    ours = ask_crate(program, version, given + [f"permitted {name}" for name in lists] + questions)
+    return wrong + compare("the same by the rows of what is permitted", who, asked, theirs, ours[len(lists):])
+
+
+def shadowed(program, version, lists):
+    """The indices of the rows of each list that are told to decide nothing."""
+    told = ask_crate(program, version, row_lines(lists) + [f"shadowed {name}" for name in lists])
+    return [{int(it) for it in line.split()} for line in told]

@@ -20,7 +20,7 @@ use Rattle.cidr_routes.specs.declared.lists.Row.{Row}
 use Rattle.cidr_routes.specs.Lengths.{IsOfLength, has_length, rules_of}
 use Rattle.cidr_routes.specs.PrefixLists.{Matches, IsPermitted, IsMore}
 
-true_or : (b : Bool) → (b ≡ true) ⊎ (b ≡ false)
+pub true_or : (b : Bool) → (b ≡ true) ⊎ (b ≡ false)
 true_or true = inl refl
 true_or false = inr refl
 
@@ -44,7 +44,7 @@ covers_or (p ∷ ps) a = elim (begins_or a p) [
 ]
 
 -- the first bits of an address, and an address with these first bits
-length_first : (a : List Bool) (len : ℕ) → length a ≡ 129 → len ≤ 129 → length (take len a) ≡ len
+pub length_first : (a : List Bool) (len : ℕ) → length a ≡ 129 → len ≤ 129 → length (take len a) ≡ len
 length_first a len la le = let e = length-take len a in omega (arith, e, la, le)
 
 abbrev pub longer : List Bool → List Bool
@@ -56,7 +56,7 @@ longer_length p le = let e = length-append p (zeros (129 - length p)) in let z =
 pub longer_first : (p : List Bool) → take (length p) (longer p) ≡ p
 longer_first p = take-append-le (length p) p (zeros (129 - length p)) (omega arith) ∙ take_all (length p) p (omega arith)
 
-first_bits : (a q : List Bool) (len : ℕ) → BeginsWith a q → len ≤ length q → take len a ≡ take len q
+pub first_bits : (a q : List Bool) (len : ℕ) → BeginsWith a q → len ≤ length q → take len a ≡ take len q
 first_bits a q len b le = sym (take-take len (length q) a le) ∙ ap (take len) b
 
 module _ {C : Type 0} (bits : C → List Bool) where
@@ -140,13 +140,13 @@ module _ {C : Type 0} (bits : C → List Bool) where
   AreAllowed rules a = access.IsPermitted (map (λ r. bits r.network) rules) (map (λ r. r.action) rules) a
 
   module _ (len : ℕ) (fits : len ≤ 129) (a : List Bool) (la : length a ≡ 129) where
-    matches_where : (row : Row C) → IsOfLength bits len row → Matches bits row (take len a) ↔ BeginsWith a (bits row.network)
+    pub matches_where : (row : Row C) → IsOfLength bits len row → Matches bits row (take len a) ↔ BeginsWith a (bits row.network)
     matches_where row about =
         let l = length_first a len la fits in
         let b = begins_short a (bits row.network) len about.0 in
         (λ m. b.0 m.0, λ begins. (b.1 begins, omega (arith, about.1, l), omega (arith, about.2, l)))
 
-    passes : (row : Row C) → ¬ (IsOfLength bits len row) → ¬ (Matches bits row (take len a))
+    pub passes : (row : Row C) → ¬ (IsOfLength bits len row) → ¬ (Matches bits row (take len a))
     passes row n m =
         let l = length_first a len la fits in
         let b = begins_length (take len a) (bits row.network) m.0 in

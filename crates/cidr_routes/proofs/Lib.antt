@@ -3,3 +3,5 @@ pub mod Answering
 pub mod Sorting
 pub mod Ends
 pub mod Lengths
+pub mod DecidingRows
+pub mod PermitRows

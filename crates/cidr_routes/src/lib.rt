@@ -5,10 +5,12 @@
 #![tactic(auto)]
 
 mod covering;
+mod joined;
 pub mod laws;
 mod links;
 pub mod lists;
 mod origins;
+mod shadows;
 
 pub use covering::Covering;
 pub use origins::{Payload, Payloads, Validity};

@@ -5,9 +5,11 @@ ghost use Rattle.cidr.specs.model.Network.{width_of};
 ghost use Rattle.cidr_sets.specs.model.Sets.{IsSetOf, IsDifference};
 ghost use Rattle.cidr_sets.specs.declared.access.Action.TheVariants.{Permit};
 ghost use Rattle.cidr_routes.specs.declared.lists.Row.{Row};
-ghost use Rattle.cidr_routes.specs.Lengths.{IsOfLength, rules_of};
+ghost use Rattle.cidr_routes.specs.Lengths.{IsOfLength, has_length, rules_of};
 ghost use Rattle.cidr_routes.specs.PrefixLists.{Matches, IsPermitted, PermitSame, IsOneSided};
 
+pub use crate::joined::permitted;
+pub use crate::shadows::shadowed;
 use cidr::{FamilyCidr, NetworkBits};
 use cidr_sets::access::{self, Action, Rule};
 use cidr_sets::{NetworkSet, is_inside};
@@ -64,14 +66,14 @@ fn row_matches<C: FamilyCidr>(row: &Row<C>, network: &C) -> bool
 }
 
 /// Whether a row is about networks of this length.
-fn has_length<C: FamilyCidr>(row: &Row<C>, len: u8) -> bool
+pub(crate) fn has_length<C: FamilyCidr>(row: &Row<C>, len: u8) -> bool
     ensures { Decides result (IsOfLength C.bits len row.now) }
 {
     row.network.network_length() <= len && row.low <= len && len <= row.high
 }
 
 /// The rows about networks of this length, as rules about their addresses.
-fn rules_of_length<C: FamilyCidr>(
+pub(crate) fn rules_of_length<C: FamilyCidr>(
     alloc: Global,
     rows: &[Row<C>],
     len: u8,
@@ -91,7 +93,7 @@ fn rules_of_length<C: FamilyCidr>(
 }
 
 /// The networks of one length that a prefix list permits, as the set of their addresses.
-fn permitted_of_length<C: FamilyCidr>(
+pub(crate) fn permitted_of_length<C: FamilyCidr>(
     alloc: Global,
     rows: &[Row<C>],
     len: u8,
@@ -105,9 +107,10 @@ fn permitted_of_length<C: FamilyCidr>(
 }
 
 /// Whether a row is about networks of this length and not of one bit less, or the other way round.
-fn is_changed<C: FamilyCidr>(rows: &[Row<C>], len: u8) -> bool
+pub(crate) fn is_changed<C: FamilyCidr>(rows: &[Row<C>], len: u8) -> bool
     ensures some { result ≡ false → 0 < len }
     ensures same { result ≡ false → rules_of C.bits len rows.now ≡ rules_of C.bits (len - 1) rows.now }
+    ensures each { result ≡ false → (row : Row C) → Contains rows.now row → has_length C.bits len row ≡ has_length C.bits (len - 1) row }
 {
     if len == 0 {
         return true;
@@ -170,7 +173,7 @@ pub fn difference<C: FamilyCidr>(
 }
 
 /// The full prefix length.
-fn full_length<C: FamilyCidr>() -> u8
+pub(crate) fn full_length<C: FamilyCidr>() -> u8
     ensures value { result ≡ width_of C.FAMILY }
     ensures fits { result ≤ 128 }
 {

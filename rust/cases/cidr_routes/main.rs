@@ -2,7 +2,7 @@
 
 use cidr::{Ipv4Cidr, Ipv6Cidr};
 use cidr_lookup::Keyed;
-use cidr_routes::lists::{difference, permits, Row};
+use cidr_routes::lists::{difference, permits, permitted, shadowed, Row};
 use cidr_routes::{Payload, Payloads, Validity};
 use cidr_sets::access::Action;
 use cidr_support::alloc::Global;
@@ -107,4 +107,31 @@ fn lists_that_are_written_otherwise_permit_the_same() {
     assert!(difference(Global, &whole, &halves).unwrap().is_none());
     let found = difference(Global, &whole, &halves[..2]).unwrap().unwrap();
     assert_eq!((found.network.to_string(), found.len, found.by_first), ("10.0.0.0/9".to_string(), 21, true));
+}
+
+#[test]
+fn rows_that_several_earlier_ones_cover_decide_nothing() {
+    let rows = [
+        row(Action::Permit, "10.0.0.0/9", 16, 24),
+        row(Action::Deny, "10.128.0.0/9", 16, 20),
+        row(Action::Permit, "10.128.0.0/9", 18, 24),
+        row(Action::Deny, "10.0.0.0/8", 16, 24),
+        row(Action::Deny, "10.0.0.0/8", 16, 25),
+        row(Action::Permit, "192.0.2.0/24", 26, 25),
+    ];
+    assert_eq!(shadowed(Global, &rows).unwrap().as_slice(), [3, 5]);
+}
+
+#[test]
+fn what_is_permitted_has_lengths_joined() {
+    let rows = [
+        row(Action::Deny, "10.2.0.0/16", 24, 32),
+        row(Action::Permit, "10.2.0.0/15", 15, 23),
+        row(Action::Permit, "10.2.0.0/16", 16, 32),
+        row(Action::Permit, "10.3.0.0/16", 24, 28),
+    ];
+    let found = permitted(Global, &rows).unwrap();
+    let found: Vec<_> = found.as_slice().iter().map(|it| (it.network.to_string(), it.low, it.high)).collect();
+    assert_eq!(found, [("10.2.0.0/15".to_string(), 15, 23), ("10.3.0.0/16".to_string(), 24, 28)]);
+    assert!(permitted(Global, &rows[..1]).unwrap().is_empty());
 }

@@ -4,13 +4,15 @@
 //!     row LIST permit|deny NETWORK LOW HIGH        a row of a prefix list, by the name of the list
 //!     validity NETWORK AS        prints valid, invalid or unknown; AS is - for a path that ends in a set
 //!     permits LIST NETWORK        prints true or false
+//!     shadowed LIST        prints the indices of the rows that decide nothing
+//!     permitted LIST        prints how many rows are permitted, and makes these the list
 //!     same LIST LIST        prints same, or a network, a length and first or second
 //!
 //! The payloads stand before the first question about them.
 
 use cidr::{Ipv4Cidr, Ipv6Cidr};
 use cidr_lookup::Keyed;
-use cidr_routes::lists::{difference, permits, Row};
+use cidr_routes::lists::{difference, permits, permitted, shadowed, Row};
 use cidr_routes::{Payload, Payloads, Validity};
 use cidr_sets::access::Action;
 use cidr_support::alloc::Global;
@@ -70,6 +72,16 @@ where
                 writeln!(out, "{text}").unwrap();
             }
             ["permits", list, network] => writeln!(out, "{}", permits(&lists[list], &number(network))).unwrap(),
+            ["shadowed", list] => {
+                let indices = shadowed(Global, &lists[list]).unwrap();
+                let texts: Vec<String> = indices.as_slice().iter().map(usize::to_string).collect();
+                writeln!(out, "{}", texts.join(" ")).unwrap();
+            }
+            ["permitted", list] => {
+                let rows = permitted(Global, &lists[list]).unwrap().as_slice().to_vec();
+                writeln!(out, "{}", rows.len()).unwrap();
+                lists.insert(list.to_string(), rows);
+            }
             ["same", one, other] => match difference(Global, &lists[one], &lists[other]).unwrap() {
                 None => writeln!(out, "same").unwrap(),
                 Some(it) => {

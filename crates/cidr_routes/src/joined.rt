@@ -1,0 +1,151 @@
+//! What a prefix list permits, as rows.
+ghost use Rattle.std.specs.Prelude.{◌≡◌, ◌<◌, ◌≤◌, ◌+◌, Contains, IfOk, List, OnOk, map, take};
+ghost use Rattle.std.specs.Bool.{Decides};
+ghost use Rattle.cidr.specs.model.Network.{width_of};
+ghost use Rattle.cidr_sets.specs.model.Sets.{IsSetOf};
+ghost use Rattle.cidr_routes.specs.Lengths.{AreBegun, AreContinued, AreSoFar, IsContinued, IsInOpen};
+ghost use Rattle.cidr_routes.specs.PrefixLists.{IsPermitRow, IsPermitted, PermitSame};
+ghost use Rattle.cidr_routes.specs.declared.lists.Row.{Row};
+
+use crate::lists::{Row, full_length, is_changed, permitted_of_length};
+use cidr::FamilyCidr;
+use cidr_sets::NetworkSet;
+use cidr_sets::access::Action;
+use std::alloc::{AllocError, Global};
+
+/// What a prefix list permits, as rows that all permit, so that their order plays no part: they ascend by their least prefix
+/// length, and those of one by their networks.
+///
+/// A network that is permitted at lengths that follow one another is one row, from the first of them to the last. Where the
+/// networks of a length are permitted that rows so far don't have, the longest networks around these are taken, whole. So it
+/// is a short list, but not always the shortest: rows may overlap, and a row may have a network only so that it begins later.
+///
+/// For each prefix length at which a row begins or ends it makes the set of what is permitted, as `access::permitted` does:
+/// O(n log n) for n rows each time. Where an allocation fails, it returns the error.
+///
+/// ```
+/// permitted(rt.alloc(), &rows[1..])?.len() // 1
+/// ```
+pub fn permitted<C: FamilyCidr>(alloc: Global, rows: &[Row<C>]) -> Result<Vec<Row<C>>, AllocError>
+    ensures same { IfOk result (λ out. PermitSame C.bits (width_of C.FAMILY) out.items rows.now) }
+    ensures rows { IfOk result (λ out. (row : Row C) → Contains out.items row → IsPermitRow C.bits (width_of C.FAMILY) row) }
+{
+    let full = full_length::<C>();
+    let mut out = Vec::new(alloc);
+    for len in 0..full + 1 {
+        out = rows_upto(alloc, rows, out, len)?;
+    }
+    Ok(out)
+}
+
+/// The rows of permitted networks so far, where the shorter lengths are done, and what is permitted of one length more.
+fn rows_upto<C: FamilyCidr>(
+    alloc: Global,
+    rows: &[Row<C>],
+    before: Vec<Row<C>>,
+    len: u8,
+) -> Result<Vec<Row<C>>, AllocError>
+    requires within { len ≤ width_of C.FAMILY }
+    requires done { AreSoFar C.bits (width_of C.FAMILY) rows.now len before.items }
+    ensures { IfOk result (λ out. AreSoFar C.bits (width_of C.FAMILY) rows.now (len + 1) out.items) }
+{
+    if !is_changed(rows, len) {
+        return Ok(before);
+    }
+    let set = permitted_of_length(alloc, rows, len)?;
+    next_rows(alloc, before.as_slice(), &set, len)
+}
+
+/// The same, by the set of what is permitted of the length.
+fn next_rows<C: FamilyCidr>(
+    alloc: Global,
+    before: &[Row<C>],
+    set: &NetworkSet<C>,
+    len: u8,
+) -> Result<Vec<Row<C>>, AllocError>
+    requires within { len ≤ width_of C.FAMILY }
+    requires low { (row : Row C) → Contains before.now row → row.low < len }
+    ensures { IfOk result (λ out. (rows : List (Row C)) → IsSetOf 129 (λ a. IsPermitted C.bits rows (take len a)) (map C.bits set.now)
+        → AreSoFar C.bits (width_of C.FAMILY) rows len before.now → AreSoFar C.bits (width_of C.FAMILY) rows (len + 1) out.items) }
+{
+    let mut out = continued_rows(alloc, before, set, len)?;
+    let cover = open_networks(alloc, out.as_slice())?;
+    begin_rows(&mut out, &cover, set.as_slice(), len)?;
+    Ok(out)
+}
+
+/// The rows so far, of which those end before this length that have a network of it that isn't permitted.
+fn continued_rows<C: FamilyCidr>(
+    alloc: Global,
+    before: &[Row<C>],
+    set: &NetworkSet<C>,
+    len: u8,
+) -> Result<Vec<Row<C>>, AllocError>
+    requires { (row : Row C) → Contains before.now row → row.low < len }
+    ensures { IfOk result (λ out. AreContinued C.bits (width_of C.FAMILY) (map C.bits set.now) len before.now out.items) }
+{
+    let mut out = Vec::with_capacity(alloc, before.len())?;
+    for row in before {
+        out.push(continued(row, set, len))?;
+    }
+    Ok(out)
+}
+
+/// The addresses of the rows that have not ended.
+fn open_networks<C: FamilyCidr>(alloc: Global, rows: &[Row<C>]) -> Result<NetworkSet<C>, AllocError>
+    ensures { IfOk result (λ cover. IsSetOf 129 (IsInOpen C.bits (width_of C.FAMILY) rows.now) (map C.bits cover)) }
+{
+    let mut networks = Vec::new(alloc);
+    for row in rows {
+        if is_open(row) {
+            networks.push(row.network)?;
+        }
+    }
+    Ok(NetworkSet::from_vec(networks))
+}
+
+/// Whether a row has not ended.
+fn is_open<C: FamilyCidr>(row: &Row<C>) -> bool
+    ensures { Decides result (row.now.high ≡ width_of C.FAMILY) }
+{
+    row.high == full_length::<C>()
+}
+
+/// Adds a row for each network that isn't covered, from this length on.
+fn begin_rows<C: FamilyCidr>(
+    out: &mut Vec<Row<C>>,
+    cover: &NetworkSet<C>,
+    networks: &[C],
+    len: u8,
+) -> Result<(), AllocError>
+    ensures { OnOk result (AreBegun C.bits (width_of C.FAMILY) len networks.now (map C.bits cover.now) out.old.items out.new.items) }
+{
+    let full = full_length::<C>();
+    for network in networks {
+        if !cover.contains(network) {
+            out.push(Row {
+                action: Action::Permit,
+                network: *network,
+                low: len,
+                high: full,
+            })?;
+        }
+    }
+    Ok(())
+}
+
+/// A row so far, which ends before this length where a network of it isn't permitted.
+fn continued<C: FamilyCidr>(row: &Row<C>, set: &NetworkSet<C>, len: u8) -> Row<C>
+    requires { row.now.low < len }
+    ensures { IsContinued C.bits (width_of C.FAMILY) (map C.bits set.now) len row.now result }
+{
+    if !is_open(row) || set.contains(&row.network) {
+        return *row;
+    }
+    Row {
+        action: row.action,
+        network: row.network,
+        low: row.low,
+        high: len - 1,
+    }
+}
