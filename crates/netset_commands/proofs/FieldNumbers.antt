@@ -1,5 +1,5 @@
 -- The places of fields by their numbers, as they are read and as they are typed.
-use Rattle.std.proofs.Common.{◌≡◌, ◌⊎◌, inl, inr, refl, sym, ◌∙◌, ap, ap₂, subst, arith, ℕ, zero, suc, ◌+◌, ◌-◌, ◌^◌, ◌<◌, ◌≤◌, nat_lt, cond, Bool, true, false, if◌then◌else◌, ◌&&◌, List, [], ◌∷◌, ◌++◌, length, length-append, drop, take, get_or, decimal, Option, Some, None, Ok, MatchOption}
+use Rattle.std.proofs.Common.{◌≡◌, ◌⊎◌, inl, inr, refl, sym, ◌∙◌, ap, ap₂, subst, arith, ℕ, zero, suc, ◌+◌, ◌^◌, ◌<◌, ◌≤◌, nat_lt, cond, Bool, true, false, if◌then◌else◌, ◌&&◌, List, [], ◌∷◌, ◌++◌, length, length-append, drop, take, get_or, decimal, Option, Some, None, option_and_then, Ok, MatchOption}
 use Rattle.std.specs.Char.{digit_value}
 use Rattle.std.specs.List.{after_first, before_first, list_all, position_or_len}
 use Rattle.std.specs.Str.Parse.{AllDigits, IsNumeral, digits_value, without_leading_plus}
@@ -10,7 +10,7 @@ use Rattle.std.proofs.lemmas.List.{drop_all, get_or_append_left}
 use Rattle.std.proofs.lemmas.List.Sums.{position_or_len_is}
 use Rattle.cidr_lists.specs.declared.columns.Separator.{Separator}
 use Rattle.cidr_lists.specs.declared.forms.RowLayout.TheVariants.{Columns}
-use Rattle.netset_commands.specs.Arguments.{columns_by, fields_by, is_comma, numbered, place_by}
+use Rattle.netset_commands.specs.Arguments.{before, columns_by, digits_below, fields_by, is_comma, number_below, place_by}
 use Rattle.netset_commands.specs.Picking.{IsFieldPlace}
 use Rattle.netset_commands.specs.Single.{IsNumber}
 use Rattle.netset_commands.specs.declared.commands.table.Verb.{Verb}
@@ -29,7 +29,7 @@ pass_digits [] all = tt
 pass_digits (c ∷ cs) all =
     (ltb-true (digit_value c) 10 (and_first (is_digit c) (list_all is_digit cs) all), pass_digits cs (and_second (is_digit c) (list_all is_digit cs) all))
 
-numeral_of : (ds : List ℕ) → 0 < digits_value 10 ds → AllDigits 10 ds → IsNumeral 10 ds
+numeral_of : (ds : List ℕ) → 0 < length ds → AllDigits 10 ds → IsNumeral 10 ds
 numeral_of [] some all = absurd (omega (arith, some))
 numeral_of (c ∷ cs) some all = (omega arith, all)
 
@@ -43,26 +43,47 @@ if_any true true false x y none = refl
 if_any true false c x y none = refl
 if_any false b c x y none = refl
 
-numbered_some : (ds : List ℕ) (place : ℕ) → IsNumeral 10 ds → place + 1 ≡ digits_value 10 ds → place + 1 < 2 ^ 64 → numbered ds ≡ Some place
-numbered_some ds place numeral value bound =
-    if_all (list_all is_digit ds) (nat_lt 0 (digits_value 10 ds)) (nat_lt (digits_value 10 ds) (2 ^ 64)) (Some (digits_value 10 ds - 1)) None
-    (digits_pass ds numeral.1) (lt-ltb 0 (digits_value 10 ds) (omega (arith, value))) (lt-ltb (digits_value 10 ds) (2 ^ 64) (omega (arith, value, bound)))
-    ∙ ap (λ (k : ℕ). Some k) {x = digits_value 10 ds - 1} {y = place} (omega (arith, value))
+below_some : (bound : ℕ) (ds : List ℕ) (n : ℕ) → IsNumeral 10 ds → n ≡ digits_value 10 ds → n < bound → digits_below bound ds ≡ Some n
+below_some bound ds n numeral value small =
+    if_all (nat_lt 0 (length ds)) (list_all is_digit ds) (nat_lt (digits_value 10 ds) bound) (Some (digits_value 10 ds)) None
+    (lt-ltb 0 (length ds) (omega (arith, numeral.0))) (digits_pass ds numeral.1) (lt-ltb (digits_value 10 ds) bound (omega (arith, value, small)))
+    ∙ ap (λ (k : ℕ). Some k) (sym value)
 
-numbered_none : (ds : List ℕ) → (IsNumeral 10 ds → (digits_value 10 ds ≡ 0) ⊎ (2 ^ 64 ≤ digits_value 10 ds)) → numbered ds ≡ None
-numbered_none ds none =
-    if_any (list_all is_digit ds) (nat_lt 0 (digits_value 10 ds)) (nat_lt (digits_value 10 ds) (2 ^ 64)) (Some (digits_value 10 ds - 1)) None
-    (λ all some small. let more = ltb-true 0 (digits_value 10 ds) some in
-    let less = ltb-true (digits_value 10 ds) (2 ^ 64) small in
-    outside more less (none (numeral_of ds more (pass_digits ds all))))
-  where
-    outside : 0 < digits_value 10 ds → digits_value 10 ds < 2 ^ 64 → (digits_value 10 ds ≡ 0) ⊎ (2 ^ 64 ≤ digits_value 10 ds) → ⊥
-    outside more less (inl nothing) = omega (arith, more, nothing)
-    outside more less (inr large) = omega (arith, less, large)
+pub number_some : (bound : ℕ) (text : List ℕ) (n : ℕ) → IsNumber text n → n < bound → number_below bound text ≡ Some n
+number_some bound text n (numeral, value) small = below_some bound (without_leading_plus text) n numeral value small
+
+pub number_none : (bound : ℕ) (text : List ℕ) → ((n : ℕ) → IsNumber text n → bound ≤ n) → number_below bound text ≡ None
+number_none bound text none =
+    let ds = without_leading_plus text in
+    if_any (nat_lt 0 (length ds)) (list_all is_digit ds) (nat_lt (digits_value 10 ds) bound) (Some (digits_value 10 ds)) None
+    (λ some all small. let less = ltb-true (digits_value 10 ds) bound small in
+    let large = none (digits_value 10 ds) (numeral_of ds (ltb-true 0 (length ds) some) (pass_digits ds all), refl) in
+    omega (arith, less, large))
+
+-- the number before one
+before_more : (place : ℕ) → before (place + 1) ≡ Some place
+before_more place = ap before {x = place + 1} {y = suc place} (omega arith)
+
+no_more : (a b c : Bool) (n : ℕ) → (a ≡ true → b ≡ true → c ≡ true → n ≡ 0) → option_and_then before (if a && b && c then Some n else None) ≡ None
+no_more true true true n is = ap before (is refl refl refl)
+no_more true true false n is = refl
+no_more true false c n is = refl
+no_more false b c n is = refl
+
+zero_of : (n : ℕ) → n < 2 ^ 64 → (n ≡ 0) ⊎ (2 ^ 64 ≤ n) → n ≡ 0
+zero_of n less (inl nothing) = nothing
+zero_of n less (inr large) = absurd (omega (arith, less, large))
+
+pub place_told : (number : List ℕ) (place : ℕ) → IsFieldPlace number place → place_by number ≡ Some place
+place_told number place (is, bound) = ap (option_and_then before) (number_some (2 ^ 64) number (place + 1) is bound) ∙ before_more place
 
 pub place_read : (number : List ℕ) (r : Option ℕ) → MatchOption r ((n : ℕ) → IsNumber number n → (n ≡ 0) ⊎ (2 ^ 64 ≤ n)) (IsFieldPlace number) → r ≡ place_by number
-place_read number (Some place) ((numeral, value), bound) = sym (numbered_some (without_leading_plus number) place numeral value bound)
-place_read number None none = sym (numbered_none (without_leading_plus number) (λ numeral. none (digits_value 10 (without_leading_plus number)) (numeral, refl)))
+place_read number (Some place) is = sym (place_told number place is)
+place_read number None none =
+    let ds = without_leading_plus number in
+    sym (no_more (nat_lt 0 (length ds)) (list_all is_digit ds) (nat_lt (digits_value 10 ds) (2 ^ 64)) (digits_value 10 ds)
+    (λ some all small. zero_of (digits_value 10 ds) (ltb-true (digits_value 10 ds) (2 ^ 64) small)
+    (none (digits_value 10 ds) (numeral_of ds (ltb-true 0 (length ds) some) (pass_digits ds all), refl))))
 
 -- ---- two numbers with a comma between them
 -- no byte is one
@@ -105,7 +126,8 @@ no_plus (c ∷ cs) numeral =
 place_typed : (place : ℕ) → place + 1 < 2 ^ 64 → place_by (decimal (place + 1)) ≡ Some place
 place_typed place bound =
     let (numeral, value) = decimal_is_IsNumeral (place + 1) bound in
-    ap numbered (no_plus (decimal (place + 1)) numeral) ∙ numbered_some (decimal (place + 1)) place numeral (sym value) bound
+    ap (λ (ds : List ℕ). option_and_then before (digits_below (2 ^ 64) ds)) (no_plus (decimal (place + 1)) numeral)
+    ∙ (ap (option_and_then before) (below_some (2 ^ 64) (decimal (place + 1)) (place + 1) numeral (sym value) bound) ∙ before_more place)
 
 pub fields_typed : (command : Verb) (separator : Separator) (network value : ℕ) → network + 1 < 2 ^ 64 → value + 1 < 2 ^ 64
     → fields_by command separator (Some (decimal (network + 1) ++ 44 ∷ decimal (value + 1))) ≡ Ok (Columns (record { separator = separator; network = network; value = value }))

@@ -19,17 +19,15 @@ use Rattle.cidr_table.specs.model.Prefixes.{IsLookedUp}
 use Rattle.cidr_io.specs.Collecting.{Collects}
 use Rattle.netset_commands.specs.Commands.{Look}
 use Rattle.cidr_lists.specs.Lists.{Text, lines_of}
-use Rattle.cidr_lists.specs.LookUps.{IsBadAsked, LineLooks, LinesTell, LookUp, found_line, is_found, lines_by, look_line, printed_row, telling_by}
+use Rattle.cidr_lists.specs.LookUps.{IsBadAsked, LineLooks, LinesTell, LookUp, found_line, is_found, lines_by, look_line, printed_row}
 use Rattle.cidr_lists.specs.Lines.{IsBadBehind, lines_in}
 use Rattle.cidr_lists.specs.declared.fields.Asked.{Asked}
-use Rattle.cidr_lists.specs.declared.forms.RowForm.{RowForm}
 use Rattle.cidr_lists.specs.declared.objects.Telling.{Telling}
 use Rattle.cidr_lists.specs.declared.objects.Telling.TheVariants.{Alone, Kept, Objects}
 use Rattle.netset_commands.specs.Gathering.{IsNotReadFurther}
 use Rattle.netset_commands.specs.KeptLines.{IsRowAmong, IsRowOf, TellsFile, TellsLeft, TellsText}
 use Rattle.netset_commands.specs.Look.{HeadedTell, IsLook, IsLookCut, verdict_of}
-use Rattle.netset_commands.specs.Matching.{has}
-use Rattle.netset_commands.specs.Picking.{Choice, IsAsked}
+use Rattle.netset_commands.specs.declared.commands.picking.Seeking.{Seeking}
 use Rattle.netset_commands.specs.LookUps.{AreFirstSaid, AllFound, AskLooks, AsksLines, EndsReading, IsFoundOf, LooksAll, LooksEach, LooksLines, LooksOne, LooksUp, PushesFound, answer_of, answer_row, unread}
 use Rattle.cidr_lists.specs.Tables.{resolved, value_at}
 use Rattle.netset_commands.specs.Compiled.{SaysTable}
@@ -505,11 +503,10 @@ module _ (telling : Telling) (place : Asked) (table : Family → List (List Bool
   )
 
 -- ---- the command
-module _ (contents : List ℕ → Option Text) (choice : Choice) (form : RowForm) (options : List (List ℕ)) (rows file : List ℕ) (place : Asked) (telling : Telling)
-    (table : Family → List (List Bool × List ℕ)) (s t : State) (asks : IsAsked choice (has (codes "--any") options) place)
-    (is : telling ≡ telling_by form.values (has (codes "--keep") options)) (reads : (text : Text) → contents rows ≡ Some text → SaysTable form text table) where
-  not_read : (e : CommandError) → IsNotReadFurther file e → IsNoTable form (contents rows) rows e ⊎ (HasUnfitRow form (contents rows) rows e
-      ⊎ (IsInputError file e × ((text : Text) → contents rows ≡ Some text → (kept : Family → List (List Bool × List ℕ)) × SaysTable form text kept)))
+module _ (contents : List ℕ → Option Text) (seeking : Seeking) (rows file : List ℕ) (table : Family → List (List Bool × List ℕ)) (s t : State)
+    (reads : (text : Text) → contents rows ≡ Some text → SaysTable seeking.form text table) where
+  not_read : (e : CommandError) → IsNotReadFurther file e → IsNoTable seeking.form (contents rows) rows e ⊎ (HasUnfitRow seeking.form (contents rows) rows e
+      ⊎ (IsInputError file e × ((text : Text) → contents rows ≡ Some text → (kept : Family → List (List Bool × List ℕ)) × SaysTable seeking.form text kept)))
   not_read (error.Argument text e) h = absurd h
   not_read (error.Line name number e) h = absurd h
   not_read (error.Input name why) h = inr (inr (h, λ text one. (table, reads text one)))
@@ -517,26 +514,18 @@ module _ (contents : List ℕ → Option Text) (choice : Choice) (form : RowForm
   not_read error.Output h = absurd h
   not_read (error.File name e) h = absurd h
 
-  -- with a header or not
-  abbrev headed : Bool
-  headed = has (codes "--header") options
-
-  pub told_file : (r : Result Verdict CommandError) → TellsFile headed telling place table (contents file) file s t r → AnswersRequest contents (Look choice form options rows file) s t r
-  told_file r (inl (none, e, same, why)) = rw same (inl (inl (none, inr (place, asks, not_read e why))))
+  pub told_file : (r : Result Verdict CommandError) → TellsFile seeking.headed seeking.telling seeking.asked table (contents file) file s t r → AnswersRequest contents (Look seeking rows file) s t r
+  told_file r (inl (none, e, same, why)) = rw same (inl (inl (none, not_read e why)))
   told_file r (inr (left, opens, inl (answer, found, w, by, written, tells))) = inl (inr (
     answer,
     verdict_of found,
     w,
-    (
-      place,
-      asks,
-      λ first second one two. subst (λ (k : Telling). IsLook headed k place form first second.bytes answer (verdict_of found)) is (
-        table,
-        reads first one,
-        found,
-        bytes_read (λ text. HeadedTell headed telling place table (lines_by telling text) (answer, found)) left second.bytes (opens second two) tells,
-        refl,
-      ),
+    λ first second one two. (
+      table,
+      reads first one,
+      found,
+      bytes_read (λ text. HeadedTell seeking.headed seeking.telling seeking.asked table (lines_by seeking.telling text) (answer, found)) left second.bytes (opens second two) tells,
+      refl,
     ),
     written,
     by,
@@ -547,12 +536,8 @@ module _ (contents : List ℕ → Option Text) (choice : Choice) (form : RowForm
     of,
     answer,
     written,
-    (
-      place,
-      asks,
-      λ first second one two.
-          let (found, cut) = bytes_read (λ text. (found : Bool) × IsCutBehind (HeadedTell headed telling place table) (IsBadBehind headed (IsBadAsked place)) (lines_by telling text) (answer, found) e)
-          left second.bytes (opens second two) belongs in
-          subst (λ (k : Telling). IsLookCut headed k place form first second.bytes answer e) is (table, reads first one, found, cut),
-    ),
+    λ first second one two.
+        let (found, cut) = bytes_read (λ text. (found : Bool) × IsCutBehind (HeadedTell seeking.headed seeking.telling seeking.asked table)
+        (IsBadBehind seeking.headed (IsBadAsked seeking.asked)) (lines_by seeking.telling text) (answer, found) e) left second.bytes (opens second two) belongs in
+        (table, reads first one, found, cut),
   )

@@ -22,10 +22,10 @@ use Rattle.netset_commands.specs.Commands.{IsInRow, HoldsOf, Match}
 use Rattle.netset_commands.specs.Gathering.{Finishes, IsCounted, IsDone, IsLost, IsNotReadFurther, NotesLong, Stops, Streams, StreamsFile, GathersPart, TakesHeader, ended_by, lines_of_part, rest_written, told_behind}
 use Rattle.cidr_lists.specs.Lists.{IsTooLong, Text, is_line_feed, kept_of, lines_of}
 use Rattle.cidr_lists.specs.Within.{AreWithin, HasOneIn, LiesIn}
-use Rattle.netset_commands.specs.Matching.{ArePicked, ArePickedBy, IsEndedBy, IsEnough, IsErrorBy, IsFirstLong, IsHeader, IsLongOrLost, IsMatch, NeedsMore, Picks, PicksBy, PicksByField, StopsAtPicked, all_written, has, line_written, written_of}
+use Rattle.netset_commands.specs.Matching.{ArePicked, ArePickedBy, IsEndedBy, IsEnough, IsErrorBy, IsFirstLong, IsHeader, IsLongOrLost, IsMatch, NeedsMore, Picks, PicksBy, PicksByField, StopsAtPicked, all_written, line_written}
 use Rattle.cidr_lists.specs.Lines.{AllBehind, IsBadBehind, behind_header, last_line, lines_among, lines_in}
 use Rattle.cidr_lists.specs.Fields.{FieldSays}
-use Rattle.netset_commands.specs.Picking.{Choice, IsChosen}
+use Rattle.netset_commands.specs.Picking.{PicksOf}
 use Rattle.netset_commands.specs.Program.{AnswersRequest, by_output}
 use Rattle.netset_commands.specs.Reading.{IsNextLine}
 use Rattle.cidr_lists.specs.Sets.{IsInSets, networks_of}
@@ -36,6 +36,7 @@ use Rattle.netset_commands.specs.declared.output.answers.Verdict.TheVariants.{Ye
 use Rattle.netset_commands.specs.declared.errors.CommandError.{CommandError}
 use Rattle.netset_commands.specs.declared.errors.CommandError.TheVariants as error
 use Rattle.cidr_lists.specs.declared.columns.Column.{Column}
+use Rattle.netset_commands.specs.declared.commands.picking.Picking.{Picking}
 use Rattle.cidr_lists.specs.declared.errors.LineError.{LineError}
 use Rattle.cidr_lists.specs.declared.errors.LineError.TheVariants.{TooLong}
 use Rattle.netset_commands.specs.declared.commands.matching.Gathered.{Gathered}
@@ -788,66 +789,45 @@ pub of_list : (text : Text) (P Q : (Family → List Bool → Type 0) → Type 0)
 of_list text P Q f (inl (said, says, h)) = inl (said, says, f (SaysAddress said) h)
 of_list text P Q f (inr (table, has, h)) = inr (table, has, f (IsInRow table) h)
 
-matched : (contents : List ℕ → Option Text) (choice : Choice) (column : Column) (options : List (List ℕ)) (list file : List ℕ) (sets : Sets) (known : Option (List ℕ)) (s t : State) (r : Result Verdict CommandError)
-    → IsChosen choice column → ((text : Text) → contents list ≡ Some text → HaveListAddresses text sets) → ((text : Text) → contents file ≡ Some text → known ≡ Some text.bytes)
-    → Streams (has (codes "--header") options) (Picks (has (codes "--any") options) column (IsInSets sets) (has (codes "-v") options)) [] (written_of options) file known s t r → AnswersRequest contents (Match choice options list file) s t r
-matched contents choice column options list file sets known s t r chosen reads tells (inl (answer, verdict, w, match, written, is)) =
+matched : (contents : List ℕ → Option Text) (picking : Picking) (list file : List ℕ) (sets : Sets) (known : Option (List ℕ)) (s t : State) (r : Result Verdict CommandError)
+    → ((text : Text) → contents list ≡ Some text → HaveListAddresses text sets) → ((text : Text) → contents file ≡ Some text → known ≡ Some text.bytes)
+    → Streams picking.headed (PicksOf picking (IsInSets sets)) [] picking.written file known s t r → AnswersRequest contents (Match picking list file) s t r
+matched contents picking list file sets known s t r reads tells (inl (answer, verdict, w, match, written, is)) =
     inl (inr (
       answer,
       verdict,
       w,
-      (
-        column,
-        chosen,
-        λ networks text p q.
-            of_list networks _ _ (λ IsIn same. known_match (has (codes "--header") options) _ _ (picks_same IsIn sets same (has (codes "--any") options) column (has (codes "-v") options)) [] (written_of options) known text.bytes answer verdict (tells text q) match)
-            (reads networks p),
-      ),
+      λ networks text p q.
+          of_list networks _ _ (λ IsIn same. known_match picking.headed _ _ (picks_same IsIn sets same picking.anywhere picking.column picking.inverted) [] picking.written known text.bytes answer verdict (tells text q) match)
+          (reads networks p),
       written,
       is,
     ))
-matched contents choice column options list file sets known s t r chosen reads tells (inr (e, is, of_file, answer, begun, cut)) =
+matched contents picking list file sets known s t r reads tells (inr (e, is, of_file, answer, begun, cut)) =
     inr (
       e,
       is,
       of_file,
       answer,
       begun,
-      (
-        column,
-        chosen,
-        λ networks text p q.
-            of_list networks _ _ (λ IsIn same. known_cut (has (codes "--header") options) _ _ (picks_same IsIn sets same (has (codes "--any") options) column (has (codes "-v") options)) [] (written_of options) known text.bytes answer e (tells text q) cut)
-            (reads networks p),
-      ),
+      λ networks text p q.
+          of_list networks _ _ (λ IsIn same. known_cut picking.headed _ _ (picks_same IsIn sets same picking.anywhere picking.column picking.inverted) [] picking.written known text.bytes answer e (tells text q) cut)
+          (reads networks p),
     )
 
 -- a file that can't be opened
-unopened : (contents : List ℕ → Option Text) (choice : Choice) (column : Column) (options : List (List ℕ)) (list file : List ℕ) (sets : Sets) (s : State) (e : CommandError)
-    → IsChosen choice column → ((text : Text) → contents list ≡ Some text → HaveListAddresses text sets) → IsNotReadFurther file e
-    → AnswersRequest contents (Match choice options list file) s s (Err e)
-unopened contents choice column options list file sets s (error.Argument text e) chosen reads h = absurd h
-unopened contents choice column options list file sets s (error.Line name number e) chosen reads h = absurd h
-unopened contents choice column options list file sets s (error.Input name why) chosen reads h = inl (inl (refl, inr (column, chosen, inr (h, λ text one. of_list text (λ IsIn. (family : Family) → IsSetOf 129 (IsIn family) (networks_of sets family)) (λ IsIn. Unit {0}) (λ IsIn same. tt) (reads text one)))))
-unopened contents choice column options list file sets s error.NoMemory chosen reads h = inl (inl (refl, inr (column, chosen, inl tt)))
-unopened contents choice column options list file sets s error.Output chosen reads h = absurd h
-unopened contents choice column options list file sets s (error.File name why) chosen reads h = absurd h
+unopened : (contents : List ℕ → Option Text) (picking : Picking) (list file : List ℕ) (sets : Sets) (s : State) (e : CommandError)
+    → ((text : Text) → contents list ≡ Some text → HaveListAddresses text sets) → IsNotReadFurther file e → AnswersRequest contents (Match picking list file) s s (Err e)
+unopened contents picking list file sets s (error.Argument text e) reads h = absurd h
+unopened contents picking list file sets s (error.Line name number e) reads h = absurd h
+unopened contents picking list file sets s (error.Input name why) reads h =
+    inl (inl (refl, inr (h, λ text one. of_list text (λ IsIn. (family : Family) → IsSetOf 129 (IsIn family) (networks_of sets family)) (λ IsIn. Unit {0}) (λ IsIn same. tt) (reads text one))))
+unopened contents picking list file sets s error.NoMemory reads h = inl (inl (refl, inl tt))
+unopened contents picking list file sets s error.Output reads h = absurd h
+unopened contents picking list file sets s (error.File name why) reads h = absurd h
 
-pub matched_file : (contents : List ℕ → Option Text) (choice : Choice) (column : Column) (options : List (List ℕ)) (list file : List ℕ) (sets : Sets) (s t : State) (r : Result Verdict CommandError)
-    → IsChosen choice column → ((text : Text) → contents list ≡ Some text → HaveListAddresses text sets)
-    → StreamsFile (has (codes "--header") options) (Picks (has (codes "--any") options) column (IsInSets sets) (has (codes "-v") options)) [] (written_of options) file (contents file) s t r
-    → AnswersRequest contents (Match choice options list file) s t r
-matched_file contents choice column options list file sets s t r chosen reads (inl (same, e, is, of)) = rw (same, is) (unopened contents choice column options list file sets s e chosen reads of)
-matched_file contents choice column options list file sets s t r chosen reads (inr (known, opens, streams)) =
-    matched contents choice column options list file sets known s t r chosen reads opens streams
-
--- what is so of a matcher's fields is so of what they are
-pub of_matcher : (P : Bool → Bool → Column → Sets → Bool → Written → Type 0) (h g a b : Bool) (m n : Column) (s t : Sets) (i j : Bool) (w v : Written)
-    → h ≡ g → a ≡ b → m ≡ n → s ≡ t → i ≡ j → w ≡ v → P h a m s i w → P g b n t j v
-of_matcher P h g a b m n s t i j w v headed anywhere column sets inverted written p =
-    subst (λ (x : Written). P g b n t j x) written
-    (subst (λ (x : Bool). P g b n t x w) inverted
-    (subst (λ (x : Sets). P g b n x i w) sets
-    (subst (λ (x : Column). P g b x s i w) column
-    (subst (λ (x : Bool). P g x m s i w) anywhere
-    (subst (λ (x : Bool). P x a m s i w) headed p)))))
+pub matched_file : (contents : List ℕ → Option Text) (picking : Picking) (list file : List ℕ) (sets : Sets) (s t : State) (r : Result Verdict CommandError)
+    → ((text : Text) → contents list ≡ Some text → HaveListAddresses text sets)
+    → StreamsFile picking.headed (PicksOf picking (IsInSets sets)) [] picking.written file (contents file) s t r → AnswersRequest contents (Match picking list file) s t r
+matched_file contents picking list file sets s t r reads (inl (same, e, is, of)) = rw (same, is) (unopened contents picking list file sets s e reads of)
+matched_file contents picking list file sets s t r reads (inr (known, opens, streams)) = matched contents picking list file sets known s t r reads opens streams

@@ -8,14 +8,14 @@ use Rattle.cidr_io.specs.declared.sink.OutputFailed.{OutputFailed}
 use Rattle.cidr_io.proofs.Chains.{part_none, whole_none, whole_part, whole_whole}
 use Rattle.cidr_lists.specs.Lists.{Text}
 use Rattle.cidr_lists.specs.Sets.{IsInSets}
-use Rattle.cidr_lists.specs.declared.columns.Column.{Column}
+use Rattle.netset_commands.specs.declared.commands.picking.Picking.{Picking}
 use Rattle.cidr_lists.specs.declared.errors.LineError.{LineError}
 use Rattle.cidr_lists.specs.declared.sets.Sets.{Sets}
 use Rattle.netset_commands.specs.Answering.{HaveListAddresses}
 use Rattle.netset_commands.specs.Commands.{MatchEach}
 use Rattle.netset_commands.specs.Gathering.{AreStreamed, IsNotReadFurther, StreamsEach, StreamsFile}
-use Rattle.netset_commands.specs.Matching.{AreMatched, IsEndedBy, IsEndedIn, IsMatch, IsMatchOfEach, Picks, either, file_label, has, written_of}
-use Rattle.netset_commands.specs.Picking.{Choice, IsChosen}
+use Rattle.netset_commands.specs.Matching.{AreMatched, IsEndedBy, IsEndedIn, IsMatch, IsMatchOfEach, either, file_label}
+use Rattle.netset_commands.specs.Picking.{PicksOf}
 use Rattle.netset_commands.specs.Program.{AnswersRequest, by_output}
 use Rattle.netset_commands.specs.Streaming.{IsOfFile, IsWritten}
 use Rattle.netset_commands.specs.declared.commands.matching.Written.{Written}
@@ -282,26 +282,21 @@ ended_same headed P Q f contents what before file answer e (first, rest, verdict
   ],
 )
 
-pub matched_each : (contents : List ℕ → Option Text) (choice : Choice) (column : Column) (options : List (List ℕ)) (list : List ℕ) (files : List (List ℕ)) (sets : Sets) (s t : State) (r : Result Verdict CommandError)
-    → IsChosen choice column → ((text : Text) → contents list ≡ Some text → HaveListAddresses text sets)
-    → StreamsEach contents (has (codes "--header") options) (Picks (has (codes "--any") options) column (IsInSets sets) (has (codes "-v") options)) (written_of options) files s t r
-    → AnswersRequest contents (MatchEach choice options list files) s t r
-matched_each contents choice column options list files sets s t r chosen reads (inl (answer, verdict, w, match, written, is)) =
+pub matched_each : (contents : List ℕ → Option Text) (picking : Picking) (list : List ℕ) (files : List (List ℕ)) (sets : Sets) (s t : State) (r : Result Verdict CommandError)
+    → ((text : Text) → contents list ≡ Some text → HaveListAddresses text sets)
+    → StreamsEach contents picking.headed (PicksOf picking (IsInSets sets)) picking.written files s t r → AnswersRequest contents (MatchEach picking list files) s t r
+matched_each contents picking list files sets s t r reads (inl (answer, verdict, w, match, written, is)) =
     inl (inr (
       answer,
       verdict,
       w,
-      (
-        column,
-        chosen,
-        λ networks told.
-            of_list networks _ _ (λ IsIn same. each_same (has (codes "--header") options) _ _ (picks_same IsIn sets same (has (codes "--any") options) column (has (codes "-v") options)) contents (written_of options) files answer verdict match)
-            (reads networks told),
-      ),
+      λ networks told.
+          of_list networks _ _ (λ IsIn same. each_same picking.headed _ _ (picks_same IsIn sets same picking.anywhere picking.column picking.inverted) contents picking.written files answer verdict match)
+          (reads networks told),
       written,
       is,
     ))
-matched_each contents choice column options list files sets s t r chosen reads (inr (before, after, file, parts, (e, is, of_file, answer, begun, cut))) = inr (
+matched_each contents picking list files sets s t r reads (inr (before, after, file, parts, (e, is, of_file, answer, begun, cut))) = inr (
   before,
   after,
   file,
@@ -312,12 +307,8 @@ matched_each contents choice column options list files sets s t r chosen reads (
     of_file,
     answer,
     begun,
-    (
-      column,
-      chosen,
-      λ networks told.
-          of_list networks _ _ (λ IsIn same. ended_same (has (codes "--header") options) _ _ (picks_same IsIn sets same (has (codes "--any") options) column (has (codes "-v") options)) contents (written_of options) before file answer e cut)
-          (reads networks told),
-    ),
+    λ networks told.
+        of_list networks _ _ (λ IsIn same. ended_same picking.headed _ _ (picks_same IsIn sets same picking.anywhere picking.column picking.inverted) contents picking.written before file answer e cut)
+        (reads networks told),
   ),
 )

@@ -18,7 +18,7 @@ use Rattle.netset_commands.specs.Answering.{AreRead, HasAddresses, ReadsListed, 
 use Rattle.netset_commands.specs.Combining.{IsMade}
 use Rattle.cidr_lists.specs.Texts.{SaysAddress}
 use Rattle.netset_commands.specs.Commands.{AreTold, Free, IsFree, OfLists, Split}
-use Rattle.netset_commands.specs.Free.{Extent, Count, IsBadCount, IsBadFree, IsBadLength, IsMost, inside_of}
+use Rattle.netset_commands.specs.Free.{inside_of}
 use Rattle.netset_commands.specs.Operands.{IsNoNetworkText, OfOperand}
 use Rattle.netset_commands.specs.Program.{AnswersRequest, IsBadArgument}
 use Rattle.netset_commands.specs.Single.{HasNone, IsNumber}
@@ -37,37 +37,30 @@ use Rattle.netset_commands.proofs.Taken.{inside_some}
 use Rattle.netset_commands.specs.declared.errors.Reason.{Reason}
 
 -- what is free of the sets is free of the lists
-pub free_written : (contents : List ℕ → Option Text) (style : Option Style) (extent : Extent) (pool len : List ℕ) (used : List (List ℕ)) (n : ℕ) (most : Option ℕ) (first : Sets)
-    (others : List Sets) (rest : Sets) (s t : State) (r : Result Verdict CommandError) → IsNumber len n × (n ≤ 128) → IsMost extent most
+pub free_written : (contents : List ℕ → Option Text) (style : Option Style) (most : Option ℕ) (pool : List ℕ) (n : ℕ) (used : List (List ℕ)) (first : Sets)
+    (others : List Sets) (rest : Sets) (s t : State) (r : Result Verdict CommandError)
     → ReadsOperand contents pool (Ok first) → AreRead contents used others
     → ((family : Family) → IsSetOf 129 (IsMade IsInSets Minus (first ∷ others) family) (networks_of rest family))
-    → TellsFree style (networks_of rest) n most s t r → AnswersRequest contents (Free style extent pool len used) s t r
-free_written contents style extent pool len used n most first others rest s t r number count reads are made (answer, verdict, w, free, written, is) =
+    → TellsFree style (networks_of rest) n most s t r → AnswersRequest contents (Free style most pool n used) s t r
+free_written contents style most pool n used first others rest s t r reads are made (answer, verdict, w, free, written, is) =
     inr (
       answer,
       verdict,
       w,
-      (
-        n,
-        number.0,
-        number.1,
-        most,
-        count,
-        operand_weaker contents pool (λ said. HasAddresses said first)
-            (λ said. (texts : List Text) → AreTold contents used texts → OfLists texts (λ all. IsFree style n most (said ∷ all) answer verdict))
-            (λ said has texts told_so.
-            let (all, says, hass) = are texts told_so in (
-              all,
-              says,
-              (
-                networks_of rest,
-                λ family. set_same _ _ (networks_of rest family) (made family) (λ a wide.
-                    made_same IsInSets SaysAddress Minus (first ∷ others) (said ∷ all) family a
-                    (has_same (said ∷ all) (first ∷ others) family a wide (has, hass))),
-                free,
-              ),
-            )) reads,
-      ),
+      operand_weaker contents pool (λ said. HasAddresses said first)
+          (λ said. (texts : List Text) → AreTold contents used texts → OfLists texts (λ all. IsFree style n most (said ∷ all) answer verdict))
+          (λ said has texts told_so.
+          let (all, says, hass) = are texts told_so in (
+            all,
+            says,
+            (
+              networks_of rest,
+              λ family. set_same _ _ (networks_of rest family) (made family) (λ a wide.
+                  made_same IsInSets SaysAddress Minus (first ∷ others) (said ∷ all) family a
+                  (has_same (said ∷ all) (first ∷ others) family a wide (has, hass))),
+              free,
+            ),
+          )) reads,
       written,
       is,
     )
@@ -127,16 +120,6 @@ subnets_written style network n s t w some written =
     (inside_some n network (not_less n (length (network_prefix network)) (nat_lt n (length (network_prefix network))) refl (λ low. some (inl low)))
     (not_less (width_of (network_family network)) n (nat_lt (width_of (network_family network)) n) refl (λ high. some (inr high)))) written
 
--- the count is wrong, and the length is not
-pub count_wrong : (extent : Extent) (len : List ℕ) (n : ℕ) (e : CommandError) → IsNumber len n × (n ≤ 128) → IsBadArgument (IsBadCount extent) e
-    → IsBadArgument (IsBadFree extent len) e
-count_wrong extent len n (error.Argument text why) number h = inr (n, number.0, number.1, h)
-count_wrong extent len n (error.Line file line why) number h = absurd h
-count_wrong extent len n (error.Input name why) number h = absurd h
-count_wrong extent len n (error.File name why) number h = absurd h
-count_wrong extent len n error.NoMemory number h = absurd h
-count_wrong extent len n error.Output number h = absurd h
-
 -- what they are given up for
 pub free_cause : (F : List ℕ → Reason → Type 0) (refused : Bool) (style : Option Style) (sets : Family → List (List Bool)) (n : ℕ) (most : Option ℕ) (s t : State) (r : Result Verdict CommandError)
     → TellsFree style sets n most s t r → IfErr r (Cause F refused)
@@ -147,26 +130,3 @@ pub network_cause : (F : List ℕ → Reason → Type 0) (refused : Bool) (style
 network_cause F refused style network len s t r (inl (same, e, is, why)) =
     subst (λ (k : Result Verdict CommandError). IfErr k (Cause F refused)) (sym is) (argument_cause F refused _ e why)
 network_cause F refused style network len s t r (inr (n, number, some, w, written, is)) = output_cause F refused Yes w r is
-
--- arguments that are right are not wrong
-no_bad_length : (len : List ℕ) (n : ℕ) (text : List ℕ) (why : ArgumentError) → IsNumber len n × (n ≤ 128) → ¬ (IsBadLength len text why)
-no_bad_length len n text bad.Length number (same, none) = let long = none n number.0 in absurd (omega (arith, number.1, long))
-no_bad_length len n text why number h = h
-
-no_bad_count : (extent : Extent) (most : Option ℕ) (text : List ℕ) (why : ArgumentError) → IsMost extent most → ¬ (IsBadCount extent text why)
-no_bad_count (Count count) most text bad.Count (m, number, small, is) (same, none) = let large = none m number in absurd (omega (arith, small, large))
-no_bad_count extent most text why count h = h
-
-no_bad_free : (extent : Extent) (len : List ℕ) (n : ℕ) (most : Option ℕ) (text : List ℕ) (why : ArgumentError) → IsNumber len n × (n ≤ 128) → IsMost extent most
-    → ¬ (IsBadFree extent len text why)
-no_bad_free extent len n most text why number count (inl h) = no_bad_length len n text why number h
-no_bad_free extent len n most text why number count (inr (m, same, short, h)) = no_bad_count extent most text why count h
-
-pub free_right : (extent : Extent) (len : List ℕ) (n : ℕ) (most : Option ℕ) (e : CommandError) → IsNumber len n × (n ≤ 128) → IsMost extent most
-    → ¬ (IsBadArgument (IsBadFree extent len) e)
-free_right extent len n most (error.Argument text why) number count h = no_bad_free extent len n most text.now why number count h
-free_right extent len n most (error.Line file line why) number count h = h
-free_right extent len n most (error.Input name why) number count h = h
-free_right extent len n most (error.File name why) number count h = h
-free_right extent len n most error.NoMemory number count h = h
-free_right extent len n most error.Output number count h = h

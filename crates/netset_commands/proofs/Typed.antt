@@ -1,11 +1,12 @@
 -- Requests as they are typed are read as these requests.
-use Rattle.std.proofs.Common.{◌≡◌, ◌⊎◌, refl, sym, ◌∙◌, ap, subst, inl, inr, ℕ, ◌+◌, ◌^◌, ◌<◌, decimal, Bool, true, false, if◌then◌else◌, ◌||◌, ◌&&◌, List, [], ◌∷◌, ◌++◌, codes, slice_get, append-nil, Option, Some, None, Result, Ok}
+use Rattle.std.proofs.Common.{◌≡◌, ◌⊎◌, refl, sym, ◌∙◌, ap, subst, arith, inl, inr, ℕ, ◌+◌, ◌^◌, ◌<◌, ◌≤◌, decimal, Bool, true, false, if◌then◌else◌, ◌||◌, ◌&&◌, List, [], ◌∷◌, ◌++◌, codes, slice_get, append-nil, Option, Some, None, ok_or, Result, Ok}
 use Rattle.std.specs.List.{list_all, list_any}
 use Rattle.std.proofs.lemmas.Bool.{true≢false}
 use Rattle.cidr.specs.declared.family.Family.TheVariants.{Ipv4, Ipv6}
 use Rattle.cidr_lists.specs.Forms.{HasNumbers}
 use Rattle.cidr_lists.specs.Formats.{IsBare, Style, format_name, line_style}
 use Rattle.cidr_lists.specs.Rules.{Question, Permitted, Shadowed, Compared}
+use Rattle.cidr_lists.specs.declared.columns.Column.{Column}
 use Rattle.cidr_lists.specs.declared.columns.Separator.{Separator}
 use Rattle.cidr_lists.specs.declared.columns.Separator.TheVariants.{WhiteSpace, Byte}
 use Rattle.cidr_lists.specs.declared.formats.LineFormat.TheVariants as by_line
@@ -15,24 +16,27 @@ use Rattle.cidr_lists.specs.declared.forms.RowLayout.{RowLayout}
 use Rattle.cidr_lists.specs.declared.records.ListForm.{ListForm}
 use Rattle.cidr_lists.specs.declared.records.ListForm.TheVariants.{Networks}
 use Rattle.cidr_lists.specs.declared.forms.RowLayout.TheVariants.{Fields, Columns, Pfx2as, Routes}
-use Rattle.netset_commands.specs.Arguments.{Parts, and_then, question_by, asks_help, choice_by, choice_in, counted_request, extent_by, extra_operand, form_in, is_option, joined_arguments, line_request, list_form_by, list_form_in, lists_request, look_by, match_by, may_keep, named_verb, only_operand, only_options, only_value, operand_or, part_request, parts_from, read_request, reading_in, reads_tables, style_in_values, takes, target_by, value_behind, option_value, verb_request, word_parts}
+use Rattle.netset_commands.specs.Arguments.{Parts, and_then, question_by, asks_help, column_at, column_by, counted_request, extra_operand, field_by, field_in, form_in, is_option, joined_arguments, length_by, line_request, list_form_by, list_form_in, lists_request, look_by, match_by, may_keep, misuse_text, most_by, most_in, named_verb, only_operand, only_options, only_value, operand_or, part_request, parts_from, read_request, reading_in, reads_tables, style_in_values, takes, target_by, value_behind, option_value, verb_request, word_parts}
 use Rattle.netset_commands.specs.Commands.{Request, Lists, Styled, NotIn, Diff, Same, Free, Acl, Split, Check, Which, Match, MatchEach, Look, Compile, Smallest, Describe, Class, Single, Help, Version, bits_of, input_name, reading_of}
-use Rattle.netset_commands.specs.Free.{Extent, First, Count, All}
+use Rattle.netset_commands.specs.Free.{IsMost}
 use Rattle.netset_commands.specs.Matching.{has, is_word}
-use Rattle.netset_commands.specs.Picking.{Choice, FirstField, FieldOf}
-use Rattle.netset_commands.specs.Single.{Show, Nth}
+use Rattle.netset_commands.specs.Picking.{IsFieldPlace, picking_of, seeking_of}
+use Rattle.netset_commands.specs.Single.{IsNumber, Show, Nth}
 use Rattle.netset_commands.specs.Table.{commands, name_of, command_row, takes_value}
-use Rattle.netset_commands.specs.Typed.{AreTyped, GoesWith, IsTyped, choice_words, layout_words, separator_words, style_words}
+use Rattle.netset_commands.specs.Typed.{AreTyped, IsField, IsTyped, field_words, layout_words, separator_words, style_words}
 use Rattle.netset_commands.specs.declared.commands.arguments.Next.{Next}
 use Rattle.netset_commands.specs.declared.commands.arguments.Next.TheVariants.{Any, Value}
 use Rattle.netset_commands.specs.declared.commands.describe.Description.TheVariants.{Zones, Masks}
 use Rattle.netset_commands.specs.declared.commands.operations.Operation.{Operation}
 use Rattle.netset_commands.specs.declared.commands.operations.Operation.TheVariants.{Merge, Nets, Minus, And, Not, Ranges}
 use Rattle.netset_commands.specs.declared.commands.operations.Operation.TheVariants as of_lists
+use Rattle.netset_commands.specs.declared.commands.picking.Picking.{Picking}
+use Rattle.netset_commands.specs.declared.commands.picking.Seeking.{Seeking}
 use Rattle.netset_commands.specs.declared.commands.table.Verb.{Verb}
 use Rattle.netset_commands.specs.declared.commands.table.Verb.TheVariants as verb
+use Rattle.netset_commands.specs.declared.errors.Misfit.TheVariants.{NoCount, NoLength}
 use Rattle.netset_commands.proofs.Arguments.{same_text}
-use Rattle.netset_commands.proofs.FieldNumbers.{fields_typed}
+use Rattle.netset_commands.proofs.FieldNumbers.{fields_typed, number_some, place_told}
 use Rattle.netset_commands.proofs.Parts.{and_first, and_second, before_value, if_false, long_word, operand_word}
 use Rattle.netset_commands.proofs.Running.{read_one}
 use Rattle.netset_commands.proofs.Telling.{none_of}
@@ -99,21 +103,30 @@ abbrev HasFields : Verb → Type 0
 HasFields command = (word_parts command Any (codes "--field") ≡ Ok (only_value (codes "--field"), Value))
     × (word_parts command Any (codes "--separator") ≡ Ok (only_value (codes "--separator"), Value))
 
--- these before other words
-behind_choice : (command : Verb) (choice : Choice) (valued operands : List (List ℕ)) → HasFields command
-    → parts_from command (valued ++ operands) Any ≡ Ok (parts_with [] valued operands)
-    → parts_from command ((choice_words choice ++ valued) ++ operands) Any ≡ Ok (parts_with [] (choice_words choice ++ valued) operands)
-behind_choice command FirstField valued operands has is = is
-behind_choice command (FieldOf number None) valued operands has is = behind_values command (codes "--field") number valued operands has.0 is
-behind_choice command (FieldOf number (Some separator)) valued operands has is =
-    behind_values command (codes "--field") number (codes "--separator" ∷ separator ∷ valued) operands has.0
-    (behind_values command (codes "--separator") separator valued operands has.1 is)
+-- those of a field, with what parts it from others
+abbrev parted_words : List ℕ → Separator → List (List ℕ)
+parted_words number separator = codes "--field" ∷ number ∷ separator_words (codes "--separator") separator
 
-only_choice : (command : Verb) (choice : Choice) (operands : List (List ℕ)) → HasFields command → list_any is_option operands ≡ false
-    → parts_from command (choice_words choice ++ operands) Any ≡ Ok (parts_with [] (choice_words choice) operands)
-only_choice command choice operands has none =
-    subst (λ (k : List (List ℕ)). parts_from command (k ++ operands) Any ≡ Ok (parts_with [] k operands)) (append-nil (choice_words choice))
-    (behind_choice command choice [] operands has (operands_alone command operands none))
+-- these before other words
+behind_parted : (command : Verb) (number : List ℕ) (separator : Separator) (valued operands : List (List ℕ)) → HasFields command
+    → parts_from command (valued ++ operands) Any ≡ Ok (parts_with [] valued operands)
+    → parts_from command ((parted_words number separator ++ valued) ++ operands) Any ≡ Ok (parts_with [] (parted_words number separator ++ valued) operands)
+behind_parted command number WhiteSpace valued operands has is = behind_values command (codes "--field") number valued operands has.0 is
+behind_parted command number (Byte byte) valued operands has is =
+    behind_values command (codes "--field") number (codes "--separator" ∷ (byte ∷ []) ∷ valued) operands has.0
+    (behind_values command (codes "--separator") (byte ∷ []) valued operands has.1 is)
+
+behind_field : (command : Verb) (number : List ℕ) (column : Option Column) (valued operands : List (List ℕ)) → HasFields command
+    → parts_from command (valued ++ operands) Any ≡ Ok (parts_with [] valued operands)
+    → parts_from command ((field_words number column ++ valued) ++ operands) Any ≡ Ok (parts_with [] (field_words number column ++ valued) operands)
+behind_field command number None valued operands has is = is
+behind_field command number (Some column) valued operands has is = behind_parted command number column.separator valued operands has is
+
+only_field : (command : Verb) (number : List ℕ) (column : Option Column) (operands : List (List ℕ)) → HasFields command → list_any is_option operands ≡ false
+    → parts_from command (field_words number column ++ operands) Any ≡ Ok (parts_with [] (field_words number column) operands)
+only_field command number column operands has none =
+    subst (λ (k : List (List ℕ)). parts_from command (k ++ operands) Any ≡ Ok (parts_with [] k operands)) (append-nil (field_words number column))
+    (behind_field command number column [] operands has (operands_alone command operands none))
 
 -- the options that tell how rows are read, of a command that has them
 abbrev HasForms : Verb → Type 0
@@ -123,7 +136,7 @@ HasForms command = (word_parts command Any (codes "--form") ≡ Ok (only_value (
 
 -- the words that tell two fields
 abbrev columns_words : Separator → List ℕ → List (List ℕ)
-columns_words separator numbers = separator_words separator ++ codes "--table-fields" ∷ numbers ∷ []
+columns_words separator numbers = separator_words (codes "--table-separator") separator ++ codes "--table-fields" ∷ numbers ∷ []
 
 behind_columns : (command : Verb) (separator : Separator) (numbers : List ℕ) (valued operands : List (List ℕ)) → HasForms command
     → parts_from command (valued ++ operands) Any ≡ Ok (parts_with [] valued operands)
@@ -277,15 +290,26 @@ module _ (count : List ℕ) where
   count_told (Some style) = refl
 
 -- as many networks as the options say, in the style that they say
-extent_asks : (every : Bool) (values : List (List ℕ)) (found : Option (List ℕ)) (extent : Extent) (style : Option Style) (options : List (List ℕ)) (pool len : List ℕ)
-    (used : List (List ℕ)) → has (codes "--all") options ≡ every → option_value verb.Free (codes "--count") values ≡ Ok found → extent_by every found ≡ Ok extent
+most_told : (every : Bool) (count : Option (List ℕ)) (most : Option ℕ) → IsMost every count most → most_by every count ≡ Ok most
+most_told false None most is = ap (λ (k : Option ℕ). Ok k) (sym is)
+most_told false (Some text) most (m, number, small, is) =
+    ap (λ (k : Option ℕ). and_then (ok_or k (misuse_text text NoCount [])) (λ (count : ℕ). Ok (Some count))) (number_some (2 ^ 64) text m number small) ∙ ap (λ (k : Option ℕ). Ok k) (sym is)
+most_told true None most is = ap (λ (k : Option ℕ). Ok k) (sym is)
+most_told true (Some text) most is = absurd is
+
+length_told : (len : List ℕ) (n : ℕ) → IsNumber len n × (n ≤ 128) → length_by len ≡ Ok n
+length_told len n (number, short) = ap (λ (k : Option ℕ). ok_or k (misuse_text len NoLength [])) (number_some 129 len n number (omega (arith, short)))
+
+free_asks : (values : List (List ℕ)) (count : Option (List ℕ)) (most : Option ℕ) (style : Option Style) (options : List (List ℕ)) (pool len : List ℕ) (n : ℕ)
+    (used : List (List ℕ)) → IsNumber len n × (n ≤ 128) → option_value verb.Free (codes "--count") values ≡ Ok count → IsMost (has (codes "--all") options) count most
     → style_in_values verb.Free values ≡ Ok style
-    → verb_request verb.Free (parts_with options values (pool ∷ len ∷ used)) ≡ Ok (Free style extent pool len used)
-extent_asks every values found extent style options pool len used is given by told =
-    let behind : Extent → Result Request (List ℕ) = λ one. and_then (style_in_values verb.Free values) (λ s. Ok (Free s one pool len used)) in
-    ap (λ (r : Result (Option (List ℕ)) (List ℕ)). and_then (and_then r (λ count. extent_by (has (codes "--all") options) count)) behind) given
-    ∙ (ap (λ (r : Result Extent (List ℕ)). and_then r behind) (ap (λ (b : Bool). extent_by b found) is ∙ by)
-    ∙ ap (λ (r : Result (Option Style) (List ℕ)). and_then r (λ s. Ok (Free s extent pool len used))) told)
+    → verb_request verb.Free (parts_with options values (pool ∷ len ∷ used)) ≡ Ok (Free style most pool n used)
+free_asks values count most style options pool len n used number given is told =
+    let behind : ℕ → Option ℕ → Result Request (List ℕ) = λ k one. and_then (style_in_values verb.Free values) (λ s. Ok (Free s one pool k used)) in
+    ap (λ (r : Result ℕ (List ℕ)). and_then r (λ k. and_then (most_in (parts_with options values (pool ∷ len ∷ used))) (behind k))) (length_told len n number)
+    ∙ (ap (λ (r : Result (Option (List ℕ)) (List ℕ)). and_then (and_then r (λ c. most_by (has (codes "--all") options) c)) (behind n)) given
+    ∙ (ap (λ (r : Result (Option ℕ) (List ℕ)). and_then r (behind n)) (most_told (has (codes "--all") options) count most is)
+    ∙ ap (λ (r : Result (Option Style) (List ℕ)). and_then r (λ s. Ok (Free s most pool n used))) told))
 
 -- what is asked of an access list
 abbrev json_words : List (List ℕ)
@@ -304,16 +328,55 @@ question_asks shadowed values found asked options file is given by =
     ∙ ap (λ (r : Result Question (List ℕ)). and_then r behind) (ap (λ (b : Bool). question_by b found values) is ∙ by)
 
 -- the field that match and look read
-no_output : (command : Verb) (choice : Choice) → IsUnset command (choice_words choice)
-no_output command FirstField = (refl, inr refl)
-no_output command (FieldOf number None) = (refl, inr refl)
-no_output command (FieldOf number (Some separator)) = (refl, inr refl)
+no_output_at : (command : Verb) (number : List ℕ) (separator : Separator) → IsUnset command (parted_words number separator)
+no_output_at command number WhiteSpace = (refl, inr refl)
+no_output_at command number (Byte byte) = (refl, inr refl)
 
-choice_asks : (command : Verb) (choice : Choice) (options operands : List (List ℕ)) → GoesWith choice options
-    → choice_in command (parts_with options (choice_words choice) operands) ≡ Ok choice
-choice_asks command FirstField options operands goes = refl
-choice_asks command (FieldOf number None) options operands goes = ap (λ (b : Bool). choice_by command (Some number) b None) goes
-choice_asks command (FieldOf number (Some separator)) options operands goes = ap (λ (b : Bool). choice_by command (Some number) b (Some separator)) goes
+no_output : (command : Verb) (number : List ℕ) (column : Option Column) → IsUnset command (field_words number column)
+no_output command number None = (refl, inr refl)
+no_output command number (Some column) = no_output_at command number column.separator
+
+-- the value of the option that tells what parts fields
+abbrev parted_by : Separator → Option (List ℕ)
+parted_by WhiteSpace = None
+parted_by (Byte byte) = Some (byte ∷ [])
+
+column_told : (number : List ℕ) (column : Column) → IsFieldPlace number column.place → column_by number (parted_by column.separator) ≡ Ok column
+column_told number column is = ap (λ (k : Option ℕ). column_at number k (parted_by column.separator)) (place_told number column.place is) ∙ parted_told column.separator
+  where
+    parted_told : (separator : Separator) → column_at number (Some column.place) (parted_by separator) ≡ Ok (record { place = column.place; separator = separator })
+    parted_told WhiteSpace = refl
+    parted_told (Byte byte) = refl
+
+field_told : (command : Verb) (number : List ℕ) (column : Column) (any : Bool) → any ≡ false → IsFieldPlace number column.place
+    → field_by command (Some number) any (parted_by column.separator) ≡ Ok (Some column)
+field_told command number column any goes is =
+    ap (λ (b : Bool). field_by command (Some number) b (parted_by column.separator)) goes
+    ∙ ap (λ (r : Result Column (List ℕ)). and_then r (λ one. Ok (Some one))) (column_told number column is)
+
+-- of the values of both options the field is told
+field_found : (command : Verb) (column : Option Column) (options values operands : List (List ℕ)) (number separator : Option (List ℕ))
+    → option_value command (codes "--field") values ≡ Ok number → option_value command (codes "--separator") values ≡ Ok separator
+    → field_by command number (has (codes "--any") options) separator ≡ Ok column → field_in command (parts_with options values operands) ≡ Ok column
+field_found command column options values operands number separator first second is =
+    let behind : Option (List ℕ) → Option (List ℕ) → Result (Option Column) (List ℕ) = λ n s. field_by command n (has (codes "--any") options) s in
+    ap (λ (r : Result (Option (List ℕ)) (List ℕ)). and_then r (λ n. and_then (option_value command (codes "--separator") values) (behind n))) first
+    ∙ (ap (λ (r : Result (Option (List ℕ)) (List ℕ)). and_then r (behind number)) second ∙ is)
+
+separator_found : (command : Verb) (number : List ℕ) (separator : Separator) → option_value command (codes "--separator") (parted_words number separator) ≡ Ok (parted_by separator)
+separator_found command number WhiteSpace = refl
+separator_found command number (Byte byte) = refl
+
+number_found : (command : Verb) (number : List ℕ) (separator : Separator) → option_value command (codes "--field") (parted_words number separator) ≡ Ok (Some number)
+number_found command number WhiteSpace = refl
+number_found command number (Byte byte) = refl
+
+field_asks : (command : Verb) (number : List ℕ) (column : Option Column) (options operands : List (List ℕ)) → IsField options number column
+    → field_in command (parts_with options (field_words number column) operands) ≡ Ok column
+field_asks command number None options operands goes = refl
+field_asks command number (Some column) options operands (goes, is) =
+    field_found command (Some column) options (field_words number (Some column)) operands (Some number) (parted_by column.separator) (number_found command number column.separator)
+    (separator_found command number column.separator) (field_told command number column (has (codes "--any") options) goes is)
 
 -- how the rows of a table are read: their layout, and the format of their values
 abbrev form_values : RowLayout → LineFormat → List (List ℕ)
@@ -423,44 +486,51 @@ no_separator_in command (Columns columns) format found =
     no_separator_in_at command columns.separator (decimal (columns.network + 1) ++ 44 ∷ decimal (columns.value + 1)) format found
 
 -- both, of `look`
-abbrev look_values : Choice → RowForm → List (List ℕ)
-look_values choice form = choice_words choice ++ form_values form.layout form.values
+abbrev look_values : List ℕ → Option Column → RowForm → List (List ℕ)
+look_values number column form = field_words number column ++ form_values form.layout form.values
 
-look_form : (choice : Choice) (form : RowForm) → HasNumbers form.layout → form_in verb.Look (look_values choice form) ≡ Ok form
-look_form FirstField form numbers = form_told verb.Look form.layout form.values numbers
-look_form (FieldOf number None) form numbers = form_told verb.Look form.layout form.values numbers
-look_form (FieldOf number (Some separator)) form numbers = form_told verb.Look form.layout form.values numbers
+module _ (number : List ℕ) (form : RowForm) where
+  abbrev parted_values : Separator → List (List ℕ)
+  parted_values separator = parted_words number separator ++ form_values form.layout form.values
 
-look_file : (choice : Choice) (form : RowForm) → option_value verb.Look (codes "-o") (look_values choice form) ≡ Ok None
-look_file FirstField form = no_file_in verb.Look form.layout form.values
-look_file (FieldOf number None) form = no_file_in verb.Look form.layout form.values
-look_file (FieldOf number (Some separator)) form = no_file_in verb.Look form.layout form.values
+  form_at : (separator : Separator) → HasNumbers form.layout → form_in verb.Look (parted_values separator) ≡ Ok form
+  form_at WhiteSpace numbers = form_told verb.Look form.layout form.values numbers
+  form_at (Byte byte) numbers = form_told verb.Look form.layout form.values numbers
+
+  file_at : (separator : Separator) → option_value verb.Look (codes "-o") (parted_values separator) ≡ Ok None
+  file_at WhiteSpace = no_file_in verb.Look form.layout form.values
+  file_at (Byte byte) = no_file_in verb.Look form.layout form.values
+
+  number_at : (separator : Separator) → option_value verb.Look (codes "--field") (parted_values separator) ≡ Ok (Some number)
+  number_at WhiteSpace = no_field_in verb.Look form.layout form.values (Some number)
+  number_at (Byte byte) = no_field_in verb.Look form.layout form.values (Some number)
+
+  separator_at : (separator : Separator) → option_value verb.Look (codes "--separator") (parted_values separator) ≡ Ok (parted_by separator)
+  separator_at WhiteSpace = no_separator_in verb.Look form.layout form.values None
+  separator_at (Byte byte) = no_separator_in verb.Look form.layout form.values (Some (byte ∷ []))
+
+  look_form : (column : Option Column) → HasNumbers form.layout → form_in verb.Look (look_values number column form) ≡ Ok form
+  look_form None numbers = form_told verb.Look form.layout form.values numbers
+  look_form (Some column) numbers = form_at column.separator numbers
+
+  look_file : (column : Option Column) → option_value verb.Look (codes "-o") (look_values number column form) ≡ Ok None
+  look_file None = no_file_in verb.Look form.layout form.values
+  look_file (Some column) = file_at column.separator
+
+  look_field : (column : Option Column) (options operands : List (List ℕ)) → IsField options number column
+      → field_in verb.Look (parts_with options (look_values number column form) operands) ≡ Ok column
+  look_field None options operands goes =
+      field_found verb.Look None options (look_values number None form) operands None None (no_field_in verb.Look form.layout form.values None)
+      (no_separator_in verb.Look form.layout form.values None) refl
+  look_field (Some column) options operands (goes, is) =
+      field_found verb.Look (Some column) options (look_values number (Some column) form) operands (Some number) (parted_by column.separator) (number_at column.separator)
+      (separator_at column.separator) (field_told verb.Look number column (has (codes "--any") options) goes is)
 
 -- its lines are kept in text alone
 keeps_told : (format : LineFormat) (keeps : Bool) → (format ≡ by_line.Json → keeps ≡ false) → may_keep format keeps ≡ Ok tt
 keeps_told by_line.Plain keeps goes = refl
 keeps_told by_line.Json false goes = refl
 keeps_told by_line.Json true goes = absurd (true≢false (goes refl))
-
-choice_found : (choice : Choice) (options values operands : List (List ℕ)) (number separator : Option (List ℕ)) → option_value verb.Look (codes "--field") values ≡ Ok number
-    → option_value verb.Look (codes "--separator") values ≡ Ok separator → choice_by verb.Look number (has (codes "--any") options) separator ≡ Ok choice
-    → choice_in verb.Look (parts_with options values operands) ≡ Ok choice
-choice_found choice options values operands number separator first second is =
-    let behind : Option (List ℕ) → Option (List ℕ) → Result Choice (List ℕ) = λ n s. choice_by verb.Look n (has (codes "--any") options) s in
-    ap (λ (r : Result (Option (List ℕ)) (List ℕ)). and_then r (λ n. and_then (option_value verb.Look (codes "--separator") values) (behind n))) first
-    ∙ (ap (λ (r : Result (Option (List ℕ)) (List ℕ)). and_then r (behind number)) second ∙ is)
-
-look_choice : (choice : Choice) (form : RowForm) (options operands : List (List ℕ)) → GoesWith choice options
-    → choice_in verb.Look (parts_with options (look_values choice form) operands) ≡ Ok choice
-look_choice FirstField form options operands goes =
-    choice_found FirstField options (look_values FirstField form) operands None None (no_field_in verb.Look form.layout form.values None) (no_separator_in verb.Look form.layout form.values None) refl
-look_choice (FieldOf number None) form options operands goes =
-    choice_found (FieldOf number None) options (look_values (FieldOf number None) form) operands (Some number) None (no_field_in verb.Look form.layout form.values (Some number))
-    (no_separator_in verb.Look form.layout form.values None) (ap (λ (b : Bool). choice_by verb.Look (Some number) b None) goes)
-look_choice (FieldOf number (Some separator)) form options operands goes =
-    choice_found (FieldOf number (Some separator)) options (look_values (FieldOf number (Some separator)) form) operands (Some number) (Some separator)
-    (no_field_in verb.Look form.layout form.values (Some number)) (no_separator_in verb.Look form.layout form.values (Some separator))
-    (ap (λ (b : Bool). choice_by verb.Look (Some number) b (Some separator)) goes)
 
 -- no file, where -k and --skip-bad are not both given
 none_by : (command : Verb) (keeps skips : Bool) → (keeps && skips) ≡ false → target_by command keeps skips None ≡ Ok None
@@ -530,28 +600,30 @@ module _ (words options : List (List ℕ)) where
   plain_asks command operands request (is, all, no_page, none, enough) fits made =
       line_asks command [] [] operands (is, all, no_page, none, enough) (operands_alone command operands none) fits (refl, inr refl) request made
 
-  match_asks : (choice : Choice) (operands : List (List ℕ)) (request : Request) → GoesWith choice options
-      → AreTyped verb.Match options (choice_words choice) operands words
-      → match_by choice (parts_with options (choice_words choice) operands) (slice_get operands 2) ≡ request → Asks request
-  match_asks choice operands request goes (is, all, no_page, none, enough) made =
-      line_asks verb.Match (choice_words choice) (choice_words choice) operands (is, all, no_page, none, enough) (only_choice verb.Match choice operands (refl, refl) none) refl (no_output verb.Match choice) request
-      (ap (λ (r : Result Choice (List ℕ)). and_then r (λ one. Ok (match_by one (parts_with options (choice_words choice) operands) (slice_get operands 2))))
-      (choice_asks verb.Match choice options operands goes)
+  match_asks : (number : List ℕ) (column : Option Column) (operands : List (List ℕ)) (request : Request) → IsField options number column
+      → AreTyped verb.Match options (field_words number column) operands words
+      → match_by (picking_of options column) operands (slice_get operands 2) ≡ request → Asks request
+  match_asks number column operands request goes (is, all, no_page, none, enough) made =
+      line_asks verb.Match (field_words number column) (field_words number column) operands (is, all, no_page, none, enough) (only_field verb.Match number column operands (refl, refl) none) refl
+      (no_output verb.Match number column) request
+      (ap (λ (r : Result (Option Column) (List ℕ)). and_then r (λ one. Ok (match_by (picking_of options one) operands (slice_get operands 2))))
+      (field_asks verb.Match number column options operands goes)
       ∙ ap (λ (k : Request). Ok k) made)
 
-  look_asks : (choice : Choice) (form : RowForm) (operands : List (List ℕ)) (request : Request) → GoesWith choice options
+  look_asks : (number : List ℕ) (column : Option Column) (form : RowForm) (operands : List (List ℕ)) (request : Request) → IsField options number column
       → (form.values ≡ by_line.Json → has (codes "--keep") options ≡ false) → HasNumbers form.layout
-      → AreTyped verb.Look options (look_values choice form) operands words → extra_operand verb.Look operands ≡ None
-      → Look choice form options (operand_or operands 0 []) (operand_or operands 1 input_name) ≡ request → Asks request
-  look_asks choice form operands request goes keeps numbers (is, all, no_page, none, enough) fits made =
-      let values = look_values choice form in
+      → AreTyped verb.Look options (look_values number column form) operands words → extra_operand verb.Look operands ≡ None
+      → Look (seeking_of options column form) (operand_or operands 0 []) (operand_or operands 1 input_name) ≡ request → Asks request
+  look_asks number column form operands request goes keeps numbers (is, all, no_page, none, enough) fits made =
+      let values = look_values number column form in
       let parts = parts_with options values operands in
       line_asks verb.Look values values operands (is, all, no_page, none, enough)
-      (behind_choice verb.Look choice (form_values form.layout form.values) operands (refl, refl)
-      (behind_layout verb.Look form.layout (style_words (line_style form.values)) operands (refl, refl, refl) (behind_format form.values operands none))) fits (look_file choice form, inl refl) request
-      (ap (λ (r : Result Choice (List ℕ)). and_then r (λ one. and_then (form_in verb.Look values) (λ f. look_by one f parts))) (look_choice choice form options operands goes)
-      ∙ (ap (λ (r : Result RowForm (List ℕ)). and_then r (λ f. look_by choice f parts)) (look_form choice form numbers)
-      ∙ (ap (λ (r : Result (Unit {0}) (List ℕ)). and_then r (λ _. Ok (Look choice form options (operand_or operands 0 []) (operand_or operands 1 input_name))))
+      (behind_field verb.Look number column (form_values form.layout form.values) operands (refl, refl)
+      (behind_layout verb.Look form.layout (style_words (line_style form.values)) operands (refl, refl, refl) (behind_format form.values operands none))) fits
+      (look_file number form column, inl refl) request
+      (ap (λ (r : Result (Option Column) (List ℕ)). and_then r (λ one. and_then (form_in verb.Look values) (λ f. look_by one f parts))) (look_field number form column options operands goes)
+      ∙ (ap (λ (r : Result RowForm (List ℕ)). and_then r (λ f. look_by column f parts)) (look_form number form column numbers)
+      ∙ (ap (λ (r : Result (Unit {0}) (List ℕ)). and_then r (λ _. Ok (Look (seeking_of options column form) (operand_or operands 0 []) (operand_or operands 1 input_name))))
       (keeps_told form.values (has (codes "--keep") options) keeps)
       ∙ ap (λ (k : Request). Ok k) made)))
 
@@ -576,19 +648,15 @@ module _ (words options : List (List ℕ)) where
   typed_asks (Diff by_line.Json old new) (is, all, no_page, none, enough) =
       line_asks verb.Diff json_words json_words (old ∷ new ∷ []) (is, all, no_page, none, enough)
       (behind_value verb.Diff (codes "--format") (codes "json") (old ∷ new ∷ []) refl none) refl (refl, inr refl) (Diff by_line.Json old new) refl
-  typed_asks (Free style First pool len used) (plain, one, (is, all, no_page, none, enough)) =
+  typed_asks (Free style most pool n used) (plain, None, of_these, len, number, (is, all, no_page, none, enough)) =
       line_asks verb.Free (style_words style) (style_words style) (pool ∷ len ∷ used) (is, all, no_page, none, enough)
-      (behind_style verb.Free style (pool ∷ len ∷ used) refl none) refl (no_file_told verb.Free style) (Free style First pool len used)
-      (extent_asks false (style_words style) None First style options pool len used one (no_count_told style) refl (style_told verb.Free style plain))
-  typed_asks (Free style (Count count) pool len used) (plain, one, (is, all, no_page, none, enough)) =
+      (behind_style verb.Free style (pool ∷ len ∷ used) refl none) refl (no_file_told verb.Free style) (Free style most pool n used)
+      (free_asks (style_words style) None most style options pool len n used number (no_count_told style) of_these (style_told verb.Free style plain))
+  typed_asks (Free style most pool n used) (plain, Some count, of_these, len, number, (is, all, no_page, none, enough)) =
       line_asks verb.Free (counted_words count style) (counted_words count style) (pool ∷ len ∷ used) (is, all, no_page, none, enough)
       (behind_values verb.Free (codes "--count") count (style_words style) (pool ∷ len ∷ used) refl (behind_style verb.Free style (pool ∷ len ∷ used) refl none)) refl
-      (counted_file count style) (Free style (Count count) pool len used)
-      (extent_asks false (counted_words count style) (Some count) (Count count) style options pool len used one (count_told count style) refl (counted_style count style plain))
-  typed_asks (Free style All pool len used) (plain, every, (is, all, no_page, none, enough)) =
-      line_asks verb.Free (style_words style) (style_words style) (pool ∷ len ∷ used) (is, all, no_page, none, enough)
-      (behind_style verb.Free style (pool ∷ len ∷ used) refl none) refl (no_file_told verb.Free style) (Free style All pool len used)
-      (extent_asks true (style_words style) None All style options pool len used every (no_count_told style) refl (style_told verb.Free style plain))
+      (counted_file count style) (Free style most pool n used)
+      (free_asks (counted_words count style) (Some count) most style options pool len n used number (count_told count style) of_these (counted_style count style plain))
   typed_asks (Acl (Permitted style) file) (of_these, plain, (is, all, no_page, none, enough)) =
       line_asks verb.Acl (style_words style) (style_words style) (file ∷ []) (is, all, no_page, none, enough)
       (behind_style verb.Acl style (file ∷ []) refl none) refl (no_file_told verb.Acl style) (Acl (Permitted style) file)
@@ -613,21 +681,21 @@ module _ (words options : List (List ℕ)) where
       (ap (λ (r : Result (Option Style) (List ℕ)). and_then r (λ s. Ok (Split s operand len))) (style_told verb.Split style plain))
   typed_asks (Check files) typed = plain_asks verb.Check files (Check files) typed refl refl
   typed_asks (Which address files) typed = plain_asks verb.Which (address ∷ files) (Which address files) typed refl refl
-  typed_asks (Match choice given list file) (same, goes, inl typed) =
-      match_asks choice (list ∷ file ∷ []) (Match choice given list file) goes typed (ap (λ (k : List (List ℕ)). Match choice k list file) (sym same))
-  typed_asks (Match choice given list file) (same, goes, inr (input, typed)) =
-      match_asks choice (list ∷ []) (Match choice given list file) goes typed
-      (ap (λ (k : List (List ℕ)). Match choice k list input_name) (sym same) ∙ ap (λ (k : List ℕ). Match choice given list k) (sym input))
-  typed_asks (MatchEach choice given list []) typed = absurd typed
-  typed_asks (MatchEach choice given list (first ∷ [])) typed = absurd typed
-  typed_asks (MatchEach choice given list (first ∷ second ∷ files)) (same, goes, typed) =
-      match_asks choice (list ∷ first ∷ second ∷ files) (MatchEach choice given list (first ∷ second ∷ files)) goes typed
-      (ap (λ (k : List (List ℕ)). MatchEach choice k list (first ∷ second ∷ files)) (sym same))
-  typed_asks (Look choice form given table file) (same, goes, keeps, numbers, inl typed) =
-      look_asks choice form (table ∷ file ∷ []) (Look choice form given table file) goes keeps numbers typed refl (ap (λ (k : List (List ℕ)). Look choice form k table file) (sym same))
-  typed_asks (Look choice form given table file) (same, goes, keeps, numbers, inr (input, typed)) =
-      look_asks choice form (table ∷ []) (Look choice form given table file) goes keeps numbers typed refl
-      (ap (λ (k : List (List ℕ)). Look choice form k table input_name) (sym same) ∙ ap (λ (k : List ℕ). Look choice form given table k) (sym input))
+  typed_asks (Match picking list file) (number, column, same, goes, inl typed) =
+      match_asks number column (list ∷ file ∷ []) (Match picking list file) goes typed (ap (λ (k : Picking). Match k list file) (sym same))
+  typed_asks (Match picking list file) (number, column, same, goes, inr (input, typed)) =
+      match_asks number column (list ∷ []) (Match picking list file) goes typed
+      (ap (λ (k : Picking). Match k list input_name) (sym same) ∙ ap (λ (k : List ℕ). Match picking list k) (sym input))
+  typed_asks (MatchEach picking list []) typed = absurd typed
+  typed_asks (MatchEach picking list (first ∷ [])) typed = absurd typed
+  typed_asks (MatchEach picking list (first ∷ second ∷ files)) (number, column, same, goes, typed) =
+      match_asks number column (list ∷ first ∷ second ∷ files) (MatchEach picking list (first ∷ second ∷ files)) goes typed
+      (ap (λ (k : Picking). MatchEach k list (first ∷ second ∷ files)) (sym same))
+  typed_asks (Look seeking table file) (number, column, same, goes, keeps, numbers, inl typed) =
+      look_asks number column seeking.form (table ∷ file ∷ []) (Look seeking table file) goes keeps numbers typed refl (ap (λ (k : Seeking). Look k table file) (sym same))
+  typed_asks (Look seeking table file) (number, column, same, goes, keeps, numbers, inr (input, typed)) =
+      look_asks number column seeking.form (table ∷ []) (Look seeking table file) goes keeps numbers typed refl
+      (ap (λ (k : Seeking). Look k table input_name) (sym same) ∙ ap (λ (k : List ℕ). Look seeking table k) (sym input))
   typed_asks (Compile form table name) (plain, numbers, (is, all, no_page, none, enough)) =
       line_asks verb.Compile (layout_words form.layout) (layout_words form.layout) (table ∷ name ∷ []) (is, all, no_page, none, enough)
       (only_layout verb.Compile form.layout (table ∷ name ∷ []) (refl, refl, refl) none) refl (no_file_of verb.Compile form.layout, inl refl) (Compile form table name)

@@ -1,6 +1,6 @@
 -- The words of a command line as options and operands, and the request that they are. Options are those of POSIX.1-2024,
 -- XBD 12.2, guidelines 4 to 6 and 10, and long ones, which begin with --; they may also stand behind operands.
-use Rattle.std.specs.Prelude.{ℕ, ◌-◌, ◌^◌, ◌==◌, nat_eq, nat_lt, Bool, true, false, not, if◌then◌else◌, ◌&&◌, ◌||◌, List, [], ◌∷◌, ◌++◌, length, drop, map, codes, Option, Some, None, Result, Ok, Err, slice_get, slice_index, ok_or, unwrap_or, option_and_then}
+use Rattle.std.specs.Prelude.{ℕ, zero, suc, ◌^◌, ◌==◌, nat_eq, nat_lt, Bool, true, false, not, if◌then◌else◌, ◌&&◌, ◌||◌, List, [], ◌∷◌, ◌++◌, length, drop, map, codes, Option, Some, None, Result, Ok, Err, slice_get, slice_index, ok_or, unwrap_or, option_and_then}
 use Rattle.std.specs.Char.{digit_value}
 use Rattle.std.specs.List.{after_first, before_first, find, list_all, starts_with}
 use Rattle.std.specs.Str.Parse.{digits_value, without_leading_plus}
@@ -8,6 +8,7 @@ use Rattle.cidr_io.specs.Shown.{excerpt}
 use Rattle.cidr_lists.specs.Formats.{Style, bare, format_of}
 use Rattle.cidr_lists.specs.Rules.{Question, Permitted, Shadowed, Compared}
 use Rattle.cidr.specs.declared.family.Family.TheVariants.{Ipv4, Ipv6}
+use Rattle.cidr_lists.specs.declared.columns.Column.{Column}
 use Rattle.cidr_lists.specs.declared.columns.Separator.{Separator}
 use Rattle.cidr_lists.specs.declared.columns.Separator.TheVariants.{WhiteSpace, Byte}
 use Rattle.cidr_lists.specs.declared.forms.RowForm.{RowForm}
@@ -20,19 +21,19 @@ use Rattle.cidr_lists.specs.declared.formats.Format.TheVariants as format
 use Rattle.cidr_lists.specs.declared.formats.LineFormat.{LineFormat}
 use Rattle.cidr_lists.specs.declared.formats.LineFormat.TheVariants as by_line
 use Rattle.netset_commands.specs.Commands.{Request, Lists, Styled, NotIn, Diff, Same, Free, Acl, Split, Check, Which, Match, MatchEach, Look, Compile, Smallest, Describe, Class, Single, Help, Version, bits_of, input_name, reading_of}
-use Rattle.netset_commands.specs.Free.{Extent, First, Count, All}
 use Rattle.netset_commands.specs.Matching.{has, is_word}
-use Rattle.netset_commands.specs.Picking.{Choice, FirstField, FieldOf}
+use Rattle.netset_commands.specs.Picking.{picking_of, seeking_of}
 use Rattle.netset_commands.specs.Single.{Show, Nth}
 use Rattle.netset_commands.specs.Table.{commands, name_of, command_row, takes_value}
 use Rattle.netset_commands.specs.declared.commands.Reading.{Reading}
 use Rattle.netset_commands.specs.declared.commands.arguments.Next.{Next}
 use Rattle.netset_commands.specs.declared.commands.arguments.Next.TheVariants.{Any, Value, Operand}
 use Rattle.netset_commands.specs.declared.commands.operations.Operation.{Operation}
+use Rattle.netset_commands.specs.declared.commands.picking.Picking.{Picking}
 use Rattle.netset_commands.specs.declared.commands.table.Verb.{Verb}
 use Rattle.netset_commands.specs.declared.commands.table.Verb.TheVariants as verb
 use Rattle.netset_commands.specs.declared.errors.Misfit.{Misfit}
-use Rattle.netset_commands.specs.declared.errors.Misfit.TheVariants.{Unnamed, NoCommand, NoOption, Missing, Extra, NoFormat, NotPlain, NoField, Anywhere, Skipping, NoLineFormat, WithShadowed, WithDiff, NoForm, NoListForm, NotOneByte, NoFields, WithForm, WithJson}
+use Rattle.netset_commands.specs.declared.errors.Misfit.TheVariants.{Unnamed, NoCommand, NoOption, Missing, Extra, NoFormat, NotPlain, NoField, Anywhere, Skipping, NoLineFormat, WithShadowed, WithDiff, NoForm, NoListForm, NotOneByte, NoFields, WithForm, WithJson, NoLength, NoCount, NoNumber, NoByte}
 
 -- ---- the line of a word that is wrong
 abbrev pub misfit_text : Misfit → List ℕ
@@ -55,8 +56,12 @@ misfit_text NotOneByte = codes ": more or less than one byte, see: netset help "
 misfit_text NoFields = codes ": not the numbers of two fields, see: netset help "
 misfit_text WithForm = codes ": not with --form, see: netset help "
 misfit_text WithJson = codes ": not with the format json, see: netset help "
+misfit_text NoLength = codes ": no prefix length inside the network"
+misfit_text NoCount = codes ": no count below 2^64"
+misfit_text NoNumber = codes ": no number of a field, from 1 on"
+misfit_text NoByte = codes ": more or less than one byte"
 
--- the word or what is missing, what is wrong with it, and the command whose page is to be seen
+-- the word or what is missing, what is wrong with it, and the command whose page is to be seen, if one is
 abbrev pub misuse_text : List ℕ → Misfit → List ℕ → List ℕ
 misuse_text word why command = excerpt word ++ (misfit_text why ++ (command ++ codes "\n"))
 
@@ -254,19 +259,34 @@ abbrev pub lists_request : Operation → List (List ℕ) → List (List ℕ) →
 lists_request operation values files = and_then (option_value (verb.Lists operation) (codes "--in") values)
     (λ net. and_then (style_in_values (verb.Lists operation) values) (λ style. Ok (made_request operation net style files)))
 
--- how many networks free is to tell: by the value of --count, or by --all, or the first
-abbrev pub extent_by : Bool → Option (List ℕ) → Result Extent (List ℕ)
-extent_by false None = Ok First
-extent_by true None = Ok All
-extent_by false (Some count) = Ok (Count count)
-extent_by true (Some count) = Err (misuse_text (codes "--all") Extra (codes "free"))
+-- the number below a bound that digits are, perhaps with a plus in front
+abbrev pub digits_below : ℕ → List ℕ → Option ℕ
+digits_below bound digits = if nat_lt 0 (length digits) && list_all (λ c. nat_lt (digit_value c) 10) digits && nat_lt (digits_value 10 digits) bound
+    then Some (digits_value 10 digits) else None
 
-abbrev pub extent_in : Parts → Result Extent (List ℕ)
-extent_in parts = and_then (option_value verb.Free (codes "--count") parts.values) (λ count. extent_by (has (codes "--all") parts.options) count)
+abbrev pub number_below : ℕ → List ℕ → Option ℕ
+number_below bound text = digits_below bound (without_leading_plus text)
+
+-- a prefix length
+abbrev pub length_by : List ℕ → Result ℕ (List ℕ)
+length_by text = ok_or (number_below 129 text) (misuse_text text NoLength [])
+
+-- how many networks free is to tell at most: as the value of --count says, or all by --all, or the first
+abbrev pub count_by : List ℕ → Result ℕ (List ℕ)
+count_by text = ok_or (number_below (2 ^ 64) text) (misuse_text text NoCount [])
+
+abbrev pub most_by : Bool → Option (List ℕ) → Result (Option ℕ) (List ℕ)
+most_by false None = Ok (Some 1)
+most_by true None = Ok None
+most_by false (Some text) = and_then (count_by text) (λ count. Ok (Some count))
+most_by true (Some text) = Err (misuse_text (codes "--all") Extra (codes "free"))
+
+abbrev pub most_in : Parts → Result (Option ℕ) (List ℕ)
+most_in parts = and_then (option_value verb.Free (codes "--count") parts.values) (λ count. most_by (has (codes "--all") parts.options) count)
 
 abbrev pub free_request : Parts → Result Request (List ℕ)
-free_request parts = and_then (extent_in parts) (λ extent. and_then (style_in_values verb.Free parts.values)
-    (λ style. Ok (Free style extent (operand_or parts.operands 0 []) (operand_or parts.operands 1 []) (drop 2 parts.operands))))
+free_request parts = and_then (length_by (operand_or parts.operands 1 [])) (λ n. and_then (most_in parts) (λ most. and_then (style_in_values verb.Free parts.values)
+    (λ style. Ok (Free style most (operand_or parts.operands 0 []) n (drop 2 parts.operands)))))
 
 abbrev pub split_request : Parts → Result Request (List ℕ)
 split_request parts = and_then (style_in_values verb.Split parts.values)
@@ -315,24 +335,46 @@ abbrev pub help_request : List (List ℕ) → Result Request (List ℕ)
 help_request [] = Ok (Help None)
 help_request (word ∷ words) = and_then (named_verb word) (λ command. Ok (Help (Some command)))
 
+-- what parts the fields of lines: one byte, or white space
+abbrev pub separator_by : Misfit → List ℕ → Option (List ℕ) → Result Separator (List ℕ)
+separator_by why command None = Ok WhiteSpace
+separator_by why command (Some (byte ∷ [])) = Ok (Byte byte)
+separator_by why command (Some text) = Err (misuse_text text why command)
+
+-- the index of a field, counted from 0, by its number, from 1 on
+abbrev pub before : ℕ → Option ℕ
+before zero = None
+before (suc n) = Some n
+
+abbrev pub place_by : List ℕ → Option ℕ
+place_by number = option_and_then before (number_below (2 ^ 64) number)
+
+-- the field at this index, if the number was one, with what parts it from others
+abbrev pub column_at : List ℕ → Option ℕ → Option (List ℕ) → Result Column (List ℕ)
+column_at number None separator = Err (misuse_text number NoNumber [])
+column_at number (Some place) separator = and_then (separator_by NoByte [] separator) (λ parted. Ok (record { place = place; separator = parted }))
+
+abbrev pub column_by : List ℕ → Option (List ℕ) → Result Column (List ℕ)
+column_by number separator = column_at number (place_by number) separator
+
+-- the field that match and look read, if one is told: by the value of --field, whether --any is given, and the value of --separator
+abbrev pub field_by : Verb → Option (List ℕ) → Bool → Option (List ℕ) → Result (Option Column) (List ℕ)
+field_by command None any None = Ok None
+field_by command None any (Some separator) = Err (misuse_text (codes "--separator") NoField (name_of command))
+field_by command (Some number) false separator = and_then (column_by number separator) (λ column. Ok (Some column))
+field_by command (Some number) true separator = Err (misuse_text (codes "--field") Anywhere (name_of command))
+
+abbrev pub field_in : Verb → Parts → Result (Option Column) (List ℕ)
+field_in command parts = and_then (option_value command (codes "--field") parts.values) (λ number. and_then (option_value command (codes "--separator") parts.values)
+    (λ separator. field_by command number (has (codes "--any") parts.options) separator))
+
 -- the command match, of several files where there is a third operand, and else of one or of the standard input
-abbrev pub match_by : Choice → Parts → Option (List ℕ) → Request
-match_by choice parts None = Match choice parts.options (operand_or parts.operands 0 []) (operand_or parts.operands 1 input_name)
-match_by choice parts (Some third) = MatchEach choice parts.options (operand_or parts.operands 0 []) (drop 1 parts.operands)
-
--- the field that match and look read, by the value of --field, whether --any is given, and the value of --separator
-abbrev pub choice_by : Verb → Option (List ℕ) → Bool → Option (List ℕ) → Result Choice (List ℕ)
-choice_by command None any None = Ok FirstField
-choice_by command None any (Some separator) = Err (misuse_text (codes "--separator") NoField (name_of command))
-choice_by command (Some number) false separator = Ok (FieldOf number separator)
-choice_by command (Some number) true separator = Err (misuse_text (codes "--field") Anywhere (name_of command))
-
-abbrev pub choice_in : Verb → Parts → Result Choice (List ℕ)
-choice_in command parts = and_then (option_value command (codes "--field") parts.values) (λ number. and_then (option_value command (codes "--separator") parts.values)
-    (λ separator. choice_by command number (has (codes "--any") parts.options) separator))
+abbrev pub match_by : Picking → List (List ℕ) → Option (List ℕ) → Request
+match_by picking operands None = Match picking (operand_or operands 0 []) (operand_or operands 1 input_name)
+match_by picking operands (Some third) = MatchEach picking (operand_or operands 0 []) (drop 1 operands)
 
 abbrev pub match_request : Parts → Result Request (List ℕ)
-match_request parts = and_then (choice_in verb.Match parts) (λ choice. Ok (match_by choice parts (slice_get parts.operands 2)))
+match_request parts = and_then (field_in verb.Match parts) (λ column. Ok (match_by (picking_of parts.options column) parts.operands (slice_get parts.operands 2)))
 
 -- the layout of a form of this name
 abbrev pub named_layout : Verb → List ℕ → Result RowLayout (List ℕ)
@@ -340,20 +382,6 @@ named_layout command name = if is_word (codes "pfx2as") name then Ok Pfx2as
     else if is_word (codes "routes") name then Ok (Routes Ipv4)
     else if is_word (codes "routes6") name then Ok (Routes Ipv6)
     else Err (misuse_text name NoForm (name_of command))
-
--- what parts the fields of rows: one byte, or white space
-abbrev pub separator_by : Verb → Option (List ℕ) → Result Separator (List ℕ)
-separator_by command None = Ok WhiteSpace
-separator_by command (Some (byte ∷ [])) = Ok (Byte byte)
-separator_by command (Some text) = Err (misuse_text text NotOneByte (name_of command))
-
--- the index of a field, counted from 0, by its number, from 1 on
-abbrev pub numbered : List ℕ → Option ℕ
-numbered digits = if list_all (λ c. nat_lt (digit_value c) 10) digits && nat_lt 0 (digits_value 10 digits) && nat_lt (digits_value 10 digits) (2 ^ 64)
-    then Some (digits_value 10 digits - 1) else None
-
-abbrev pub place_by : List ℕ → Option ℕ
-place_by number = numbered (without_leading_plus number)
 
 -- that of fields of which two are told
 abbrev pub columns_by : Verb → Separator → List ℕ → Option ℕ → Option ℕ → Result RowLayout (List ℕ)
@@ -371,7 +399,7 @@ fields_by command separator (Some numbers) =
 
 -- how the rows of a table are laid out, by the values of --form, --table-separator and --table-fields: the first with none of these
 abbrev pub layout_by : Verb → Option (List ℕ) → Option (List ℕ) → Option (List ℕ) → Result RowLayout (List ℕ)
-layout_by command None separator numbers = and_then (separator_by command separator) (λ parted. fields_by command parted numbers)
+layout_by command None separator numbers = and_then (separator_by NotOneByte (name_of command) separator) (λ parted. fields_by command parted numbers)
 layout_by command (Some name) None None = named_layout command name
 layout_by command (Some name) (Some separator) numbers = Err (misuse_text (codes "--table-separator") WithForm (name_of command))
 layout_by command (Some name) None (Some numbers) = Err (misuse_text (codes "--table-fields") WithForm (name_of command))
@@ -393,12 +421,12 @@ may_keep by_line.Json false = Ok tt
 may_keep by_line.Json true = Err (misuse_text (codes "--keep") WithJson (codes "look"))
 
 -- the command look, of a table and a file or the standard input
-abbrev pub look_by : Choice → RowForm → Parts → Result Request (List ℕ)
-look_by choice form parts = and_then (may_keep form.values (has (codes "--keep") parts.options))
-    (λ _. Ok (Look choice form parts.options (operand_or parts.operands 0 []) (operand_or parts.operands 1 input_name)))
+abbrev pub look_by : Option Column → RowForm → Parts → Result Request (List ℕ)
+look_by column form parts = and_then (may_keep form.values (has (codes "--keep") parts.options))
+    (λ _. Ok (Look (seeking_of parts.options column form) (operand_or parts.operands 0 []) (operand_or parts.operands 1 input_name)))
 
 abbrev pub look_request : Parts → Result Request (List ℕ)
-look_request parts = and_then (choice_in verb.Look parts) (λ choice. and_then (form_in verb.Look parts.values) (λ form. look_by choice form parts))
+look_request parts = and_then (field_in verb.Look parts) (λ column. and_then (form_in verb.Look parts.values) (λ form. look_by column form parts))
 
 abbrev pub compile_request : Parts → Result Request (List ℕ)
 compile_request parts = and_then (form_in verb.Compile parts.values)

@@ -4,15 +4,9 @@ use Rattle.cidr_lists.specs.Formats.{style_in}
 use Rattle.cidr_lists.specs.Rules.{Question, Permitted, Shadowed, Compared}
 use Rattle.netset_commands.specs.Arguments.{Parts, joined_arguments, misuse_text}
 use Rattle.netset_commands.specs.Commands.{Request, Lists, Styled, NotIn, Diff, Same, Free, Acl, Split, Check, Which, Match, MatchEach, Look, Compile, Smallest, Describe, Class, Single as ASingle, Help, Version}
-use Rattle.netset_commands.specs.Free.{Extent, First, Count, All}
-use Rattle.netset_commands.specs.Picking.{Choice, FirstField, FieldOf}
 use Rattle.netset_commands.specs.Table.{texts}
 use Rattle.netset_commands.specs.declared.commands.acl.Question.{Question as GivenQuestion}
 use Rattle.netset_commands.specs.declared.commands.acl.Question.TheVariants as question
-use Rattle.netset_commands.specs.declared.commands.free.Extent.{Extent as GivenExtent}
-use Rattle.netset_commands.specs.declared.commands.free.Extent.TheVariants as extent
-use Rattle.netset_commands.specs.declared.commands.picking.Choice.{Choice as GivenChoice}
-use Rattle.netset_commands.specs.declared.commands.picking.Choice.TheVariants as choice
 use Rattle.netset_commands.specs.declared.commands.arguments.Next.{Next}
 use Rattle.netset_commands.specs.declared.commands.arguments.Parts.{Parts as GivenParts}
 use Rattle.netset_commands.specs.declared.errors.Misuse.{Misuse}
@@ -30,20 +24,9 @@ abbrev pub single_request : Single → SingleRequest
 single_request (single.Show host) = Show host.now
 single_request (single.Nth net place) = Nth net.now place.now
 
--- how many free networks, with the bytes of the argument
-abbrev pub extent_of : GivenExtent → Extent
-extent_of extent.First = First
-extent_of (extent.Count text) = Count text.now
-extent_of extent.All = All
-
 -- a value that is given, by its bytes
 abbrev pub given : Option (Bor (List ℕ)) → Option (List ℕ)
 given word = option_map (λ (w : Bor (List ℕ)). w.now) word
-
--- the field of which each line is read, with the bytes of the arguments
-abbrev pub choice_of : GivenChoice → Choice
-choice_of choice.First = FirstField
-choice_of (choice.Field number separator) = FieldOf number.now (given separator)
 
 -- what is asked of an access list, with the bytes of the arguments
 abbrev pub question_of : GivenQuestion → Question
@@ -58,14 +41,14 @@ request_of (command.Styled style operation files) = Styled (style_in style) oper
 request_of (command.NotIn style net files) = NotIn (option_map (λ s. style_in s) style) net.now (map (λ file. file.now) files.now)
 request_of (command.Diff format old new) = Diff format old.now new.now
 request_of (command.Same form old new) = Same form old.now new.now
-request_of (command.Free style extent pool len used) = Free (option_map (λ s. style_in s) style) (extent_of extent) pool.now len.now (map (λ file. file.now) used.now)
+request_of (command.Free style most pool n used) = Free (option_map (λ s. style_in s) style) most pool.now n (map (λ file. file.now) used.now)
 request_of (command.Acl asked file) = Acl (question_of asked) file.now
 request_of (command.Split style operand len) = Split (option_map (λ s. style_in s) style) operand.now len.now
 request_of (command.Check files) = Check (map (λ file. file.now) files.now)
 request_of (command.Which address files) = Which address.now (map (λ file. file.now) files.now)
-request_of (command.Match choice options list file) = Match (choice_of choice) (map (λ w. w.now) options.now) list.now file.now
-request_of (command.MatchEach choice options list files) = MatchEach (choice_of choice) (map (λ w. w.now) options.now) list.now (map (λ file. file.now) files.now)
-request_of (command.Look choice form options table file) = Look (choice_of choice) form (map (λ w. w.now) options.now) table.now file.now
+request_of (command.Match picking list file) = Match picking list.now file.now
+request_of (command.MatchEach picking list files) = MatchEach picking list.now (map (λ file. file.now) files.now)
+request_of (command.Look seeking table file) = Look seeking table.now file.now
 request_of (command.Compile form table name) = Compile form table.now name.now
 request_of (command.Smallest holes form table) = Smallest holes form table.now
 request_of (command.Describe what operand) = Describe what operand.now

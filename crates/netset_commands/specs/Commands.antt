@@ -11,7 +11,7 @@ use Rattle.netset_commands.specs.Class.{IsClassOf}
 use Rattle.netset_commands.specs.Compiled.{HasTable}
 use Rattle.netset_commands.specs.Describing.{IsNoLength, IsOfLength, told_of}
 use Rattle.netset_commands.specs.Findings.{IsCheck, IsClean}
-use Rattle.netset_commands.specs.Free.{Extent, IsFreeText, IsMost, all_told}
+use Rattle.netset_commands.specs.Free.{IsFreeText, all_told}
 use Rattle.netset_commands.specs.Look.{IsLook}
 use Rattle.cidr_lists.specs.Lists.{Text, ListSays, line_networks, networks_in, way_of}
 use Rattle.cidr.specs.either.IpNetwork.{network_family, network_prefix}
@@ -19,11 +19,10 @@ use Rattle.cidr_ext.specs.model.Subnets.{subnets_of}
 use Rattle.cidr_lists.specs.Formats.{Style, IsPrintBy, printed_walk}
 use Rattle.cidr_lists.specs.Rules.{Question, IsRulesAnswer, compared_with, faults_in}
 use Rattle.cidr_lists.specs.Changes.{AreChanges, printed_changes}
-use Rattle.cidr_lists.specs.LookUps.{telling_by}
 use Rattle.netset_commands.specs.Combining.{form_of, IsMade}
 use Rattle.netset_commands.specs.Operands.{IsNoNetworkText, OfList, OfOperand, ReadsAsNetwork}
-use Rattle.netset_commands.specs.Matching.{has, is_word, written_of, IsMatch, IsMatchOfEach, Picks}
-use Rattle.netset_commands.specs.Picking.{Choice, IsAsked, IsChosen}
+use Rattle.netset_commands.specs.Matching.{has, is_word, IsMatch, IsMatchOfEach}
+use Rattle.netset_commands.specs.Picking.{PicksOf}
 use Rattle.netset_commands.specs.Smallest.{IsSmallestOf}
 use Rattle.netset_commands.specs.Table.{help_text}
 use Rattle.netset_commands.specs.Which.{IsWhich}
@@ -36,14 +35,14 @@ use Rattle.netset_commands.specs.declared.program.TheConstants.{VERSION}
 use Rattle.netset_commands.specs.declared.commands.AtFault.{AtFault}
 use Rattle.netset_commands.specs.declared.commands.AtFault.TheVariants.{Stop, Tell, Skip}
 use Rattle.netset_commands.specs.declared.commands.Reading.{Reading}
-use Rattle.cidr_lists.specs.declared.columns.Column.{Column}
-use Rattle.cidr_lists.specs.declared.fields.Asked.{Asked}
 use Rattle.cidr_lists.specs.declared.forms.RowForm.{RowForm}
 use Rattle.cidr_lists.specs.declared.lines.HostBits.{HostBits}
 use Rattle.cidr_lists.specs.declared.records.ListForm.{ListForm}
 use Rattle.cidr_lists.specs.declared.formats.LineFormat.{LineFormat}
 use Rattle.cidr_lists.specs.declared.sets.Form.{Form}
 use Rattle.netset_commands.specs.declared.commands.operations.Operation.{Operation}
+use Rattle.netset_commands.specs.declared.commands.picking.Picking.{Picking}
+use Rattle.netset_commands.specs.declared.commands.picking.Seeking.{Seeking}
 use Rattle.netset_commands.specs.declared.commands.operations.Operation.TheVariants.{Minus, Not}
 use Rattle.cidr_lists.specs.Sets.{IsPrinted}
 use Rattle.cidr_lists.specs.Texts.{SaysAddress}
@@ -53,21 +52,21 @@ use Rattle.netset_commands.specs.declared.output.answers.Verdict.{Verdict}
 use Rattle.netset_commands.specs.declared.output.answers.Verdict.TheVariants.{Yes}
 use Rattle.cidr_lists.specs.declared.changes.Sign.{Sign}
 
--- a command and its arguments
+-- a command and its arguments: lists and files by their names
 pub data Request : Type 0 where
   Lists : Operation → List (List ℕ) → Request
   Styled : Style → Operation → List (List ℕ) → Request
   NotIn : Option Style → List ℕ → List (List ℕ) → Request
   Diff : LineFormat → List ℕ → List ℕ → Request
   Same : RowForm → List ℕ → List ℕ → Request
-  Free : Option Style → Extent → List ℕ → List ℕ → List (List ℕ) → Request
+  Free : Option Style → Option ℕ → List ℕ → ℕ → List (List ℕ) → Request
   Acl : Question → List ℕ → Request
   Split : Option Style → List ℕ → List ℕ → Request
   Check : List (List ℕ) → Request
   Which : List ℕ → List (List ℕ) → Request
-  Match : Choice → List (List ℕ) → List ℕ → List ℕ → Request
-  MatchEach : Choice → List (List ℕ) → List ℕ → List (List ℕ) → Request
-  Look : Choice → RowForm → List (List ℕ) → List ℕ → List ℕ → Request
+  Match : Picking → List ℕ → List ℕ → Request
+  MatchEach : Picking → List ℕ → List (List ℕ) → Request
+  Look : Seeking → List ℕ → List ℕ → Request
   Compile : RowForm → List ℕ → List ℕ → Request
   Smallest : Bool → RowForm → List ℕ → Request
   Describe : Description → List ℕ → Request
@@ -93,13 +92,13 @@ lists_of (Styled style operation files) = read_files files
 lists_of (NotIn style net files) = read_files files
 lists_of (Diff format old new) = old ∷ new ∷ []
 lists_of (Same form old new) = old ∷ new ∷ []
-lists_of (Free style extent pool len used) = pool ∷ used
+lists_of (Free style most pool n used) = pool ∷ used
 lists_of (Split style operand len) = operand ∷ []
 lists_of (Check files) = read_files files
 lists_of (Which address files) = read_files files
-lists_of (Match choice options list file) = list ∷ []
-lists_of (MatchEach choice options list files) = list ∷ []
-lists_of (Look choice form options table file) = table ∷ []
+lists_of (Match picking list file) = list ∷ []
+lists_of (MatchEach picking list files) = list ∷ []
+lists_of (Look seeking table file) = table ∷ []
 lists_of (Compile form table name) = table ∷ []
 lists_of (Smallest holes form table) = table ∷ []
 lists_of (Describe what operand) = operand ∷ []
@@ -107,9 +106,9 @@ lists_of request = []
 
 -- what it reads beside them
 abbrev pub others_of : Request → List (List ℕ)
-others_of (Match choice options list file) = file ∷ []
-others_of (MatchEach choice options list files) = files
-others_of (Look choice form options table file) = file ∷ []
+others_of (Match picking list file) = file ∷ []
+others_of (MatchEach picking list files) = files
+others_of (Look seeking table file) = file ∷ []
 others_of (Acl asked file) = compared_with asked ++ file ∷ []
 others_of (Class operand) = operand ∷ []
 others_of request = []
@@ -117,7 +116,7 @@ others_of request = []
 -- the tables that it names, if they have headers
 abbrev pub headed_tables : Request → Bool → List (List ℕ)
 headed_tables (Same form old new) true = old ∷ new ∷ []
-headed_tables (Look choice form options table file) true = table ∷ []
+headed_tables (Look seeking table file) true = table ∷ []
 headed_tables (Compile form table name) true = table ∷ []
 headed_tables (Smallest holes form table) true = table ∷ []
 headed_tables request header = []
@@ -129,7 +128,7 @@ IsNoList Masks operand = ((n : ℕ) × IsNumber operand n × (n ≤ 128)) ⊎ Re
 
 -- the first of them is no list
 abbrev pub HasNoFirstList : Request → Type 0
-HasNoFirstList (Free style extent pool len used) = ReadsAsNetwork pool
+HasNoFirstList (Free style most pool n used) = ReadsAsNetwork pool
 HasNoFirstList (Split style operand len) = ReadsAsNetwork operand
 HasNoFirstList (Describe what operand) = IsNoList what operand
 HasNoFirstList request = ⊥
@@ -220,22 +219,19 @@ IsAnswer contents (NotIn style net files) answer verdict = (network : IpCidr) ×
     → OfLists texts (λ said. IsPrintBy style (λ family a. Covers (line_networks family (network ∷ [])) a × IsMade SaysAddress Not said family a) answer)) × (verdict ≡ Yes)
 IsAnswer contents (Diff format old new) answer verdict = (before after : Text) → contents old ≡ Some before → contents new ≡ Some after → IsDiff format before after answer verdict
 IsAnswer contents (Same form old new) answer verdict = (before after : Text) → contents old ≡ Some before → contents new ≡ Some after → IsSame form before after answer verdict
-IsAnswer contents (Free style extent pool len used) answer verdict = (n : ℕ) × IsNumber len n × (n ≤ 128) × (most : Option ℕ) × IsMost extent most
-    × OfOperand contents pool (λ first. (texts : List Text) → AreTold contents used texts → OfLists texts (λ said. IsFree style n most (first ∷ said) answer verdict))
+IsAnswer contents (Free style most pool n used) answer verdict = OfOperand contents pool (λ first. (texts : List Text) → AreTold contents used texts → OfLists texts (λ said. IsFree style n most (first ∷ said) answer verdict))
 IsAnswer contents (Acl asked file) answer verdict = IsRulesAnswer contents asked file answer × IsClean (faults_in asked answer) verdict
 IsAnswer contents (Split style operand len) answer verdict = (n : ℕ) × IsNumber len n × IsSplitInto contents style operand n answer verdict
 IsAnswer contents (Check files) answer verdict =
     (texts : List Text) → AreTold contents (read_files files) texts → IsCheck (read_files files) texts answer verdict
 IsAnswer contents (Which text files) answer verdict = (address : IpAddr) × IsIpText text address
     × ((texts : List Text) → AreTold contents (read_files files) texts → IsWhich address (read_files files) texts answer verdict)
-IsAnswer contents (Match choice options list file) answer verdict = (column : Column) × IsChosen choice column
-    × ((networks text : Text) → contents list ≡ Some networks → contents file ≡ Some text → HoldsOf networks
-    (λ IsIn. IsMatch (has (codes "--header") options) (Picks (has (codes "--any") options) column IsIn (has (codes "-v") options)) [] (written_of options) text.bytes None answer verdict))
-IsAnswer contents (MatchEach choice options list files) answer verdict = (column : Column) × IsChosen choice column
-    × ((networks : Text) → contents list ≡ Some networks → HoldsOf networks
-    (λ IsIn. IsMatchOfEach contents (has (codes "--header") options) (Picks (has (codes "--any") options) column IsIn (has (codes "-v") options)) (written_of options) files answer verdict))
-IsAnswer contents (Look choice form options table file) answer verdict = (asked : Asked) × IsAsked choice (has (codes "--any") options) asked
-    × ((rows text : Text) → contents table ≡ Some rows → contents file ≡ Some text → IsLook (has (codes "--header") options) (telling_by form.values (has (codes "--keep") options)) asked form rows text.bytes answer verdict)
+IsAnswer contents (Match picking list file) answer verdict = (networks text : Text) → contents list ≡ Some networks → contents file ≡ Some text
+    → HoldsOf networks (λ IsIn. IsMatch picking.headed (PicksOf picking IsIn) [] picking.written text.bytes None answer verdict)
+IsAnswer contents (MatchEach picking list files) answer verdict = (networks : Text) → contents list ≡ Some networks
+    → HoldsOf networks (λ IsIn. IsMatchOfEach contents picking.headed (PicksOf picking IsIn) picking.written files answer verdict)
+IsAnswer contents (Look seeking table file) answer verdict = (rows text : Text) → contents table ≡ Some rows → contents file ≡ Some text
+    → IsLook seeking.headed seeking.telling seeking.asked seeking.form rows text.bytes answer verdict
 IsAnswer contents (Compile form table name) answer verdict = (answer ≡ []) × (verdict ≡ Yes)
 IsAnswer contents (Smallest holes form table) answer verdict = ((text : Text) → contents table ≡ Some text → IsSmallestOf holes form text answer) × (verdict ≡ Yes)
 IsAnswer contents (Describe what operand) answer verdict = IsDescription contents what operand answer × (verdict ≡ Yes)

@@ -1,5 +1,5 @@
 -- The networks of a prefix length that are free in a pool, or inside the networks of a list.
-use Rattle.std.specs.Prelude.{◌≡◌, ◌⊎◌, ℕ, ◌-◌, ◌^◌, ◌<◌, ◌≤◌, nat_lt, if◌then◌else◌, Bool, List, [], ◌∷◌, ◌++◌, length, take, Option, Some, None, option_map, Result, Ok, Err}
+use Rattle.std.specs.Prelude.{◌≡◌, ℕ, ◌-◌, ◌^◌, ◌<◌, nat_lt, if◌then◌else◌, Bool, true, false, List, [], ◌∷◌, ◌++◌, length, take, Option, Some, None, option_map, Result, Ok, Err}
 use Rattle.std.specs.List.{flat_map}
 use Rattle.cidr.specs.either.IpNetwork.{network_family, network_prefix}
 use Rattle.cidr.specs.model.Network.{width_of}
@@ -19,19 +19,7 @@ use Rattle.netset_commands.specs.declared.output.answers.Verdict.TheVariants.{Ye
 use Rattle.netset_commands.specs.declared.errors.ArgumentError.{ArgumentError}
 use Rattle.netset_commands.specs.declared.errors.ArgumentError.TheVariants as bad
 
--- how many of them are asked for: the first, so many of the first as an argument says, or all
-pub data Extent : Type 0 where
-  First : Extent
-  Count : List ℕ → Extent
-  All : Extent
-
--- at most so many, or all for none
-abbrev pub IsMost : Extent → Option ℕ → Type 0
-IsMost First most = most ≡ Some 1
-IsMost (Count text) most = (m : ℕ) × IsNumber text m × (m < 2 ^ 64) × (most ≡ Some m)
-IsMost All most = most ≡ None
-
--- the first of a list, at most so many, and how many more there may be behind them
+-- the first of a list, at most so many or all for none, and how many more there may be behind them
 abbrev pub taken : {X : Type 0} → Option ℕ → List X → List X
 taken None xs = xs
 taken (Some m) xs = take m xs
@@ -55,20 +43,18 @@ IsFreeText style sets n most answer Yes =
     (network : IpCidr) × IsFreeOf sets n (Some network) × (answer ≡ printed_walk style (taken most (all_told (inside_of n) sets)))
 IsFreeText style sets n most answer No = IsFreeOf sets n None × (answer ≡ printed_walk style [])
 
--- ---- arguments that are wrong
+-- ---- arguments
+-- at most so many are asked for, or all for none, by whether --all is given and by the value of --count
+abbrev pub IsMost : Bool → Option (List ℕ) → Option ℕ → Type 0
+IsMost false None most = most ≡ Some 1
+IsMost false (Some count) most = (m : ℕ) × IsNumber count m × (m < 2 ^ 64) × (most ≡ Some m)
+IsMost true None most = most ≡ None
+IsMost true (Some count) most = ⊥
+
 -- the string is no prefix length
 abbrev pub IsBadLength : List ℕ → List ℕ → ArgumentError → Type 0
 IsBadLength len text bad.Length = (text ≡ len) × ((n : ℕ) → IsNumber len n → 128 < n)
 IsBadLength len text e = ⊥
-
--- the string is no number below 2^64
-abbrev pub IsBadCount : Extent → List ℕ → ArgumentError → Type 0
-IsBadCount (Count count) text bad.Count = (text ≡ count) × ((m : ℕ) → IsNumber count m → 2 ^ 64 ≤ m)
-IsBadCount extent text e = ⊥
-
--- the length is none, or else the count
-abbrev pub IsBadFree : Extent → List ℕ → List ℕ → ArgumentError → Type 0
-IsBadFree extent len text e = IsBadLength len text e ⊎ ((n : ℕ) × IsNumber len n × (n ≤ 128) × IsBadCount extent text e)
 
 -- ---- what private functions promise
 -- what stands in front of each of these, behind one before them, if there is one: `before` tells it by the one before

@@ -37,7 +37,7 @@ use Rattle.cidr_lists.specs.Faults.{IsFaulty, AreErrors, AreTellings, IsPartTold
 abbrev pub kind_of : Request → ListKind
 kind_of (Check files) = kind.Hosts
 kind_of (Which address files) = kind.Hosts
-kind_of (Look choice form options table file) = kind.Rows form
+kind_of (Look seeking table file) = kind.Rows seeking.form
 kind_of (Compile form table name) = kind.Rows form
 kind_of (Same form old new) = kind.Rows form
 kind_of (Smallest holes form table) = kind.Rows form
@@ -45,9 +45,9 @@ kind_of request = kind.Networks
 
 -- whether its list may be a file of look-ups
 abbrev pub takes_file : Request → Bool
-takes_file (Match choice options list file) = true
-takes_file (MatchEach choice options list files) = true
-takes_file (Look choice form options table file) = true
+takes_file (Match picking list file) = true
+takes_file (MatchEach picking list files) = true
+takes_file (Look seeking table file) = true
 takes_file request = false
 
 -- a list by its lines: a file of look-ups has none

@@ -1,49 +1,40 @@
--- The field by which `match` picks lines and `look` has an address, as the options name it.
-use Rattle.std.specs.Prelude.{◌≡◌, ◌≢◌, ◌⊎◌, ℕ, ◌+◌, ◌^◌, ◌<◌, ◌≤◌, Bool, if◌then◌else◌, List, [], ◌∷◌, length, Option, Some, None}
+-- Which lines `match` picks and which addresses `look` takes, by the options.
+use Rattle.std.specs.Prelude.{◌≡◌, ℕ, ◌+◌, ◌^◌, ◌<◌, Bool, true, false, List, codes, Option, Some, None, Result, unwrap_or}
+use Rattle.cidr.specs.declared.family.Family.{Family}
+use Rattle.cidr_lists.specs.LookUps.{telling_by}
 use Rattle.cidr_lists.specs.declared.columns.Column.{Column}
-use Rattle.cidr_lists.specs.declared.columns.Separator.{Separator}
-use Rattle.cidr_lists.specs.declared.columns.Separator.TheVariants.{WhiteSpace, Byte}
+use Rattle.cidr_lists.specs.declared.columns.Separator.TheVariants.{WhiteSpace}
+use Rattle.cidr_lists.specs.declared.errors.LineError.{LineError}
 use Rattle.cidr_lists.specs.declared.fields.Asked.{Asked}
 use Rattle.cidr_lists.specs.declared.fields.Asked.TheVariants.{First, Field, Anywhere}
+use Rattle.cidr_lists.specs.declared.forms.RowForm.{RowForm}
+use Rattle.netset_commands.specs.Matching.{Picks, has, written_of}
 use Rattle.netset_commands.specs.Single.{IsNumber}
-use Rattle.netset_commands.specs.declared.errors.ArgumentError.{ArgumentError}
-use Rattle.netset_commands.specs.declared.errors.ArgumentError.TheVariants as bad
-
--- the first field, or the one of this number, from 1 on, and the string that parts it from others, or white space
-pub data Choice : Type 0 where
-  FirstField : Choice
-  FieldOf : List ℕ → Option (List ℕ) → Choice
-
--- what parts fields: one byte, or white space
-abbrev pub IsSeparator : Option (List ℕ) → Separator → Type 0
-IsSeparator None separator = separator ≡ WhiteSpace
-IsSeparator (Some text) separator = (byte : ℕ) × (text ≡ byte ∷ []) × (separator ≡ Byte byte)
-
--- the field that is read of each line: that of a number stands at an index, counted from 0
-abbrev pub IsChosen : Choice → Column → Type 0
-IsChosen FirstField column = (column.place ≡ 0) × (column.separator ≡ WhiteSpace)
-IsChosen (FieldOf number separator) column = (IsNumber number (column.place + 1) × (column.place + 1 < 2 ^ 64)) × IsSeparator separator column.separator
-
--- the address that `look` takes of each line: with --any the first anywhere, and else that of the first field, or of this one
-abbrev pub IsAsked : Choice → Bool → Asked → Type 0
-IsAsked FirstField any asked = asked ≡ (if any then Anywhere else First)
-IsAsked (FieldOf number separator) any asked = (column : Column) × IsChosen (FieldOf number separator) column × (asked ≡ Field column)
+use Rattle.netset_commands.specs.declared.commands.picking.Picking.{Picking}
+use Rattle.netset_commands.specs.declared.commands.picking.Seeking.{Seeking}
 
 -- the number is the one of the field at this index, counted from 0
 abbrev pub IsFieldPlace : List ℕ → ℕ → Type 0
 IsFieldPlace number place = IsNumber number (place + 1) × (place + 1 < 2 ^ 64)
 
--- the number is none from 1 on
-abbrev pub IsBadNumber : List ℕ → List ℕ → ArgumentError → Type 0
-IsBadNumber number text bad.Field = (text ≡ number) × ((n : ℕ) → IsNumber number n → (n ≡ 0) ⊎ (2 ^ 64 ≤ n))
-IsBadNumber number text e = ⊥
+-- the first field, up to white space
+abbrev pub first_column : Column
+first_column = record { place = 0; separator = WhiteSpace }
 
--- what is to part fields is not one byte
-abbrev pub IsBadSeparator : Option (List ℕ) → List ℕ → ArgumentError → Type 0
-IsBadSeparator (Some separator) text bad.Separator = (text ≡ separator) × (length separator ≢ 1)
-IsBadSeparator separator text e = ⊥
+-- the lines that `match` picks by these options: by the field of --field, or the first one
+abbrev pub picking_of : List (List ℕ) → Option Column → Picking
+picking_of options column = record { anywhere = has (codes "--any") options; column = unwrap_or column first_column; inverted = has (codes "-v") options; headed = has (codes "--header") options; written = written_of options }
 
--- the number is wrong, or else the separator
-abbrev pub IsBadChoice : Choice → List ℕ → ArgumentError → Type 0
-IsBadChoice FirstField text e = ⊥
-IsBadChoice (FieldOf number separator) text e = IsBadNumber number text e ⊎ ((place : ℕ) × IsFieldPlace number place × IsBadSeparator separator text e)
+-- whether a line is picked by the addresses that are in the list
+abbrev pub PicksOf : Picking → (Family → List Bool → Type 0) → List ℕ → Result Bool LineError → Type 0
+PicksOf picking IsIn = Picks picking.anywhere picking.column IsIn picking.inverted
+
+-- the address that `look` takes of each line: that of the field of --field, or with --any the first anywhere, or that of the first field
+abbrev pub asked_by : Bool → Option Column → Asked
+asked_by any (Some column) = Field column
+asked_by true None = Anywhere
+asked_by false None = First
+
+-- what it does by these options
+abbrev pub seeking_of : List (List ℕ) → Option Column → RowForm → Seeking
+seeking_of options column form = record { asked = asked_by (has (codes "--any") options) column; headed = has (codes "--header") options; telling = telling_by form.values (has (codes "--keep") options); form = form }

@@ -18,19 +18,18 @@ use Rattle.netset_commands.specs.Causes.{Cause, FileFails, Refusals}
 use Rattle.netset_commands.specs.Class.{IsClassUntil, IsUnclassed}
 use Rattle.netset_commands.specs.Compiled.{IsTooLarge, SaysTable}
 use Rattle.netset_commands.specs.Describing.{IsNoLength}
-use Rattle.netset_commands.specs.Free.{IsBadFree, IsBadLength, IsMost}
+use Rattle.netset_commands.specs.Free.{IsBadLength}
 use Rattle.netset_commands.specs.Operands.{IsNoNetworkText, IsUnlisted, IsUnreadOperand, OfOperand}
 use Rattle.cidr_lists.specs.Faults.{AreTellings}
 use Rattle.netset_commands.specs.Keeping.{IsBegun, IsGoodFile, IsSameReason, reasons_beside, IsLoadError, good_files, kind_of, lined, takes_file}
 use Rattle.cidr_lists.specs.Messages.{fault_line, wrong_words}
-use Rattle.cidr_lists.specs.LookUps.{telling_by}
 use Rattle.cidr_lists.specs.Tables.{IsTable}
 use Rattle.netset_commands.specs.Look.{IsLookCut, IsUnreadTable}
 use Rattle.netset_commands.specs.Smallest.{IsNoHole}
 use Rattle.netset_commands.specs.Stored.{HasUnfitRow, IsNoTable, IsNotGiven}
-use Rattle.netset_commands.specs.Matching.{has, written_of, IsEndedBy, IsEndedIn, Picks}
+use Rattle.netset_commands.specs.Matching.{has, IsEndedBy, IsEndedIn}
 use Rattle.netset_commands.specs.Streaming.{IsCutShort}
-use Rattle.netset_commands.specs.Picking.{Choice, IsAsked, IsBadChoice, IsChosen}
+use Rattle.netset_commands.specs.Picking.{PicksOf}
 use Rattle.netset_commands.specs.Same.{AreUnreadTables}
 use Rattle.netset_commands.specs.Single.{HasNone, IsBadSingle, IsNoNetwork, IsNumber}
 use Rattle.netset_commands.specs.Unchecked.{IsUnchecked}
@@ -46,8 +45,8 @@ use Rattle.netset_commands.specs.declared.errors.FileError.TheVariants.{TooLarge
 use Rattle.netset_commands.specs.declared.commands.AtFault.{AtFault}
 use Rattle.netset_commands.specs.declared.commands.AtFault.TheVariants.{Stop, Tell, Skip}
 use Rattle.netset_commands.specs.declared.commands.Reading.{Reading}
-use Rattle.cidr_lists.specs.declared.columns.Column.{Column}
-use Rattle.cidr_lists.specs.declared.fields.Asked.{Asked}
+use Rattle.netset_commands.specs.declared.commands.picking.Picking.{Picking}
+use Rattle.netset_commands.specs.declared.commands.picking.Seeking.{Seeking}
 use Rattle.cidr_lists.specs.declared.forms.RowForm.{RowForm}
 use Rattle.cidr_lists.specs.declared.lines.HostBits.{HostBits}
 use Rattle.cidr_lists.specs.declared.records.ListForm.{ListForm}
@@ -90,12 +89,8 @@ IsSameFile table name e = (table ≡ name) × IsNotSaved name unsaved.Same e
 -- an argument that is wrong whatever the lists say
 abbrev pub IsWrong : Request → CommandError → Type 0
 IsWrong (NotIn style net files) e = IsBadArgument (λ text bad. (text ≡ net) × IsNoNetwork net bad) e
-IsWrong (Free style extent pool len used) e = IsBadArgument (IsBadFree extent len) e
 IsWrong (Split style operand len) e = IsBadArgument (IsBadLength len) e
 IsWrong (Which text files) e = IsBadArgument (IsNoAddressArgument text) e
-IsWrong (Match choice options list file) e = IsBadArgument (IsBadChoice choice) e
-IsWrong (MatchEach choice options list files) e = IsBadArgument (IsBadChoice choice) e
-IsWrong (Look choice form options table file) e = IsBadArgument (IsBadChoice choice) e
 IsWrong (Compile form table name) e = IsSameFile table name e
 IsWrong request e = ⊥
 
@@ -122,8 +117,7 @@ IsRequestRefused contents (NotIn style net files) (Err e) = IsWrong (NotIn style
     ⊎ ((network : IpCidr) × IsIpNetworkText net network × IsUnread contents (read_files files) e)
 IsRequestRefused contents (Diff format old new) (Err e) = IsUnread contents (old ∷ new ∷ []) e
 IsRequestRefused contents (Same form old new) (Err e) = AreUnreadTables form contents old new e
-IsRequestRefused contents (Free style extent pool len used) (Err e) = IsBadArgument (IsBadFree extent len) e
-    ⊎ ((n : ℕ) × IsNumber len n × (n ≤ 128) × (most : Option ℕ) × IsMost extent most × IsUnreadPool contents pool used e)
+IsRequestRefused contents (Free style most pool n used) (Err e) = IsUnreadPool contents pool used e
 IsRequestRefused contents (Acl asked file) (Err e) = IsUnreadAcl contents (compared_with asked ++ file ∷ []) e
 IsRequestRefused contents (Split style operand len) (Err e) =
     ((network : IpCidr) × IsIpNetworkText operand network × IsBadArgument (HasNoSubnets network len) e)
@@ -131,14 +125,11 @@ IsRequestRefused contents (Split style operand len) (Err e) =
 IsRequestRefused contents (Check files) (Err e) = IsUnchecked contents (read_files files) e
 IsRequestRefused contents (Which text files) (Err e) = IsBadArgument (IsNoAddressArgument text) e
     ⊎ ((address : IpAddr) × IsIpText text address × IsUnchecked contents (read_files files) e)
-IsRequestRefused contents (Match choice options list file) (Err e) = IsBadArgument (IsBadChoice choice) e
-    ⊎ ((column : Column) × IsChosen choice column × (IsNotGiven (IsUnread contents (list ∷ [])) (contents list) list e
-    ⊎ (IsInputError file e × ((text : Text) → contents list ≡ Some text → HoldsOf text (λ IsIn. Unit {0})))))
-IsRequestRefused contents (MatchEach choice options list files) (Err e) = IsBadArgument (IsBadChoice choice) e
-    ⊎ ((column : Column) × IsChosen choice column × IsNotGiven (IsUnread contents (list ∷ [])) (contents list) list e)
-IsRequestRefused contents (Look choice form options table file) (Err e) = IsBadArgument (IsBadChoice choice) e
-    ⊎ ((asked : Asked) × IsAsked choice (has (codes "--any") options) asked × (IsNoTable form (contents table) table e ⊎ (HasUnfitRow form (contents table) table e
-    ⊎ (IsInputError file e × ((text : Text) → contents table ≡ Some text → (rows : Family → List (List Bool × List ℕ)) × SaysTable form text rows)))))
+IsRequestRefused contents (Match picking list file) (Err e) = IsNotGiven (IsUnread contents (list ∷ [])) (contents list) list e
+    ⊎ (IsInputError file e × ((text : Text) → contents list ≡ Some text → HoldsOf text (λ IsIn. Unit {0})))
+IsRequestRefused contents (MatchEach picking list files) (Err e) = IsNotGiven (IsUnread contents (list ∷ [])) (contents list) list e
+IsRequestRefused contents (Look seeking table file) (Err e) = IsNoTable seeking.form (contents table) table e ⊎ (HasUnfitRow seeking.form (contents table) table e
+    ⊎ (IsInputError file e × ((text : Text) → contents table ≡ Some text → (rows : Family → List (List Bool × List ℕ)) × SaysTable seeking.form text rows)))
 IsRequestRefused contents (Smallest holes form table) (Err e) = IsUnreadTable form (contents table) table e ⊎ IsNoHole holes form (contents table) table e
 IsRequestRefused contents (Describe what operand) (Err e) = IsNoLength what operand × IsUnreadOperand contents operand e
 IsRequestRefused contents (Class operand) (Err e) = IsUnclassed contents operand e
@@ -159,20 +150,19 @@ AnswersWhole contents request old new r =
     × Answered old new answer written × (r ≡ by_output verdict written))
 
 -- what belongs to the lines that `match` has read of its file, if it was not read to its end, or has lines that are too long
-abbrev pub IsMatchUntil : (List ℕ → Option Text) → Choice → List (List ℕ) → List ℕ → List ℕ → List ℕ → CommandError → Type 0
-IsMatchUntil contents choice options list file answer e = (column : Column) × IsChosen choice column × ((networks text : Text) → contents list ≡ Some networks → contents file ≡ Some text
-    → HoldsOf networks (λ IsIn. IsEndedBy (has (codes "--header") options) (Picks (has (codes "--any") options) column IsIn (has (codes "-v") options)) [] (written_of options) text.bytes answer e))
+abbrev pub IsMatchUntil : (List ℕ → Option Text) → Picking → List ℕ → List ℕ → List ℕ → CommandError → Type 0
+IsMatchUntil contents picking list file answer e = (networks text : Text) → contents list ≡ Some networks → contents file ≡ Some text
+    → HoldsOf networks (λ IsIn. IsEndedBy picking.headed (PicksOf picking IsIn) [] picking.written text.bytes answer e)
 
 -- the same of several files, of which those before this one were read to their ends
-abbrev pub IsMatchEachUntil : (List ℕ → Option Text) → Choice → List (List ℕ) → List ℕ → List (List ℕ) → List ℕ → List ℕ → CommandError → Type 0
-IsMatchEachUntil contents choice options list before file answer e = (column : Column) × IsChosen choice column
-    × ((networks : Text) → contents list ≡ Some networks → HoldsOf networks
-    (λ IsIn. IsEndedIn contents (has (codes "--header") options) (Picks (has (codes "--any") options) column IsIn (has (codes "-v") options)) (written_of options) before file answer e))
+abbrev pub IsMatchEachUntil : (List ℕ → Option Text) → Picking → List ℕ → List (List ℕ) → List ℕ → List ℕ → CommandError → Type 0
+IsMatchEachUntil contents picking list before file answer e = (networks : Text) → contents list ≡ Some networks
+    → HoldsOf networks (λ IsIn. IsEndedIn contents picking.headed (PicksOf picking IsIn) picking.written before file answer e)
 
 -- the same of `look`
-abbrev pub IsLookUntil : (List ℕ → Option Text) → Choice → RowForm → List (List ℕ) → List ℕ → List ℕ → List ℕ → CommandError → Type 0
-IsLookUntil contents choice form options table file answer e = (asked : Asked) × IsAsked choice (has (codes "--any") options) asked
-    × ((rows text : Text) → contents table ≡ Some rows → contents file ≡ Some text → IsLookCut (has (codes "--header") options) (telling_by form.values (has (codes "--keep") options)) asked form rows text.bytes answer e)
+abbrev pub IsLookUntil : (List ℕ → Option Text) → Seeking → List ℕ → List ℕ → List ℕ → CommandError → Type 0
+IsLookUntil contents seeking table file answer e = (rows text : Text) → contents table ≡ Some rows → contents file ≡ Some text
+    → IsLookCut seeking.headed seeking.telling seeking.asked seeking.form rows text.bytes answer e
 
 -- the error is that the table that a text says is too large for a file, or that the file can't be written
 abbrev pub IsNoFile : RowForm → Option Text → List ℕ → List ℕ → CommandError → Type 0
@@ -189,13 +179,13 @@ IsCompiled contents form table name (Err e) =
 
 -- what becomes of a request and of the sink
 abbrev pub AnswersRequest : (List ℕ → Option Text) → Request → State → State → Result Verdict CommandError → Type 0
-AnswersRequest contents (Match choice options list file) old new r =
-    AnswersWhole contents (Match choice options list file) old new r ⊎ IsCutShort (IsMatchUntil contents choice options list file) file old new r
-AnswersRequest contents (MatchEach choice options list files) old new r = AnswersWhole contents (MatchEach choice options list files) old new r
+AnswersRequest contents (Match picking list file) old new r =
+    AnswersWhole contents (Match picking list file) old new r ⊎ IsCutShort (IsMatchUntil contents picking list file) file old new r
+AnswersRequest contents (MatchEach picking list files) old new r = AnswersWhole contents (MatchEach picking list files) old new r
     ⊎ ((before after : List (List ℕ)) × (file : List ℕ) × (files ≡ before ++ file ∷ after)
-    × IsCutShort (IsMatchEachUntil contents choice options list before file) file old new r)
-AnswersRequest contents (Look choice form options table file) old new r =
-    AnswersWhole contents (Look choice form options table file) old new r ⊎ IsCutShort (IsLookUntil contents choice form options table file) file old new r
+    × IsCutShort (IsMatchEachUntil contents picking list before file) file old new r)
+AnswersRequest contents (Look seeking table file) old new r =
+    AnswersWhole contents (Look seeking table file) old new r ⊎ IsCutShort (IsLookUntil contents seeking table file) file old new r
 AnswersRequest contents (Compile form table name) old new r = (new ≡ old) × IsCompiled contents form table name r
 AnswersRequest contents (Class operand) old new r =
     AnswersWhole contents (Class operand) old new r ⊎ IsCutShort (IsClassUntil contents operand) operand old new r
@@ -229,9 +219,6 @@ abbrev pub argument_message : ArgumentError → List ℕ
 argument_message (bad.Network wrong e) = wrong_words wrong (parse_message e)
 argument_message bad.Length = codes "no prefix length inside the network"
 argument_message bad.Index = codes "no index below 2^128"
-argument_message bad.Count = codes "no count below 2^64"
-argument_message bad.Field = codes "no number of a field, from 1 on"
-argument_message bad.Separator = codes "more or less than one byte"
 argument_message bad.NoAddress = codes "no address"
 argument_message bad.AddressOrFile = codes "no address, and no file that can be read"
 argument_message bad.Operand = codes "no network and no address, and no file that can be read"

@@ -1,9 +1,10 @@
 -- Requests as they are mostly typed, and what a run of one has written that ends with status 0 or 1: its answer, and nothing
 -- else.
-use Rattle.std.specs.Prelude.{◌≡◌, ◌⊎◌, ◌&&◌, ◌||◌, ℕ, ◌+◌, decimal, true, false, List, [], ◌∷◌, ◌++◌, codes, Option, Some, None}
+use Rattle.std.specs.Prelude.{◌≡◌, ◌⊎◌, ◌&&◌, ◌||◌, ℕ, ◌+◌, ◌≤◌, decimal, true, false, List, [], ◌∷◌, ◌++◌, codes, Option, Some, None}
 use Rattle.std.specs.List.{flat_map, list_all, list_any}
 use Rattle.cidr.specs.declared.family.Family.TheVariants.{Ipv4, Ipv6}
 use Rattle.cidr_io.specs.Writing.{State, Whole, Tells}
+use Rattle.cidr_lists.specs.declared.columns.Column.{Column}
 use Rattle.cidr_lists.specs.declared.columns.Separator.{Separator}
 use Rattle.cidr_lists.specs.declared.columns.Separator.TheVariants.{WhiteSpace, Byte}
 use Rattle.cidr_lists.specs.declared.formats.LineFormat.TheVariants.{Plain, Json}
@@ -15,11 +16,11 @@ use Rattle.cidr_lists.specs.Formats.{IsBare, Style, format_name, line_style}
 use Rattle.cidr_lists.specs.Rules.{compared_with, is_shadowed, style_asked}
 use Rattle.netset_commands.specs.Arguments.{asks_help, is_option, missing_operand, takes}
 use Rattle.netset_commands.specs.Commands.{Request, Lists, Styled, NotIn, Diff, Same, Free, Acl, Split, Check, Which, Match, MatchEach, Look, Compile, Smallest, Describe, Class, Single, Help, Version, IsAnswer, bits_of, headed_tables, input_name}
-use Rattle.netset_commands.specs.Free.{First, Count, All}
+use Rattle.netset_commands.specs.Free.{IsMost}
 use Rattle.netset_commands.specs.Matching.{has}
-use Rattle.netset_commands.specs.Picking.{Choice, FirstField, FieldOf}
+use Rattle.netset_commands.specs.Picking.{IsFieldPlace, picking_of, seeking_of}
 use Rattle.netset_commands.specs.Program.{answer_status, contents_in, headed}
-use Rattle.netset_commands.specs.Single.{Show, Nth}
+use Rattle.netset_commands.specs.Single.{IsNumber, Show, Nth}
 use Rattle.netset_commands.specs.Table.{name_of, takes_value}
 use Rattle.netset_commands.specs.declared.commands.operations.Operation.TheVariants.{Not}
 use Rattle.netset_commands.specs.declared.commands.table.Verb.{Verb}
@@ -37,24 +38,30 @@ AreTyped command options valued operands words = (words ≡ name_of command ∷ 
 abbrev pub AreTypedFor : Verb → List (List ℕ) → List (List ℕ) → List ℕ → List ℕ → List (List ℕ) → Type 0
 AreTypedFor command options valued list file words = AreTyped command options valued (list ∷ file ∷ []) words ⊎ ((file ≡ input_name) × AreTyped command options valued (list ∷ []) words)
 
--- the options of `match` and `look` that tell the field, with their values; --any goes with none of them
-abbrev pub choice_words : Choice → List (List ℕ)
-choice_words FirstField = []
-choice_words (FieldOf number None) = codes "--field" ∷ number ∷ []
-choice_words (FieldOf number (Some separator)) = codes "--field" ∷ number ∷ codes "--separator" ∷ separator ∷ []
+-- the option that tells what parts fields, with its value
+abbrev pub separator_words : List ℕ → Separator → List (List ℕ)
+separator_words name WhiteSpace = []
+separator_words name (Byte separator) = name ∷ (separator ∷ []) ∷ []
 
-abbrev pub GoesWith : Choice → List (List ℕ) → Type 0
-GoesWith FirstField options = Unit {0}
-GoesWith (FieldOf number separator) options = has (codes "--any") options ≡ false
+-- the options of `match` and `look` that tell the field, with their values, the number of the field among them; --any goes with none of
+-- them
+abbrev pub field_words : List ℕ → Option Column → List (List ℕ)
+field_words number None = []
+field_words number (Some column) = codes "--field" ∷ number ∷ separator_words (codes "--separator") column.separator
+
+abbrev pub IsField : List (List ℕ) → List ℕ → Option Column → Type 0
+IsField options number None = Unit {0}
+IsField options number (Some column) = (has (codes "--any") options ≡ false) × IsFieldPlace number column.place
+
+-- the option of `free` that tells how many networks, with its value
+abbrev pub count_words : Option (List ℕ) → List (List ℕ)
+count_words None = []
+count_words (Some count) = codes "--count" ∷ count ∷ []
 
 -- the options of `look`, `compile`, `same` and `smallest` that tell how the rows of a table are laid out, with their values
-abbrev pub separator_words : Separator → List (List ℕ)
-separator_words WhiteSpace = []
-separator_words (Byte separator) = codes "--table-separator" ∷ (separator ∷ []) ∷ []
-
 abbrev pub layout_words : RowLayout → List (List ℕ)
-layout_words (Fields separator) = separator_words separator
-layout_words (Columns columns) = separator_words columns.separator ++ codes "--table-fields" ∷ (decimal (columns.network + 1) ++ 44 ∷ decimal (columns.value + 1)) ∷ []
+layout_words (Fields separator) = separator_words (codes "--table-separator") separator
+layout_words (Columns columns) = separator_words (codes "--table-separator") columns.separator ++ codes "--table-fields" ∷ (decimal (columns.network + 1) ++ 44 ∷ decimal (columns.value + 1)) ∷ []
 layout_words Pfx2as = codes "--form" ∷ codes "pfx2as" ∷ []
 layout_words (Routes Ipv4) = codes "--form" ∷ codes "routes" ∷ []
 layout_words (Routes Ipv6) = codes "--form" ∷ codes "routes6" ∷ []
@@ -72,22 +79,21 @@ IsTyped words options (Styled style operation files) = IsBare (Some style) × (t
 IsTyped words options (NotIn style net files) = IsBare style × AreTyped (verb.Lists Not) options (codes "--in" ∷ net ∷ style_words style) files words
 IsTyped words options (Diff format old new) = AreTyped verb.Diff options (style_words (line_style format)) (old ∷ new ∷ []) words
 IsTyped words options (Same form old new) = (form.values ≡ Plain) × HasNumbers form.layout × AreTyped verb.Same options (layout_words form.layout) (old ∷ new ∷ []) words
-IsTyped words options (Free style First pool len used) = IsBare style × (has (codes "--all") options ≡ false) × AreTyped verb.Free options (style_words style) (pool ∷ len ∷ used) words
-IsTyped words options (Free style (Count count) pool len used) = IsBare style
-    × (has (codes "--all") options ≡ false) × AreTyped verb.Free options (codes "--count" ∷ count ∷ style_words style) (pool ∷ len ∷ used) words
-IsTyped words options (Free style All pool len used) = IsBare style × (has (codes "--all") options ≡ true) × AreTyped verb.Free options (style_words style) (pool ∷ len ∷ used) words
+IsTyped words options (Free style most pool n used) = IsBare style × (count : Option (List ℕ)) × IsMost (has (codes "--all") options) count most
+    × (len : List ℕ) × (IsNumber len n × (n ≤ 128)) × AreTyped verb.Free options (count_words count ++ style_words style) (pool ∷ len ∷ used) words
 IsTyped words options (Acl asked file) = (has (codes "--shadowed") options ≡ is_shadowed asked) × IsBare (style_asked asked)
     × AreTyped verb.Acl options (flat_map (λ old. codes "--diff" ∷ old ∷ []) (compared_with asked) ++ style_words (style_asked asked)) (file ∷ []) words
 IsTyped words options (Split style operand len) = IsBare style × AreTyped verb.Split options (style_words style) (operand ∷ len ∷ []) words
 IsTyped words options (Check files) = AreTyped verb.Check options [] files words
 IsTyped words options (Which address files) = AreTyped verb.Which options [] (address ∷ files) words
-IsTyped words options (Match choice given list file) =
-    (given ≡ options) × GoesWith choice options × AreTypedFor verb.Match options (choice_words choice) list file words
-IsTyped words options (MatchEach choice given list (first ∷ second ∷ files)) = (given ≡ options) × GoesWith choice options
-    × AreTyped verb.Match options (choice_words choice) (list ∷ first ∷ second ∷ files) words
-IsTyped words options (MatchEach choice given list files) = ⊥
-IsTyped words options (Look choice form given table file) = (given ≡ options) × GoesWith choice options × (form.values ≡ Json → has (codes "--keep") options ≡ false)
-    × HasNumbers form.layout × AreTypedFor verb.Look options (choice_words choice ++ (layout_words form.layout ++ style_words (line_style form.values))) table file words
+IsTyped words options (Match picking list file) = (number : List ℕ) × (column : Option Column) × (picking ≡ picking_of options column) × IsField options number column
+    × AreTypedFor verb.Match options (field_words number column) list file words
+IsTyped words options (MatchEach picking list (first ∷ second ∷ files)) = (number : List ℕ) × (column : Option Column) × (picking ≡ picking_of options column) × IsField options number column
+    × AreTyped verb.Match options (field_words number column) (list ∷ first ∷ second ∷ files) words
+IsTyped words options (MatchEach picking list files) = ⊥
+IsTyped words options (Look seeking table file) = (number : List ℕ) × (column : Option Column) × (seeking ≡ seeking_of options column seeking.form) × IsField options number column
+    × (seeking.form.values ≡ Json → has (codes "--keep") options ≡ false) × HasNumbers seeking.form.layout
+    × AreTypedFor verb.Look options (field_words number column ++ (layout_words seeking.form.layout ++ style_words (line_style seeking.form.values))) table file words
 IsTyped words options (Compile form table name) = (form.values ≡ Plain) × HasNumbers form.layout × AreTyped verb.Compile options (layout_words form.layout) (table ∷ name ∷ []) words
 IsTyped words options (Smallest holes form table) = (has (codes "--holes") options ≡ holes) × (form.values ≡ Plain) × HasNumbers form.layout × AreTyped verb.Smallest options (layout_words form.layout) (table ∷ []) words
 IsTyped words options (Describe what operand) = AreTyped (verb.Describe what) options [] (operand ∷ []) words

@@ -19,11 +19,7 @@ use Rattle.cidr_lists.specs.Printing.{line}
 use Rattle.cidr_lists.specs.Rules.{AreAllShadowLines, ArePermittedLines, Permitted, Shadowed, Compared}
 use Rattle.cidr_lists.specs.ReadBack.{AreUnions}
 use Rattle.cidr_lists.specs.Sets.{printed_sets}
-use Rattle.cidr_lists.specs.declared.columns.Column.{Column}
-use Rattle.cidr_lists.specs.declared.columns.Separator.{Separator}
-use Rattle.cidr_lists.specs.declared.columns.Separator.TheVariants.{Byte}
 use Rattle.cidr_lists.specs.declared.errors.LineError.{LineError}
-use Rattle.cidr_lists.specs.declared.fields.Asked.{Asked}
 use Rattle.cidr_lists.specs.declared.fields.Asked.TheVariants.{First}
 use Rattle.cidr_lists.specs.declared.objects.Telling.{Telling}
 use Rattle.cidr_lists.specs.declared.formats.Format.TheVariants.{Nft}
@@ -37,7 +33,7 @@ use Rattle.netset_commands.specs.Causes.{Refusals}
 use Rattle.netset_commands.specs.Commands.{Acl, Diff, HoldsOf, IsDiff, IsMadeOf, Lists, Look, Match, ReadsInputTwice, reading_of}
 use Rattle.netset_commands.specs.Look.{IsLook}
 use Rattle.netset_commands.specs.Matching.{ArePicked, IsMatch, Picks}
-use Rattle.netset_commands.specs.Picking.{FieldOf, FirstField, IsChosen}
+use Rattle.netset_commands.specs.Picking.{IsFieldPlace, picking_of, seeking_of}
 use Rattle.netset_commands.specs.Program.{Runs, contents_by, error_line}
 use Rattle.netset_commands.specs.Typed.{AnswersTyped, IsTyped}
 use Rattle.netset_commands.specs.declared.commands.operations.Operation.TheVariants.{Merge}
@@ -217,28 +213,27 @@ module _ (telling : Telling) (form : RowForm) (named : List (List ℕ)) (content
   abbrev Printed : List ℕ → Type 0
   Printed answer = IsLook false telling First form (text_by Refused table) file answer Yes
 
-  look_printed : (run : Finished) → HasRun look_words contents run → IsTyped look_words [] (Look FirstField form [] (codes "table") (codes "file"))
+  look_printed : (run : Finished) → HasRun look_words contents run → IsTyped look_words [] (Look (seeking_of [] None form) (codes "table") (codes "file"))
       → run.status ≡ 0 → HasPrinted Printed run
   look_printed run (answered, runs) typed ended =
-      let (answer, (asked, of, is), whole, quiet) = answered look_words [] (Look FirstField form [] (codes "table") (codes "file")) Yes refl typed ended in
+      let (answer, is, whole, quiet) = answered look_words [] (Look (seeking_of [] None form) (codes "table") (codes "file")) Yes refl typed ended in
       printed_by Printed run answer
       (subst (λ (t : Telling). IsLook false t First form (text_by Refused table) file answer Yes) told
-      (subst (λ (k : Asked). IsLook false (telling_by form.values false) k form (text_by Refused table) file answer Yes) of
-      (is (text_by Refused table) (text_by Refused file) (told_text contents (codes "table") table first) (told_text contents (codes "file") file second)))) whole quiet
+      (is (text_by Refused table) (text_by Refused file) (told_text contents (codes "table") table first) (told_text contents (codes "file") file second))) whole quiet
 
   pub looks_printed : (words : List (List ℕ)) (r : Option Finished) → words ≡ look_words
-      → IsTyped look_words [] (Look FirstField form [] (codes "table") (codes "file")) → IfSome r (HasRun words contents)
+      → IsTyped look_words [] (Look (seeking_of [] None form) (codes "table") (codes "file")) → IfSome r (HasRun words contents)
       → IfSome r (λ run. run.status ≡ 0 → HasPrinted Printed run)
   looks_printed words None same typed h = tt
   looks_printed words (Some run) same typed h = look_printed run (subst (λ (k : List (List ℕ)). HasRun k contents run) same h) typed
 
 -- neither needs more of its options
-pub look_typed : IsTyped (codes "look" ∷ codes "table" ∷ codes "file" ∷ []) [] (Look FirstField (by_words Plain) [] (codes "table") (codes "file"))
-look_typed = (refl, tt, λ _. refl, tt, inl (refl, refl, refl, refl, refl))
+pub look_typed : IsTyped (codes "look" ∷ codes "table" ∷ codes "file" ∷ []) [] (Look (seeking_of [] None (by_words Plain)) (codes "table") (codes "file"))
+look_typed = ([], None, refl, tt, λ _. refl, tt, inl (refl, refl, refl, refl, refl))
 
 pub json_look_typed : IsTyped (codes "look" ∷ codes "--format" ∷ codes "json" ∷ codes "table" ∷ codes "file" ∷ []) []
-    (Look FirstField (by_words Json) [] (codes "table") (codes "file"))
-json_look_typed = (refl, tt, λ _. refl, tt, inl (refl, refl, refl, refl, refl))
+    (Look (seeking_of [] None (by_words Json)) (codes "table") (codes "file"))
+json_look_typed = ([], None, refl, tt, λ _. refl, tt, inl (refl, refl, refl, refl, refl))
 
 -- the numbers of two fields
 numbers_typed : codes "2,1" ≡ decimal (1 + 1) ++ 44 ∷ decimal (0 + 1)
@@ -247,8 +242,8 @@ numbers_typed = sym (ap₂ (λ (a b : List ℕ). a ++ 44 ∷ b) (decimal_digit 2
 abbrev typed_words : List ℕ → List (List ℕ)
 typed_words numbers = codes "look" ∷ codes "--table-separator" ∷ codes "," ∷ codes "--table-fields" ∷ numbers ∷ codes "table" ∷ codes "file" ∷ []
 
-pub second_look_typed : IsTyped (typed_words (codes "2,1")) [] (Look FirstField by_second [] (codes "table") (codes "file"))
-second_look_typed = (refl, tt, λ _. refl, (omega arith, omega arith), inl (ap typed_words numbers_typed, refl, refl, refl, refl))
+pub second_look_typed : IsTyped (typed_words (codes "2,1")) [] (Look (seeking_of [] None by_second) (codes "table") (codes "file"))
+second_look_typed = ([], None, refl, tt, λ _. refl, (omega arith, omega arith), inl (ap typed_words numbers_typed, refl, refl, refl, refl))
 
 -- ---- diff
 abbrev pub diff_words : List (List ℕ)
@@ -323,16 +318,9 @@ changes_printed words contents old rules (Some run) same first second h = λ end
 abbrev pub match_words : List (List ℕ)
 match_words = codes "match" ∷ codes "--field" ∷ codes "2" ∷ codes "--separator" ∷ codes "," ∷ codes "list" ∷ codes "file" ∷ []
 
--- the field that is asked for
-abbrev column_at : ℕ → Separator → Column
-column_at place separator = record { place = place; separator = separator }
-
-is_second : (column : Column) → IsChosen (FieldOf (codes "2") (Some (codes ","))) column → column ≡ second_field
-is_second column ((number, small), (byte, is, by)) =
-    let next : column.place + 1 ≡ 2 = number.1 in
-    let place : column.place ≡ 1 = omega (arith, next) in
-    let comma : 44 ≡ byte = ap (λ (text : List ℕ). slice_index text 0) is in
-    ap (λ (k : ℕ). column_at k column.separator) place ∙ ap (λ (k : Separator). column_at 1 k) (by ∙ ap (λ (k : ℕ). Byte k) (sym comma))
+-- the number of the field that is asked for
+is_second : IsFieldPlace (codes "2") 1
+is_second = (((omega arith, (omega arith, tt)), refl), omega arith)
 
 -- all lines were read
 all_picked : (P : List ℕ → Result Bool LineError → Type 0) (text answer : List ℕ) (verdict : Verdict) → IsMatch false P [] written.Lines text None answer verdict
@@ -348,13 +336,11 @@ pub match_printed : (contents : List ℕ → Option (List ℕ)) (list file : Lis
     → contents (codes "file") ≡ Some file → HasRun match_words contents run → run.status ≡ 0
     → HasPrinted (AreLinesBySecond (text_by Refused list) file) run
 match_printed contents list file run first second (answered, runs) ended =
-    let (answer, (column, chosen, is), whole, quiet) = answered match_words [] (Match (FieldOf (codes "2") (Some (codes ","))) [] (codes "list") (codes "file")) Yes refl
-    (refl, refl, inl (refl, refl, refl, refl, refl)) ended in
+    let (answer, is, whole, quiet) = answered match_words [] (Match (picking_of [] (Some second_field)) (codes "list") (codes "file")) Yes refl
+    (codes "2", Some second_field, refl, (refl, is_second), inl (refl, refl, refl, refl, refl)) ended in
     let match = is (text_by Refused list) (text_by Refused file) (told_text contents (codes "list") list first) (told_text contents (codes "file") file second) in
     printed_by (AreLinesBySecond (text_by Refused list) file) run answer
-    (of_list (text_by Refused list) _ _ (λ IsIn same. all_picked (Picks false second_field IsIn false) file answer Yes same)
-    (subst (λ (k : Column). HoldsOf (text_by Refused list) (λ IsIn. IsMatch false (Picks false k IsIn false) [] written.Lines file None answer Yes))
-    (is_second column chosen) match)) whole quiet
+    (of_list (text_by Refused list) _ _ (λ IsIn same. all_picked (Picks false second_field IsIn false) file answer Yes same) match) whole quiet
 
 pub matches_printed : (words : List (List ℕ)) (contents : List ℕ → Option (List ℕ)) (list file : List ℕ) (r : Option Finished) → words ≡ match_words
     → contents (codes "list") ≡ Some list → contents (codes "file") ≡ Some file → IfSome r (HasRun words contents)

@@ -1,18 +1,18 @@
 //! The words of a command line as options and operands, and the command that they are.
-ghost use Rattle.std.specs.Prelude.{◌≡◌, ◌<◌, [], Ok, Err, Bool, true, false, length, drop, MatchOption, MatchResult, option_map, slice_get, unwrap_or};
+ghost use Rattle.std.specs.Prelude.{◌≡◌, ◌<◌, ◌≤◌, ◌^◌, ℕ, [], Ok, Err, Bool, true, false, length, drop, MatchOption, MatchResult, option_map, slice_get, unwrap_or};
 ghost use Rattle.std.specs.List.{after_first, before_first};
-ghost use Rattle.netset_commands.specs.Arguments.{asks_help, choice_by, choice_in, chosen_style, compile_request, extent_by, extra_operand, form_in, free_request, fresh, full_name, help_request, is_equals, is_option, is_plain, is_topic, letter_parts, line_parts, lists_request, long_parts, layout_by, layout_in, separator_by, fields_by, place_by, is_comma, list_form_in, named_list_form, look_by, look_request, made_request, match_by, match_request, missing_operand, misuse_text, may_keep, named_format, named_layout, named_verb, no_option, no_parts, operand_or, part_request, parts_from, question_by, reading_in, same_request, short_option, short_parts, smallest_request, some_style, split_request, style_in_values, style_of, taken_value, takes, target_by, target_in, topic_parts, option_value, verb_of, verb_request, word_parts, acl_request, chosen_line_format, compared_in, diff_request, line_format_in, named_line_format, not_given, permitted_in, shadowed_in, without_value};
-ghost use Rattle.netset_commands.specs.Command.{AddsParts, IsUsageError, choice_of, extent_of, given, misuse_line, given_parts, question_of, request_of};
+ghost use Rattle.netset_commands.specs.Arguments.{asks_help, chosen_style, column_by, compile_request, count_by, extra_operand, field_by, field_in, form_in, free_request, fresh, full_name, help_request, is_equals, is_option, is_plain, is_topic, letter_parts, line_parts, length_by, lists_request, long_parts, layout_by, layout_in, separator_by, fields_by, place_by, is_comma, list_form_in, named_list_form, look_by, look_request, made_request, match_by, match_request, missing_operand, misuse_text, may_keep, most_by, most_in, named_format, named_layout, named_verb, no_option, no_parts, operand_or, part_request, parts_from, question_by, reading_in, same_request, short_option, short_parts, smallest_request, some_style, split_request, style_in_values, style_of, taken_value, takes, target_by, target_in, topic_parts, option_value, verb_of, verb_request, word_parts, acl_request, chosen_line_format, compared_in, diff_request, line_format_in, named_line_format, not_given, permitted_in, shadowed_in, without_value};
+ghost use Rattle.netset_commands.specs.Command.{AddsParts, IsUsageError, given, misuse_line, given_parts, question_of, request_of};
 ghost use Rattle.netset_commands.specs.Matching.{is_word};
+ghost use Rattle.netset_commands.specs.Single.{IsNumber};
 ghost use Rattle.netset_commands.specs.Table.{name_of, takes_value, texts};
-ghost use Rattle.netset_commands.specs.declared.errors.Misfit.TheVariants.{NotPlain, Skipping, WithForm};
 ghost use Rattle.cidr_lists.specs.Formats.{style_in};
 
 use crate::commands::acl::Question;
-use crate::commands::free::Extent;
+use crate::commands::free::length_of;
 use crate::commands::matching::has;
 use crate::commands::operations::Operation;
-use crate::commands::picking::{Choice, place_of};
+use crate::commands::picking::{Picking, picking_of, place_of, seeking_of};
 use crate::commands::single::Single;
 use crate::commands::table::{
     Verb, commands, most_of, name_of, needed_of, options_of, takes_value,
@@ -21,7 +21,7 @@ use crate::commands::{Command, Reading, bits_of, reading_of};
 use crate::errors::{Misfit, Misuse, UsageError};
 use cidr::Family;
 use cidr_io::memory::Memory;
-use cidr_lists::columns::Separator;
+use cidr_lists::columns::{Column, Separator};
 use cidr_lists::formats::{Format, LineFormat, Style, format_of};
 use cidr_lists::forms::{RowColumns, RowForm, RowLayout};
 use cidr_lists::records::ListForm;
@@ -91,15 +91,22 @@ fn value_in<'a>(command: Verb, word: &'a str) -> Option<(&'a str, &'a str)>
     }
 }
 
+/// That this is wrong with a word, by the page of a command.
+fn misused<'a>(command: Verb, why: Misfit, word: &'a str) -> Misuse<'a>
+    ensures { misuse_line result ≡ misuse_text word.now why (name_of command) }
+{
+    Misuse {
+        word,
+        why,
+        command: name_of(command),
+    }
+}
+
 /// The error of a word that is no option of the command.
 fn no_option<'a>(command: Verb, word: &'a str) -> UsageError<'a>
     ensures { (refused : Bool) → IsUsageError (no_option command word.now) refused result }
 {
-    UsageError::Misuse(Misuse {
-        word,
-        why: Misfit::NoOption,
-        command: name_of(command),
-    })
+    UsageError::Misuse(misused(command, Misfit::NoOption, word))
 }
 
 /// Whether a word that is no option names a command, behind `help`.
@@ -274,11 +281,7 @@ fn parts_of<'a, M: Memory>(
     match next {
         Next::Any => Ok(parts),
         Next::Operand => Ok(parts),
-        Next::Value => Err(UsageError::Misuse(Misuse {
-            word: "VALUE",
-            why: Misfit::Missing,
-            command: name_of(command),
-        })),
+        Next::Value => Err(UsageError::Misuse(misused(command, Misfit::Missing, "VALUE"))),
     }
 }
 
@@ -374,11 +377,7 @@ fn fresh<'a>(
 {
     match found {
         None => Ok(Some(value)),
-        Some(_) => Err(Misuse {
-            word: value,
-            why: Misfit::Extra,
-            command: name_of(command),
-        }),
+        Some(_) => Err(misused(command, Misfit::Extra, value)),
     }
 }
 
@@ -424,11 +423,7 @@ fn named_format<'a>(command: Verb, name: &'a str) -> Result<Format, Misuse<'a>>
 {
     match format_of(name) {
         Some(format) => Ok(format),
-        None => Err(Misuse {
-            word: name,
-            why: Misfit::NoFormat,
-            command: name_of(command),
-        }),
+        None => Err(misused(command, Misfit::NoFormat, name)),
     }
 }
 
@@ -446,17 +441,6 @@ fn text_or<'a>(found: Option<&'a str>) -> &'a str
     match found {
         Some(text) => text,
         None => "",
-    }
-}
-
-/// The error of an option that only the format `plain` has.
-fn not_plain<'a>(command: Verb, option: &'static str) -> Misuse<'a>
-    ensures { misuse_line result ≡ misuse_text option.now NotPlain (name_of command) }
-{
-    Misuse {
-        word: option,
-        why: Misfit::NotPlain,
-        command: name_of(command),
     }
 }
 
@@ -478,8 +462,8 @@ fn style_of<'a>(
         });
     }
     match (prefix, suffix) {
-        (Some(_), _) => Err(not_plain(command, "--prefix")),
-        (None, Some(_)) => Err(not_plain(command, "--suffix")),
+        (Some(_), _) => Err(misused(command, Misfit::NotPlain, "--prefix")),
+        (None, Some(_)) => Err(misused(command, Misfit::NotPlain, "--suffix")),
         (None, None) => Ok(Style {
             format,
             prefix: "",
@@ -547,11 +531,7 @@ fn named_line_format<'a>(command: Verb, name: &'a str) -> Result<LineFormat, Mis
     if name == "json" {
         return Ok(LineFormat::Json);
     }
-    Err(Misuse {
-        word: name,
-        why: Misfit::NoLineFormat,
-        command: name_of(command),
-    })
+    Err(misused(command, Misfit::NoLineFormat, name))
 }
 
 /// How lines are written: as text, unless an option says otherwise.
@@ -605,21 +585,67 @@ fn lists_command<'a>(
     Ok(made_command(operation, net, style, files))
 }
 
-/// How many networks `free` is to tell, by whether `--all` is given and by the value of `--count`.
-fn extent_by<'a>(all: bool, count: Option<&'a str>) -> Result<Extent<'a>, Misuse<'a>>
-    ensures { MatchResult result (λ extent. extent_by all (given count.entry) ≡ Ok (extent_of extent))
-        (λ misuse. extent_by all (given count.entry) ≡ Err (misuse_line misuse)) }
+/// The prefix length that an argument is.
+fn length_by<'a>(text: &'a str) -> Result<u8, Misuse<'a>>
+    ensures { MatchResult result (λ n. length_by text.now ≡ Ok n) (λ misuse. length_by text.now ≡ Err (misuse_line misuse)) }
 {
-    match (all, count) {
-        (false, None) => Ok(Extent::First),
-        (true, None) => Ok(Extent::All),
-        (false, Some(count)) => Ok(Extent::Count(count)),
-        (true, Some(_)) => Err(Misuse {
-            word: "--all",
-            why: Misfit::Extra,
-            command: "free",
+    match length_of(text) {
+        Some(len) => Ok(len),
+        None => Err(Misuse {
+            word: text,
+            why: Misfit::NoLength,
+            command: "",
         }),
     }
+}
+
+/// The number below 2^64 that an argument is.
+fn count_of(text: &str) -> Option<u64>
+    ensures { MatchOption result ((n : ℕ) → IsNumber text.now n → 2 ^ 64 ≤ n) (λ n. IsNumber text.now n × (n < 2 ^ 64)) }
+{
+    match text.parse() {
+        Ok(count) => Some(count),
+        Err(_) => None,
+    }
+}
+
+/// The same as the value of an option.
+fn count_by<'a>(text: &'a str) -> Result<u64, Misuse<'a>>
+    ensures { MatchResult result (λ n. count_by text.now ≡ Ok n) (λ misuse. count_by text.now ≡ Err (misuse_line misuse)) }
+{
+    match count_of(text) {
+        Some(count) => Ok(count),
+        None => Err(Misuse {
+            word: text,
+            why: Misfit::NoCount,
+            command: "",
+        }),
+    }
+}
+
+/// How many networks `free` is to tell at most, by whether `--all` is given and by the value of `--count`; `None` for all.
+fn most_by<'a>(all: bool, count: Option<&'a str>) -> Result<Option<u64>, Misuse<'a>>
+    ensures { MatchResult result (λ most. most_by all (given count.entry) ≡ Ok most)
+        (λ misuse. most_by all (given count.entry) ≡ Err (misuse_line misuse)) }
+{
+    match (all, count) {
+        (false, None) => Ok(Some(1)),
+        (true, None) => Ok(None),
+        (false, Some(text)) => {
+            let count = count_by(text)?;
+            Ok(Some(count))
+        }
+        (true, Some(_)) => Err(misused(Verb::Free, Misfit::Extra, "--all")),
+    }
+}
+
+/// How many networks `free` is to tell at most, by its options.
+fn most_in<'a>(parts: &'a Parts<'a>) -> Result<Option<u64>, Misuse<'a>>
+    ensures { MatchResult result (λ most. most_in (given_parts parts.now) ≡ Ok most)
+        (λ misuse. most_in (given_parts parts.now) ≡ Err (misuse_line misuse)) }
+{
+    let count = option_value(Verb::Free, "--count", parts.values.as_slice())?;
+    most_by(has(parts.options.as_slice(), "--all"), count)
 }
 
 /// The command `free`.
@@ -628,15 +654,14 @@ fn free_command<'a>(parts: &'a Parts<'a>) -> Result<Command<'a>, Misuse<'a>>
         (λ misuse. free_request (given_parts parts.now) ≡ Err (misuse_line misuse)) }
 {
     let operands = parts.operands.as_slice();
-    let all = has(parts.options.as_slice(), "--all");
-    let count = option_value(Verb::Free, "--count", parts.values.as_slice())?;
-    let extent = extent_by(all, count)?;
+    let len = length_by(operand_or(operands, 1, ""))?;
+    let most = most_in(parts)?;
     let style = style_in_values(Verb::Free, parts.values.as_slice())?;
     Ok(Command::Free(
         style,
-        extent,
+        most,
         operand_or(operands, 0, ""),
-        operand_or(operands, 1, ""),
+        len,
         operands_from(operands, 2),
     ))
 }
@@ -681,11 +706,7 @@ fn not_given<'a>(
 {
     match found {
         None => Ok(()),
-        Some(_) => Err(Misuse {
-            word: option,
-            why,
-            command: name_of(command),
-        }),
+        Some(_) => Err(misused(command, why, option)),
     }
 }
 
@@ -747,11 +768,7 @@ fn question_by<'a>(
         (false, None) => permitted_in(values),
         (true, None) => shadowed_in(values),
         (false, Some(old)) => compared_in(old, values),
-        (true, Some(_)) => Err(Misuse {
-            word: "--shadowed",
-            why: Misfit::Extra,
-            command: "acl",
-        }),
+        (true, Some(_)) => Err(misused(Verb::Acl, Misfit::Extra, "--shadowed")),
     }
 }
 
@@ -781,42 +798,55 @@ fn help_command<'a>(operands: &[&'a str]) -> Result<Command<'a>, Misuse<'a>>
     }
 }
 
-/// The field that is read of each line, by the value of `--field`, whether `--any` is given, and the value of
-/// `--separator`.
-fn choice_by<'a>(
-    command: Verb,
-    number: Option<&'a str>,
-    any: bool,
-    separator: Option<&'a str>,
-) -> Result<Choice<'a>, Misuse<'a>>
-    ensures { MatchResult result (λ choice. choice_by command (given number.entry) any (given separator.entry) ≡ Ok (choice_of choice))
-        (λ misuse. choice_by command (given number.entry) any (given separator.entry) ≡ Err (misuse_line misuse)) }
+/// The field of a number, and what parts it from others.
+fn column_by<'a>(number: &'a str, separator: Option<&'a str>) -> Result<Column, Misuse<'a>>
+    ensures { MatchResult result (λ column. column_by number.now (given separator.entry) ≡ Ok column)
+        (λ misuse. column_by number.now (given separator.entry) ≡ Err (misuse_line misuse)) }
 {
-    match (number, any, separator) {
-        (None, _, None) => Ok(Choice::First),
-        (None, _, Some(_)) => Err(Misuse {
-            word: "--separator",
-            why: Misfit::NoField,
-            command: name_of(command),
-        }),
-        (Some(number), false, separator) => Ok(Choice::Field(number, separator)),
-        (Some(_), true, _) => Err(Misuse {
-            word: "--field",
-            why: Misfit::Anywhere,
-            command: name_of(command),
+    match place_by(number) {
+        Some(place) => {
+            let separator = separator_by(Misfit::NoByte, "", separator)?;
+            Ok(Column { place, separator })
+        }
+        None => Err(Misuse {
+            word: number,
+            why: Misfit::NoNumber,
+            command: "",
         }),
     }
 }
 
+/// The field that is read of each line, if one is told: by the value of `--field`, whether `--any` is given, and the value
+/// of `--separator`.
+fn field_by<'a>(
+    command: Verb,
+    number: Option<&'a str>,
+    any: bool,
+    separator: Option<&'a str>,
+) -> Result<Option<Column>, Misuse<'a>>
+    ensures { MatchResult result (λ column. field_by command (given number.entry) any (given separator.entry) ≡ Ok column)
+        (λ misuse. field_by command (given number.entry) any (given separator.entry) ≡ Err (misuse_line misuse)) }
+{
+    match (number, any, separator) {
+        (None, _, None) => Ok(None),
+        (None, _, Some(_)) => Err(misused(command, Misfit::NoField, "--separator")),
+        (Some(number), false, separator) => {
+            let column = column_by(number, separator)?;
+            Ok(Some(column))
+        }
+        (Some(_), true, _) => Err(misused(command, Misfit::Anywhere, "--field")),
+    }
+}
+
 /// The same by the parts of a line.
-fn choice_in<'a>(command: Verb, parts: &'a Parts<'a>) -> Result<Choice<'a>, Misuse<'a>>
-    ensures { MatchResult result (λ choice. choice_in command (given_parts parts.now) ≡ Ok (choice_of choice))
-        (λ misuse. choice_in command (given_parts parts.now) ≡ Err (misuse_line misuse)) }
+fn field_in<'a>(command: Verb, parts: &'a Parts<'a>) -> Result<Option<Column>, Misuse<'a>>
+    ensures { MatchResult result (λ column. field_in command (given_parts parts.now) ≡ Ok column)
+        (λ misuse. field_in command (given_parts parts.now) ≡ Err (misuse_line misuse)) }
 {
     let values = parts.values.as_slice();
     let number = option_value(command, "--field", values)?;
     let separator = option_value(command, "--separator", values)?;
-    choice_by(
+    field_by(
         command,
         number,
         has(parts.options.as_slice(), "--any"),
@@ -825,21 +855,17 @@ fn choice_in<'a>(command: Verb, parts: &'a Parts<'a>) -> Result<Choice<'a>, Misu
 }
 
 /// The command `match`, of several files where there is a third operand, and else of one or of the standard input.
-fn match_by<'a>(choice: Choice<'a>, parts: &'a Parts<'a>) -> Command<'a>
-    ensures { request_of result ≡ match_by (choice_of choice.entry) (given_parts parts.now) (slice_get (given_parts parts.now).operands 2) }
+fn match_by<'a>(picking: Picking, operands: &'a [&'a str]) -> Command<'a>
+    ensures { request_of result ≡ match_by picking (texts operands.now) (slice_get (texts operands.now) 2) }
 {
-    let options = parts.options.as_slice();
-    let operands = parts.operands.as_slice();
     match operands.get(2) {
         None => Command::Match(
-            choice,
-            options,
+            picking,
             operand_or(operands, 0, ""),
             operand_or(operands, 1, "-"),
         ),
         Some(_) => Command::MatchEach(
-            choice,
-            options,
+            picking,
             operand_or(operands, 0, ""),
             operands_from(operands, 1),
         ),
@@ -851,8 +877,9 @@ fn match_command<'a>(parts: &'a Parts<'a>) -> Result<Command<'a>, Misuse<'a>>
     ensures { MatchResult result (λ command. match_request (given_parts parts.now) ≡ Ok (request_of command))
         (λ misuse. match_request (given_parts parts.now) ≡ Err (misuse_line misuse)) }
 {
-    let choice = choice_in(Verb::Match, parts)?;
-    Ok(match_by(choice, parts))
+    let column = field_in(Verb::Match, parts)?;
+    let picking = picking_of(parts.options.as_slice(), column);
+    Ok(match_by(picking, parts.operands.as_slice()))
 }
 
 /// The layout of the rows of tables in a form of this name.
@@ -869,11 +896,7 @@ fn named_layout<'a>(command: Verb, name: &'a str) -> Result<RowLayout, Misuse<'a
     if name == "routes6" {
         return Ok(RowLayout::Routes(Family::Ipv6));
     }
-    Err(Misuse {
-        word: name,
-        why: Misfit::NoForm,
-        command: name_of(command),
-    })
+    Err(misused(command, Misfit::NoForm, name))
 }
 
 /// The form of lists of a name, with which go no options that tell how networks are read.
@@ -886,30 +909,15 @@ fn named_list_form<'a>(
         (λ misuse. named_list_form command (texts options.now) name.now ≡ Err (misuse_line misuse)) }
 {
     if name != "rir" {
-        return Err(Misuse {
-            word: name,
-            why: Misfit::NoListForm,
-            command: name_of(command),
-        });
+        return Err(misused(command, Misfit::NoListForm, name));
     }
     if has(options, "--host-bits") {
-        return Err(not_with_form(command, "--host-bits"));
+        return Err(misused(command, Misfit::WithForm, "--host-bits"));
     }
     if has(options, "--masks") {
-        return Err(not_with_form(command, "--masks"));
+        return Err(misused(command, Misfit::WithForm, "--masks"));
     }
     Ok(ListForm::Rir)
-}
-
-/// The error of an option that does not go with `--form`.
-fn not_with_form<'a>(command: Verb, option: &'static str) -> Misuse<'a>
-    ensures { misuse_line result ≡ misuse_text option.now WithForm (name_of command) }
-{
-    Misuse {
-        word: option,
-        why: Misfit::WithForm,
-        command: name_of(command),
-    }
 }
 
 /// The form of the lists that a command reads.
@@ -936,10 +944,14 @@ pub fn reading_in<'a>(command: Verb, parts: &'a Parts<'a>) -> Result<Reading, Mi
     Ok(reading_of(form, parts.options.as_slice()))
 }
 
-/// What parts the fields of rows.
-fn separator_by<'a>(command: Verb, separator: Option<&'a str>) -> Result<Separator, Misuse<'a>>
-    ensures { MatchResult result (λ parted. separator_by command (given separator.entry) ≡ Ok parted)
-        (λ misuse. separator_by command (given separator.entry) ≡ Err (misuse_line misuse)) }
+/// What parts the fields of lines, or what is told where it is not one byte.
+fn separator_by<'a>(
+    why: Misfit,
+    command: &'static str,
+    separator: Option<&'a str>,
+) -> Result<Separator, Misuse<'a>>
+    ensures { MatchResult result (λ parted. separator_by why command.now (given separator.entry) ≡ Ok parted)
+        (λ misuse. separator_by why command.now (given separator.entry) ≡ Err (misuse_line misuse)) }
 {
     let Some(text) = separator else {
         return Ok(Separator::WhiteSpace);
@@ -948,8 +960,8 @@ fn separator_by<'a>(command: Verb, separator: Option<&'a str>) -> Result<Separat
         [byte] => Ok(Separator::Byte(*byte)),
         _ => Err(Misuse {
             word: text,
-            why: Misfit::NotOneByte,
-            command: name_of(command),
+            why,
+            command,
         }),
     }
 }
@@ -988,11 +1000,7 @@ fn columns_by<'a>(
             network,
             value,
         })),
-        _ => Err(Misuse {
-            word: numbers,
-            why: Misfit::NoFields,
-            command: name_of(command),
-        }),
+        _ => Err(misused(command, Misfit::NoFields, numbers)),
     }
 }
 
@@ -1023,8 +1031,8 @@ fn form_by<'a>(
 {
     match (separator, numbers) {
         (None, None) => named_layout(command, name),
-        (Some(_), _) => Err(not_with_form(command, "--table-separator")),
-        (None, Some(_)) => Err(not_with_form(command, "--table-fields")),
+        (Some(_), _) => Err(misused(command, Misfit::WithForm, "--table-separator")),
+        (None, Some(_)) => Err(misused(command, Misfit::WithForm, "--table-fields")),
     }
 }
 
@@ -1041,7 +1049,7 @@ fn layout_by<'a>(
     match name {
         Some(name) => form_by(command, name, separator, numbers),
         None => {
-            let separator = separator_by(command, separator)?;
+            let separator = separator_by(Misfit::NotOneByte, name_of(command), separator)?;
             fields_by(command, separator, numbers)
         }
     }
@@ -1077,30 +1085,24 @@ fn may_keep<'a>(format: LineFormat, keeps: bool) -> Result<(), Misuse<'a>>
 {
     match (format, keeps) {
         (LineFormat::Plain, _) | (LineFormat::Json, false) => Ok(()),
-        (LineFormat::Json, true) => Err(Misuse {
-            word: "--keep",
-            why: Misfit::WithJson,
-            command: "look",
-        }),
+        (LineFormat::Json, true) => Err(misused(Verb::Look, Misfit::WithJson, "--keep")),
     }
 }
 
 /// The command `look`, of a table and a file or the standard input.
 fn look_by<'a>(
-    choice: Choice<'a>,
+    column: Option<Column>,
     form: RowForm,
     parts: &'a Parts<'a>,
 ) -> Result<Command<'a>, Misuse<'a>>
-    ensures { MatchResult result (λ command. look_by (choice_of choice.entry) form (given_parts parts.now) ≡ Ok (request_of command))
-        (λ misuse. look_by (choice_of choice.entry) form (given_parts parts.now) ≡ Err (misuse_line misuse)) }
+    ensures { MatchResult result (λ command. look_by column form (given_parts parts.now) ≡ Ok (request_of command))
+        (λ misuse. look_by column form (given_parts parts.now) ≡ Err (misuse_line misuse)) }
 {
     let options = parts.options.as_slice();
     let operands = parts.operands.as_slice();
     may_keep(form.values, has(options, "--keep"))?;
     Ok(Command::Look(
-        choice,
-        form,
-        options,
+        seeking_of(options, column, form),
         operand_or(operands, 0, ""),
         operand_or(operands, 1, "-"),
     ))
@@ -1111,9 +1113,9 @@ fn look_command<'a>(parts: &'a Parts<'a>) -> Result<Command<'a>, Misuse<'a>>
     ensures { MatchResult result (λ command. look_request (given_parts parts.now) ≡ Ok (request_of command))
         (λ misuse. look_request (given_parts parts.now) ≡ Err (misuse_line misuse)) }
 {
-    let choice = choice_in(Verb::Look, parts)?;
+    let column = field_in(Verb::Look, parts)?;
     let form = form_in(Verb::Look, parts.values.as_slice())?;
-    look_by(choice, form, parts)
+    look_by(column, form, parts)
 }
 
 /// The command `compile` with how the rows of its table are read.
@@ -1220,31 +1222,12 @@ pub fn command_of<'a>(command: Verb, parts: &'a Parts<'a>) -> Result<Command<'a>
     }
     let operands = parts.operands.as_slice();
     if let Some(name) = missing_operand(command, operands) {
-        return Err(Misuse {
-            word: name,
-            why: Misfit::Missing,
-            command: name_of(command),
-        });
+        return Err(misused(command, Misfit::Missing, name));
     }
     if let Some(word) = extra_operand(command, operands) {
-        return Err(Misuse {
-            word,
-            why: Misfit::Extra,
-            command: name_of(command),
-        });
+        return Err(misused(command, Misfit::Extra, word));
     }
     verb_command(command, parts)
-}
-
-/// The error of an option that does not go with `--skip-bad`.
-fn not_skipping<'a>(command: Verb, option: &'static str) -> Misuse<'a>
-    ensures { misuse_line result ≡ misuse_text option.now Skipping (name_of command) }
-{
-    Misuse {
-        word: option,
-        why: Misfit::Skipping,
-        command: name_of(command),
-    }
 }
 
 /// The file that the answer is written to, by whether `-k` and `--skip-bad` are given: the latter goes with none.
@@ -1259,8 +1242,8 @@ fn target_by<'a>(
 {
     match (keeps, skips, target) {
         (_, false, _) => Ok(target),
-        (true, true, _) => Err(not_skipping(command, "-k")),
-        (false, true, Some(_)) => Err(not_skipping(command, "-o")),
+        (true, true, _) => Err(misused(command, Misfit::Skipping, "-k")),
+        (false, true, Some(_)) => Err(misused(command, Misfit::Skipping, "-o")),
         (false, true, None) => Ok(None),
     }
 }

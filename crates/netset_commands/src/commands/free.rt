@@ -1,5 +1,5 @@
 //! The networks of a prefix length that are free in a pool, or inside the networks of a list.
-ghost use Rattle.std.specs.Prelude.{◌≡◌, ◌∷◌, ◌++◌, ℕ, ◌≤◌, ◌<◌, ◌^◌, None, Some, map, option_map, length, IfErr, MatchOption, MatchResult, Option};
+ghost use Rattle.std.specs.Prelude.{◌≡◌, ◌∷◌, ◌++◌, ℕ, ◌≤◌, ◌<◌, None, Some, map, option_map, length, IfErr, MatchOption, Option};
 ghost use Rattle.std.specs.Bool.{Decides};
 ghost use Rattle.std.specs.List.{flat_map};
 ghost use Rattle.cidr.specs.declared.cidr.combined.IpCidr.TheVariants.{V4, V6};
@@ -7,17 +7,16 @@ ghost use Rattle.cidr_lists.specs.Formats.{before_next, layout_in, printed_walk,
 ghost use Rattle.cidr_lists.specs.Sets.{networks_of};
 ghost use Rattle.netset_commands.specs.Answering.{ReadsPool, TellsFree};
 ghost use Rattle.netset_commands.specs.Causes.{Cause, FileFails};
-ghost use Rattle.netset_commands.specs.Command.{extent_of};
 ghost use Rattle.netset_commands.specs.Commands.{Free};
-ghost use Rattle.netset_commands.specs.Free.{IsBadCount, IsMost, inside_of, less, taken, TakesLayout, TakesRows};
+ghost use Rattle.netset_commands.specs.Free.{inside_of, less, taken, TakesLayout, TakesRows};
 ghost use Rattle.netset_commands.specs.Networks.{ip_of};
-ghost use Rattle.netset_commands.specs.Program.{AnswersRequest, IsBadArgument};
+ghost use Rattle.netset_commands.specs.Program.{AnswersRequest};
 ghost use Rattle.netset_commands.specs.Single.{IsNumber};
 ghost use Rattle.cidr_io.specs.Writing.{Answered};
 
 use crate::commands::combine::combination;
 use crate::commands::operations::Operation;
-use crate::errors::{ArgumentError, CommandError};
+use crate::errors::CommandError;
 use crate::input::files::Sources;
 use crate::input::operands::read_pool;
 use crate::output::answers::{Verdict, by_output};
@@ -33,17 +32,6 @@ use cidr_lists::sets::Sets;
 /// The longest prefix length.
 const LONGEST: u8 = 128;
 
-/// How many of the free networks are written.
-#[derive(Clone, Copy)]
-pub enum Extent<'a> {
-    /// The first.
-    First,
-    /// So many of the first as this argument says.
-    Count(&'a str),
-    /// All.
-    All,
-}
-
 /// The prefix length that an argument is.
 pub fn length_of(text: &str) -> Option<u8>
     ensures { MatchOption result ((n : ℕ) → IsNumber text.now n → 128 < n) (λ n. IsNumber text.now n × (n ≤ 128)) }
@@ -52,20 +40,6 @@ pub fn length_of(text: &str) -> Option<u8>
         return None;
     };
     if len <= LONGEST { Some(len) } else { None }
-}
-
-/// How many networks are written at most; `None` where all are.
-pub fn most_of<'a>(extent: Extent<'a>) -> Result<Option<u64>, CommandError<'a>>
-    ensures { MatchResult result (IsMost (extent_of extent.entry)) (IsBadArgument (IsBadCount (extent_of extent.entry))) }
-{
-    match extent {
-        Extent::First => Ok(Some(1)),
-        Extent::Count(text) => match text.parse::<u64>() {
-            Ok(count) => Ok(Some(count)),
-            Err(_) => Err(CommandError::Argument(text, ArgumentError::Count)),
-        },
-        Extent::All => Ok(None),
-    }
 }
 
 /// Whether no more networks are written.
@@ -224,28 +198,24 @@ pub fn tell_free<'a, S: Sink>(
     }
 }
 
-/// The command `free`.
+/// The command `free`, of at most so many networks, or all.
 pub fn free<'a, M: Memory, F: Sources, O: Sink>(
     memory: &mut M,
     sources: &F,
     style: Option<Style<'_>>,
-    extent: Extent<'a>,
+    most: Option<u64>,
     pool: &'a str,
-    len: &'a str,
+    len: u8,
     used: &'a [&'a str],
     out: &mut O,
 ) -> Result<Verdict, CommandError<'a>>
     ensures answers { AnswersRequest (F.contents sources.now)
-        (Free (option_map (λ s. style_in s) style.entry) (extent_of extent.entry) pool.now len.now (map (λ file. file.now) used.now))
+        (Free (option_map (λ s. style_in s) style.entry) most pool.now len (map (λ file. file.now) used.now))
         (O.state out.old) (O.state out.new) result }
     ensures cause { IfErr result (Cause (FileFails (F.contents sources.now) (F.reasons sources.now)) (M.refused memory.new)) }
 {
-    let Some(bits) = length_of(len) else {
-        return Err(CommandError::Argument(len, ArgumentError::Length));
-    };
-    let most = most_of(extent)?;
     let several = read_pool(memory, sources, pool, used)?;
     let rest = combination(Operation::Minus, several);
     let rest = memory.watch(rest)?;
-    tell_free(style, &rest, bits, most, out)
+    tell_free(style, &rest, len, most, out)
 }

@@ -3,7 +3,6 @@ ghost use Rattle.std.specs.Prelude.{◌≡◌, ◌<◌, ◌≤◌, ◌⊎◌, []
 ghost use Rattle.std.specs.List.{AllZip};
 ghost use Rattle.cidr_io.specs.Lines.{MayFail as NoLineFails};
 ghost use Rattle.netset_commands.specs.Causes.{Cause, LookCause, FileFails, ReadCause, TextFails};
-ghost use Rattle.netset_commands.specs.Command.{choice_of};
 ghost use Rattle.netset_commands.specs.Commands.{Look};
 ghost use Rattle.netset_commands.specs.KeptLines.{IsBehindHeader, TellsFile, TellsLeft};
 ghost use Rattle.netset_commands.specs.Look.{verdict_of};
@@ -11,8 +10,8 @@ ghost use Rattle.netset_commands.specs.LookUps.{AllFound, AsksAddress, AsksLine,
 ghost use Rattle.netset_commands.specs.Program.{AnswersRequest};
 
 use crate::commands::kept::{tell_lines, write_header};
-use crate::commands::matching::{has, next_part};
-use crate::commands::picking::{Choice, asked_of};
+use crate::commands::matching::next_part;
+use crate::commands::picking::Seeking;
 use crate::errors::{CommandError, ListReadError, Reason};
 use crate::input::begun::FileContent;
 use crate::input::files::Sources;
@@ -29,8 +28,7 @@ use cidr_io::sink::{OutputFailed, Sink};
 use cidr_io::source::Source;
 use cidr_lists::errors::LineError;
 use cidr_lists::fields::{Asked, asked_in};
-use cidr_lists::forms::RowForm;
-use cidr_lists::objects::{Telling, telling_by};
+use cidr_lists::objects::Telling;
 
 /// Why look-ups end early.
 #[derive(Drop)]
@@ -336,13 +334,11 @@ fn look_in<'a, T: RowLookUps, M: Memory, F: Sources, O: Sink>(
     memory: &mut M,
     sources: &F,
     table: &T,
-    telling: Telling,
-    place: Asked,
-    headed: bool,
+    seeking: Seeking,
     file: &'a str,
     out: &mut O,
 ) -> Result<Verdict, CommandError<'a>>
-    ensures tells { TellsFile headed telling place (T.LookUps.rows table.now) (F.contents sources.now file.now) file.now (O.state out.old) (O.state out.new) result }
+    ensures tells { TellsFile seeking.headed seeking.telling seeking.asked (T.LookUps.rows table.now) (F.contents sources.now file.now) file.now (O.state out.old) (O.state out.new) result }
     ensures cause { IfErr result (Cause (FileFails (F.contents sources.now) (F.reasons sources.now)) (M.refused memory.new)) }
 {
     let reader = match sources.open(file) {
@@ -352,7 +348,8 @@ fn look_in<'a, T: RowLookUps, M: Memory, F: Sources, O: Sink>(
     let Ok(mut reader) = LineReader::new(memory, reader) else {
         return Err(CommandError::NoMemory);
     };
-    if headed {
+    let (telling, place) = (seeking.telling, seeking.asked);
+    if seeking.headed {
         look_behind(memory, table, telling, place, file, &mut reader, out)
     } else {
         look_left(memory, table, telling, place, file, &mut reader, out)
@@ -363,29 +360,21 @@ fn look_in<'a, T: RowLookUps, M: Memory, F: Sources, O: Sink>(
 pub fn look<'a, M: Memory, F: Sources, O: Sink>(
     memory: &mut M,
     sources: &F,
-    choice: Choice<'a>,
-    form: RowForm,
-    options: &[&str],
+    seeking: Seeking,
     table: &'a str,
     file: &'a str,
     out: &mut O,
 ) -> Result<Verdict, CommandError<'a>>
-    ensures answers { AnswersRequest (F.contents sources.now) (Look (choice_of choice.entry) form (map (λ w. w.now) options.now) table.now file.now)
+    ensures answers { AnswersRequest (F.contents sources.now) (Look seeking table.now file.now)
         (O.state out.old) (O.state out.new) result }
     ensures cause { IfErr result (Cause (FileFails (F.contents sources.now) (F.reasons sources.now)) (M.refused memory.new)) }
 {
-    let place = asked_of(choice, has(options, "--any"))?;
-    let keeps = has(options, "--keep");
-    let telling = telling_by(form.values, keeps);
-    let headed = has(options, "--header");
-    match give_table(memory, sources, form, table)? {
-        FileContent::Lines(rows) => look_in(
-            memory, sources, &rows, telling, place, headed, file, out,
-        ),
+    match give_table(memory, sources, seeking.form, table)? {
+        FileContent::Lines(rows) => look_in(memory, sources, &rows, seeking, file, out),
         FileContent::Stored(bytes) => {
             let stored = Stored::check(memory, table, bytes.as_slice())?;
-            stored.check_values(form.values, table)?;
-            look_in(memory, sources, &stored, telling, place, headed, file, out)
+            stored.check_values(seeking.form.values, table)?;
+            look_in(memory, sources, &stored, seeking, file, out)
         }
     }
 }

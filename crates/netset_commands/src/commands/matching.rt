@@ -1,14 +1,14 @@
 //! The command `match`: the lines of files of which a field lies in a list, or that have an address of it.
-ghost use Rattle.std.specs.Prelude.{◌≡◌, ◌<◌, ◌++◌, ◌&&◌, ◌==◌, [], ◌∷◌, codes, true, false, not, if◌then◌else◌, map, IfOk, IfErr, IfSome, None};
+ghost use Rattle.std.specs.Prelude.{◌≡◌, ◌<◌, ◌++◌, ◌&&◌, ◌==◌, [], ◌∷◌, true, false, not, if◌then◌else◌, map, IfOk, IfErr, IfSome};
 ghost use Rattle.std.specs.Bool.{Decides};
 ghost use Rattle.cidr_io.specs.Lines.{MayFail as NoLineFails};
 ghost use Rattle.cidr_io.specs.Writing.{Writes};
 ghost use Rattle.cidr_io.specs.Collecting.{Collects};
 ghost use Rattle.netset_commands.specs.Causes.{Cause, FileFails, TextFails};
-ghost use Rattle.netset_commands.specs.Command.{choice_of};
 ghost use Rattle.netset_commands.specs.Commands.{Match, MatchEach};
 ghost use Rattle.netset_commands.specs.Gathering.{Finishes, IsCounted, IsDone, IsNotReadFurther, NotesLong, Stops, Streams, StreamsEach, StreamsFile, GathersPart, TakesHeader, label_of, lines_of_part, rest_written, told_behind};
-ghost use Rattle.netset_commands.specs.Matching.{Picks, PicksByField, either, has, line_written, passed_over, written_of};
+ghost use Rattle.netset_commands.specs.Matching.{PicksByField, either, has, line_written, passed_over};
+ghost use Rattle.netset_commands.specs.Picking.{PicksOf};
 ghost use Rattle.netset_commands.specs.Program.{AnswersRequest};
 ghost use Rattle.netset_commands.specs.Reading.{IsNextLine};
 ghost use Rattle.netset_commands.specs.declared.commands.matching.Written.TheVariants.{Nothing};
@@ -16,7 +16,7 @@ ghost use Rattle.netset_commands.specs.declared.output.answers.Verdict.TheVarian
 ghost use Rattle.cidr_lists.specs.Printing.{line as line_of};
 ghost use Rattle.cidr_lists.specs.Sets.{IsInSets};
 
-use crate::commands::picking::{Choice, column_of};
+use crate::commands::picking::Picking;
 use crate::errors::{CommandError, Reason};
 use crate::input::files::Sources;
 use crate::input::several::read_addresses;
@@ -28,7 +28,6 @@ use cidr_io::lines::{LineReadError, LineReader, is_too_long};
 use cidr_io::memory::Memory;
 use cidr_io::sink::{OutputFailed, Sink};
 use cidr_io::source::Source;
-use cidr_lists::columns::Column;
 use cidr_lists::errors::LineError;
 use cidr_lists::fields::network_at;
 use cidr_lists::sets::Sets;
@@ -51,80 +50,41 @@ pub fn has(options: &[&str], name: &str) -> bool
     options.contains(&name)
 }
 
-/// What is written of the lines by these options.
-fn written_of(options: &[&str]) -> Written
-    ensures { result ≡ written_of (map (λ w. w.now) options.now) }
-{
-    if has(options, "-q") {
-        Written::Nothing
-    } else if has(options, "-c") {
-        Written::Count
-    } else {
-        Written::Lines
-    }
-}
-
 /// Which lines are picked, and what is written of them.
 #[derive(Clone, Copy)]
 struct Matcher<'a> {
     sets: &'a Sets,
-    anywhere: bool,
-    column: Column,
-    inverted: bool,
-    /// Whether the first line is a header, which is written and not counted.
-    headed: bool,
-    written: Written,
+    picking: Picking,
     /// The name in front of what is written of a file that is not the only one.
     name: Option<&'a str>,
-}
-
-/// The matcher of these options.
-fn matcher_of<'a>(sets: &'a Sets, column: Column, options: &[&str]) -> Matcher<'a>
-    ensures sets { result.sets.now ≡ sets.now }
-    ensures column { result.column ≡ column }
-    ensures anywhere { result.anywhere ≡ has (codes "--any") (map (λ w. w.now) options.now) }
-    ensures inverted { result.inverted ≡ has (codes "-v") (map (λ w. w.now) options.now) }
-    ensures headed { result.headed ≡ has (codes "--header") (map (λ w. w.now) options.now) }
-    ensures written { result.written ≡ written_of (map (λ w. w.now) options.now) }
-    ensures name { result.name ≡ None }
-{
-    Matcher {
-        sets,
-        anywhere: has(options, "--any"),
-        column,
-        inverted: has(options, "-v"),
-        headed: has(options, "--header"),
-        written: written_of(options),
-        name: None,
-    }
 }
 
 impl Matcher<'_> {
     /// Whether the line of this number is a header.
     fn is_header(&self, number: u64) -> bool
-        ensures { result ≡ (self.now.headed && (number == 1)) }
+        ensures { result ≡ (self.now.picking.headed && (number == 1)) }
     {
-        self.headed && number == 1
+        self.picking.headed && number == 1
     }
 
     /// Whether a line is picked by its field.
     fn picks_by_field(&self, line: &[u8]) -> Result<bool, LineError>
-        ensures { PicksByField self.now.column (IsInSets self.now.sets.now) self.now.inverted line.now result }
+        ensures { PicksByField self.now.picking.column (IsInSets self.now.sets.now) self.now.picking.inverted line.now result }
     {
-        let network = network_at(self.column, line)?;
+        let network = network_at(self.picking.column, line)?;
         let lies = self.sets.have(&network);
-        Ok(is_picked(self.inverted, lies))
+        Ok(is_picked(self.picking.inverted, lies))
     }
 
     /// Whether a line is picked.
     fn picks(&self, line: &[u8]) -> Result<bool, LineError>
-        ensures { Picks self.now.anywhere self.now.column (IsInSets self.now.sets.now) self.now.inverted line.now result }
+        ensures { PicksOf self.now.picking (IsInSets self.now.sets.now) line.now result }
     {
         if is_too_long(line) {
-            return passed_over(self.anywhere);
+            return passed_over(self.picking.anywhere);
         }
-        if self.anywhere {
-            return Ok(is_picked(self.inverted, self.sets.have_one(line)));
+        if self.picking.anywhere {
+            return Ok(is_picked(self.picking.inverted, self.sets.have_one(line)));
         }
         self.picks_by_field(line)
     }
@@ -240,9 +200,9 @@ impl Gathered {
     ) -> Result<(), OutputFailed>
         ensures count { self.new.count ≡ self.old.count }
         ensures collects { Collects (S.state out.old) (S.state out.new) self.old.block self.new.block
-            (line_written (label_of matcher.now.name) matcher.now.written line.now) result }
+            (line_written (label_of matcher.now.name) matcher.now.picking.written line.now) result }
     {
-        match matcher.written {
+        match matcher.picking.written {
             Written::Lines => self.push_named(matcher.name, out, line),
             Written::Count | Written::Nothing => Ok(()),
         }
@@ -257,7 +217,7 @@ impl Gathered {
         line: &[u8],
         out: &mut S,
     ) -> Result<(), CommandError<'a>>
-        ensures { TakesHeader (label_of matcher.now.name) matcher.now.written file.now line.now (S.state out.old) (S.state out.new)
+        ensures { TakesHeader (label_of matcher.now.name) matcher.now.picking.written file.now line.now (S.state out.old) (S.state out.new)
             self.old self.new result }
     {
         if is_too_long(line) {
@@ -280,8 +240,8 @@ impl Gathered {
         out: &mut S,
     ) -> Result<(), CommandError<'a>>
         requires { self.old.count < number }
-        ensures { GathersPart (matcher.now.headed && (number == 1)) (Picks matcher.now.anywhere matcher.now.column (IsInSets matcher.now.sets.now) matcher.now.inverted)
-            (label_of matcher.now.name) matcher.now.written file.now number part.now has_more (S.state out.old) (S.state out.new)
+        ensures { GathersPart (matcher.now.picking.headed && (number == 1)) (PicksOf matcher.now.picking (IsInSets matcher.now.sets.now))
+            (label_of matcher.now.name) matcher.now.picking.written file.now number part.now has_more (S.state out.old) (S.state out.new)
             self.old self.new result }
     {
         if !is_line(part, has_more) {
@@ -347,9 +307,9 @@ impl Gathered {
         out: &mut S,
     ) -> Result<(), OutputFailed>
         ensures { Collects (S.state out.old) (S.state out.new) self.old.block self.new.block
-            (rest_written (label_of matcher.now.name) matcher.now.written self.old.count) result }
+            (rest_written (label_of matcher.now.name) matcher.now.picking.written self.old.count) result }
     {
-        match matcher.written {
+        match matcher.picking.written {
             Written::Count => {
                 let count = decimal_text(u128::from(self.count));
                 self.push_named(matcher.name, out, count.as_str().as_bytes())
@@ -365,7 +325,7 @@ impl Gathered {
         out: &mut S,
     ) -> Result<(), OutputFailed>
         ensures { Writes (S.state out.old) (S.state out.new)
-            (self.old.block ++ rest_written (label_of matcher.now.name) matcher.now.written self.old.count) result }
+            (self.old.block ++ rest_written (label_of matcher.now.name) matcher.now.picking.written self.old.count) result }
     {
         self.push_count(matcher, out)?;
         self.block.flush(out)
@@ -377,7 +337,7 @@ impl Gathered {
         matcher: &Matcher<'_>,
         out: &mut S,
     ) -> Result<Verdict, CommandError<'a>>
-        ensures { Finishes (label_of matcher.now.name) matcher.now.written (S.state out.old) (S.state out.new) self.old result }
+        ensures { Finishes (label_of matcher.now.name) matcher.now.picking.written (S.state out.old) (S.state out.new) self.old result }
     {
         let verdict = verdict_of(self.count);
         by_output(verdict, self.write_rest(matcher, out))
@@ -412,8 +372,8 @@ fn stream<'a, M: Memory, R: Source + Drop, S: Sink>(
     reader: &mut LineReader<R>,
     out: &mut S,
 ) -> Result<Verdict, CommandError<'a>>
-    ensures streams { Streams matcher.now.headed (Picks matcher.now.anywhere matcher.now.column (IsInSets matcher.now.sets.now) matcher.now.inverted)
-        (label_of matcher.now.name) matcher.now.written file.now reader.old.left (S.state out.old) (S.state out.new) result }
+    ensures streams { Streams matcher.now.picking.headed (PicksOf matcher.now.picking (IsInSets matcher.now.sets.now))
+        (label_of matcher.now.name) matcher.now.picking.written file.now reader.old.left (S.state out.old) (S.state out.new) result }
     ensures cause { IfErr result (Cause (λ name _. (name ≡ file.now) × TextFails reader.old.left) (M.refused memory.new)) }
 {
     if out.failed() {
@@ -434,7 +394,7 @@ fn stream<'a, M: Memory, R: Source + Drop, S: Sink>(
             Ok(()) => {}
             Err(e) => return gathered.stop(e, out),
         }
-        if gathered.is_done(matcher.written, has_more) {
+        if gathered.is_done(matcher.picking.written, has_more) {
             return told_behind(file, long, gathered.finish(matcher, out));
         }
     }
@@ -449,8 +409,8 @@ fn match_file<'a, M: Memory, F: Sources, O: Sink>(
     file: &'a str,
     out: &mut O,
 ) -> Result<Verdict, CommandError<'a>>
-    ensures streams { StreamsFile matcher.now.headed (Picks matcher.now.anywhere matcher.now.column (IsInSets matcher.now.sets.now) matcher.now.inverted)
-        (label_of matcher.now.name) matcher.now.written file.now (F.contents sources.now file.now) (O.state out.old) (O.state out.new) result }
+    ensures streams { StreamsFile matcher.now.picking.headed (PicksOf matcher.now.picking (IsInSets matcher.now.sets.now))
+        (label_of matcher.now.name) matcher.now.picking.written file.now (F.contents sources.now file.now) (O.state out.old) (O.state out.new) result }
     ensures cause { IfErr result (Cause (FileFails (F.contents sources.now) (F.reasons sources.now)) (M.refused memory.new)) }
 {
     let reader = match sources.open(file) {
@@ -467,19 +427,21 @@ fn match_file<'a, M: Memory, F: Sources, O: Sink>(
 pub fn matching<'a, M: Memory, F: Sources, O: Sink>(
     memory: &mut M,
     sources: &F,
-    choice: Choice<'a>,
-    options: &[&str],
+    picking: Picking,
     list: &'a str,
     file: &'a str,
     out: &mut O,
 ) -> Result<Verdict, CommandError<'a>>
-    ensures answers { AnswersRequest (F.contents sources.now) (Match (choice_of choice.entry) (map (λ w. w.now) options.now) list.now file.now)
+    ensures answers { AnswersRequest (F.contents sources.now) (Match picking list.now file.now)
         (O.state out.old) (O.state out.new) result }
     ensures cause { IfErr result (Cause (FileFails (F.contents sources.now) (F.reasons sources.now)) (M.refused memory.new)) }
 {
-    let column = column_of(choice)?;
     let sets = read_addresses(memory, sources, list)?;
-    let matcher = matcher_of(&sets, column, options);
+    let matcher = Matcher {
+        sets: &sets,
+        picking,
+        name: None,
+    };
     match_file(memory, sources, &matcher, file, out)
 }
 
@@ -509,8 +471,8 @@ fn match_files<'a, M: Memory, F: Sources, O: Sink>(
     files: &[&'a str],
     out: &mut O,
 ) -> Result<Verdict, CommandError<'a>>
-    ensures streams { StreamsEach (F.contents sources.now) matcher.now.headed (Picks matcher.now.anywhere matcher.now.column (IsInSets matcher.now.sets.now) matcher.now.inverted)
-        matcher.now.written (map (λ file. file.now) files.now) (O.state out.old) (O.state out.new) result }
+    ensures streams { StreamsEach (F.contents sources.now) matcher.now.picking.headed (PicksOf matcher.now.picking (IsInSets matcher.now.sets.now))
+        matcher.now.picking.written (map (λ file. file.now) files.now) (O.state out.old) (O.state out.new) result }
     ensures cause { IfErr result (Cause (FileFails (F.contents sources.now) (F.reasons sources.now)) (M.refused memory.new)) }
 {
     if out.failed() {
@@ -520,16 +482,12 @@ fn match_files<'a, M: Memory, F: Sources, O: Sink>(
     for file in files {
         let named = Matcher {
             sets: matcher.sets,
-            anywhere: matcher.anywhere,
-            column: matcher.column,
-            inverted: matcher.inverted,
-            headed: matcher.headed,
-            written: matcher.written,
+            picking: matcher.picking,
             name: Some(*file),
         };
         let one = match_file(memory, sources, &named, file, out)?;
         verdict = either(verdict, one);
-        if needs_no_more(matcher.written, verdict) {
+        if needs_no_more(matcher.picking.written, verdict) {
             return Ok(verdict);
         }
     }
@@ -540,19 +498,21 @@ fn match_files<'a, M: Memory, F: Sources, O: Sink>(
 pub fn match_each<'a, M: Memory, F: Sources, O: Sink>(
     memory: &mut M,
     sources: &F,
-    choice: Choice<'a>,
-    options: &[&str],
+    picking: Picking,
     list: &'a str,
     files: &[&'a str],
     out: &mut O,
 ) -> Result<Verdict, CommandError<'a>>
     ensures answers { AnswersRequest (F.contents sources.now)
-        (MatchEach (choice_of choice.entry) (map (λ w. w.now) options.now) list.now (map (λ file. file.now) files.now))
+        (MatchEach picking list.now (map (λ file. file.now) files.now))
         (O.state out.old) (O.state out.new) result }
     ensures cause { IfErr result (Cause (FileFails (F.contents sources.now) (F.reasons sources.now)) (M.refused memory.new)) }
 {
-    let column = column_of(choice)?;
     let addresses = read_addresses(memory, sources, list)?;
-    let matcher = matcher_of(&addresses, column, options);
+    let matcher = Matcher {
+        sets: &addresses,
+        picking,
+        name: None,
+    };
     match_files(memory, sources, &matcher, files, out)
 }

@@ -8,4 +8,4 @@ pub returns-then-has : goal.returns-then-has
 returns-then-has c =
     if_false (not (is_word (codes "rir") c.args.name.now)) _ _ (sym c.ne.ensures ∙ c.if-ne.false)
     ∙ (if_true (has (codes "--host-bits") (texts c.args.options.now)) _ _ (sym c.has.ensures ∙ c.if-has.true)
-    ∙ ap (λ (line : List ℕ). Err line) (sym c.not_with_form.ensures))
+    ∙ ap (λ (line : List ℕ). Err line) (sym c.misused-then-has.ensures))

@@ -31,4 +31,4 @@ returns-in-Operand g c =
 pub returns : goal.returns
 returns g c =
     value_missing c.args.command c.args.words.now c.loop-word.word-index (given_parts c.loop-word.parts) c.loop-word.next c.loop-word-test.false c.loop-word.invariant c.in-Value.is
-    ∙ ap (λ (k : List ℕ). Err (misuse_text (codes "VALUE") Missing k)) (sym c.name_of.ensures)
+    ∙ ap (λ (line : List ℕ). Err line) (sym c.misused.ensures)

@@ -3,46 +3,34 @@ use Rattle.std.proofs.lemmas.Result.{err_from_is_err_and}
 use Rattle.cidr_lists.specs.Formats.{style_in}
 use Rattle.cidr_lists.specs.Sets.{networks_of}
 use Rattle.netset_commands.specs.Causes.{FileFails}
-use Rattle.netset_commands.specs.Command.{extent_of}
-use Rattle.netset_commands.proofs.Causes.{argument_cause}
-use Rattle.netset_commands.proofs.Pools.{count_wrong, free_cause, free_written}
+use Rattle.netset_commands.proofs.Pools.{free_cause, free_written}
 use Rattle.netset_commands.proofs.commands.free.free.Goals as goal
 
 pub returns-clause-answers : goal.returns-clause-answers
 returns-clause-answers g c =
-    free_written (g.F.Sources.contents c.args.sources.now) (option_map (λ s. style_in s) c.args.style) (extent_of c.args.extent) c.args.pool.now c.args.len.now (map (λ file. file.now) c.args.used.now)
-    c.in-Some.bits c.in_ok-most.most c.in_ok-several.several.first c.in_ok-several.several.others.items c.in_ok-rest.rest (g.O.Sink.state c.args.out.now)
-    (g.O.Sink.state c.tell_free.new.out) c.tell_free.result c.in-Some.ensures c.in_ok-most.ensures c.in_ok-several.ensures.reads.0 c.in_ok-several.ensures.reads.1
+    free_written (g.F.Sources.contents c.args.sources.now) (option_map (λ s. style_in s) c.args.style) c.args.most c.args.pool.now c.args.len (map (λ file. file.now) c.args.used.now)
+    c.in_ok-several.several.first c.in_ok-several.several.others.items c.in_ok-rest.rest (g.O.Sink.state c.args.out.now)
+    (g.O.Sink.state c.tell_free.new.out) c.tell_free.result c.in_ok-several.ensures.reads.0 c.in_ok-several.ensures.reads.1
     (rw (sym c.in_ok-rest.ensures.made) at c.combination-rest.ensures) c.tell_free.ensures
 
 pub returns-clause-cause : goal.returns-clause-cause
 returns-clause-cause g c =
-    free_cause (FileFails (g.F.Sources.contents c.args.sources.now) (g.F.Sources.reasons c.args.sources.now)) _ (option_map (λ s. style_in s) c.args.style) (networks_of c.in_ok-rest.rest) c.in-Some.bits c.in_ok-most.most _ _ c.tell_free.result c.tell_free.ensures
-
-pub returns-in_err-most-clause-answers : goal.returns-in_err-most-clause-answers
-returns-in_err-most-clause-answers g c =
-    let (y, is, same) = err_from_is_err_and c.from_residual.result c.from_residual.ensures.1 in
-    rw (is, same) (inl (refl, inl (count_wrong (extent_of c.args.extent) c.args.len.now c.in-Some.bits _ c.in-Some.ensures c.in_err-most.ensures)))
-
-pub returns-in_err-most-clause-cause : goal.returns-in_err-most-clause-cause
-returns-in_err-most-clause-cause g c =
-    let (y, is, same) = err_from_is_err_and c.from_residual.result c.from_residual.ensures.1 in
-    rw (is, same) (argument_cause (FileFails (g.F.Sources.contents c.args.sources.now) (g.F.Sources.reasons c.args.sources.now)) _ _ c.in_err-most.field-0.0 c.in_err-most.ensures)
+    free_cause (FileFails (g.F.Sources.contents c.args.sources.now) (g.F.Sources.reasons c.args.sources.now)) _ (option_map (λ s. style_in s) c.args.style) (networks_of c.in_ok-rest.rest) c.args.len c.args.most _ _ c.tell_free.result c.tell_free.ensures
 
 pub returns-in_err-several-clause-answers : goal.returns-in_err-several-clause-answers
 returns-in_err-several-clause-answers g c =
-    let (y, is, same) = err_from_is_err_and c.from_residual-in_err-several.result c.from_residual-in_err-several.ensures.1 in
-    rw (is, same) (inl (refl, inr (c.in-Some.bits, c.in-Some.ensures.0, c.in-Some.ensures.1, c.in_ok-most.most, c.in_ok-most.ensures, c.in_err-several.ensures.reads)))
+    let (y, is, same) = err_from_is_err_and c.from_residual.result c.from_residual.ensures.1 in
+    rw (is, same) (inl (refl, c.in_err-several.ensures.reads))
 
 pub returns-in_err-several-clause-cause : goal.returns-in_err-several-clause-cause
 returns-in_err-several-clause-cause g c =
-    let (y, is, same) = err_from_is_err_and c.from_residual-in_err-several.result c.from_residual-in_err-several.ensures.1 in
+    let (y, is, same) = err_from_is_err_and c.from_residual.result c.from_residual.ensures.1 in
     rw (is, same) c.in_err-several.ensures.cause
 
 pub returns-in_err-rest-clause-answers : goal.returns-in_err-rest-clause-answers
 returns-in_err-rest-clause-answers g c =
     let (y, is, same) = err_from_is_err_and c.from_residual-in_err-rest.result c.from_residual-in_err-rest.ensures.1 in
-    rw (is, same) (inl (refl, inr (c.in-Some.bits, c.in-Some.ensures.0, c.in-Some.ensures.1, c.in_ok-most.most, c.in_ok-most.ensures, inl (inr refl))))
+    rw (is, same) (inl (refl, inl (inr refl)))
 
 pub returns-in_err-rest-clause-cause : goal.returns-in_err-rest-clause-cause
 returns-in_err-rest-clause-cause g c =

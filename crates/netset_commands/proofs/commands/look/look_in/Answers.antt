@@ -13,20 +13,20 @@ returns-in-Err-clause-cause g c = not_opened (g.F.Sources.contents c.args.source
 pub returns-in_default-clause-tells : goal.returns-in_default-clause-tells
 returns-in_default-clause-tells g c = inl (refl, error.NoMemory, refl, tt)
 
-pub returns-then-headed-clause-tells : goal.returns-then-headed-clause-tells
-returns-then-headed-clause-tells g c =
-    rw c.if-headed.true (opened true c.args.telling c.args.place (g.T.LookUps.rows c.args.table.now) (g.F.Sources.contents c.args.sources.now c.args.file.now) _ c.args.file.now
+pub returns-then-seeking-clause-tells : goal.returns-then-seeking-clause-tells
+returns-then-seeking-clause-tells g c =
+    rw c.if-seeking.true (opened true c.args.seeking.telling c.args.seeking.asked (g.T.LookUps.rows c.args.table.now) (g.F.Sources.contents c.args.sources.now c.args.file.now) _ c.args.file.now
     (g.O.Sink.state c.args.out.now) (g.O.Sink.state c.look_behind.new.out) c.look_behind.result
     (λ text contents. c.in-Ok-new.ensures.left ∙ c.in-Ok.ensures.left text contents) c.look_behind.ensures.tells)
 
-pub returns-then-headed-clause-cause : goal.returns-then-headed-clause-cause
-returns-then-headed-clause-cause g c =
+pub returns-then-seeking-clause-cause : goal.returns-then-seeking-clause-cause
+returns-then-seeking-clause-cause g c =
     file_causes (g.F.Sources.contents c.args.sources.now) (g.F.Sources.reasons c.args.sources.now) c.args.file.now _ (g.M.Memory.refused c.look_behind.new.memory) c.look_behind.result c.in-Ok.ensures.opened
     (λ text contents. c.in-Ok-new.ensures.left ∙ c.in-Ok.ensures.left text contents) c.look_behind.ensures.cause
 
 pub returns-clause-tells : goal.returns-clause-tells
 returns-clause-tells g c =
-    rw c.if-headed.false (opened false c.args.telling c.args.place (g.T.LookUps.rows c.args.table.now) (g.F.Sources.contents c.args.sources.now c.args.file.now) _ c.args.file.now
+    rw c.if-seeking.false (opened false c.args.seeking.telling c.args.seeking.asked (g.T.LookUps.rows c.args.table.now) (g.F.Sources.contents c.args.sources.now c.args.file.now) _ c.args.file.now
     (g.O.Sink.state c.args.out.now) (g.O.Sink.state c.look_left.new.out) c.look_left.result
     (λ text contents. c.in-Ok-new.ensures.left ∙ c.in-Ok.ensures.left text contents) c.look_left.ensures.tells)
 

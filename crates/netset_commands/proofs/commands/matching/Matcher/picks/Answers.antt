@@ -10,7 +10,7 @@ returns-then-is_too_long c = inl (c.passed_over.ensures, c.is_too_long.ensures.0
 pub returns-then-self : goal.returns-then-self
 returns-then-self c = inr (
   fits c.args.line.now c.is_too_long.result c.is_too_long.ensures c.if-is_too_long.false,
-  rw c.if-self.true (picks_anywhere c.args.self.now.column (IsInSets c.args.self.now.sets.now) c.args.self.now.inverted c.args.line.now c.have_one.result c.is_picked.result
+  rw c.if-self.true (picks_anywhere c.args.self.now.picking.column (IsInSets c.args.self.now.sets.now) c.args.self.now.picking.inverted c.args.line.now c.have_one.result c.is_picked.result
       c.is_picked.ensures c.have_one.ensures),
 )
 
