@@ -1,8 +1,6 @@
 -- Where two tables give addresses different values.
 use Rattle.std.proofs.Common.{◌≡◌, ◌≢◌, ◌∙◌, ℕ, ◌==◌, Bool, true, false, List, [], ◌∷◌, ◌++◌, codes, length, map, Option, Some, None, Result, Ok, Err, refl, sym, ap, ap₂, subst, arith, inr, append_assoc, true≢false}
-use Rattle.std.proofs.lemmas.List.{append-nil}
 use Rattle.std.specs.List.{Contains, flat_map}
-use Rattle.std.proofs.Common.{eqb-true}
 use Rattle.cidr.specs.model.Network.{HasWidth, width_of}
 use Rattle.cidr.specs.texts.Printed.{plain_text}
 use Rattle.cidr.specs.declared.family.Family.{Family}
@@ -13,10 +11,8 @@ use Rattle.cidr_io.specs.Writing.{State, Answered, Part}
 use Rattle.cidr_io.proofs.Chains.{part_more}
 use Rattle.cidr_io.specs.declared.sink.OutputFailed.{OutputFailed}
 use Rattle.cidr_lists.specs.Changes.{sign_text}
-use Rattle.cidr_lists.specs.LookUps.{gap}
-use Rattle.cidr_lists.specs.Printing.{line}
 use Rattle.cidr_lists.specs.Lists.{Text}
-use Rattle.netset_commands.specs.Rows.{kept}
+use Rattle.netset_commands.specs.Rows.{kept, row_text}
 use Rattle.cidr_lists.specs.declared.changes.Sign.TheVariants.{Plus, Minus}
 use Rattle.cidr_lists.specs.declared.forms.RowForm.{RowForm}
 use Rattle.netset_commands.specs.declared.input.tables.PlainTable.{PlainTable}
@@ -33,17 +29,6 @@ use Rattle.netset_commands.specs.declared.errors.CommandError.{CommandError}
 use Rattle.netset_commands.specs.declared.output.answers.Verdict.{Verdict}
 use Rattle.netset_commands.specs.declared.output.answers.Verdict.TheVariants.{Yes, No}
 
--- ---- the line of a value
--- without a gap where it is empty
-pub value_short : (s n v : List ℕ) (test : Bool) → test ≡ (length v == 0) → test ≡ true → line (s ++ (n ++ (gap 32 v ++ v))) ≡ s ++ (n ++ codes "\n")
-value_short s n [] test is holds = simp (append_assoc, append-nil)
-value_short s n (b ∷ v) test is holds = absurd (omega (arith, eqb-true (length (b ∷ v)) 0 (sym is ∙ holds)))
-
-pub value_long : (s n v : List ℕ) (test : Bool) → test ≡ (length v == 0) → test ≡ false
-    → line (s ++ (n ++ (gap 32 v ++ v))) ≡ s ++ (n ++ (codes " " ++ (v ++ codes "\n")))
-value_long s n [] test is fails = absurd (true≢false (sym is ∙ fails))
-value_long s n (b ∷ v) test is fails = simp append_assoc
-
 -- the second of two lines is lost with the first
 pub lost_first : (s t : State) (b c x y : List ℕ) (r : Result (Unit {0}) OutputFailed) (e : OutputFailed) → r ≡ Err e → Part s t (b ++ x) → Collects s t b c (x ++ y) r
 lost_first s t b c x y r e is part =
@@ -53,11 +38,11 @@ lost_first s t b c x y r e is part =
 lines_there : (network : List ℕ) (answers : Option (List ℕ) × Option (List ℕ)) → answers.0 ≢ answers.1 → value_lines network answers ≢ []
 lines_there network (None, None) differ e = differ refl
 lines_there network (None, Some value) differ e =
-    let none = (both_empty (sign_text Plus ++ (network ++ (gap 32 value ++ value))) (codes "\n") e).1 in
+    let none : codes "+" ≡ [] = (both_empty (sign_text Plus) (row_text network value) e).0 in
     cc
 lines_there network (Some value, new) differ e =
     let first = (both_empty (value_line Minus network (Some value)) (value_line Plus network new) e).0 in
-    let none = (both_empty (sign_text Minus ++ (network ++ (gap 32 value ++ value))) (codes "\n") first).1 in
+    let none : codes "-" ≡ [] = (both_empty (sign_text Minus) (row_text network value) first).0 in
     cc
 
 some_text : {X : Type 0} (f : X → List ℕ) (xs : List X) → ((x : X) → Contains xs x → f x ≢ []) → xs ≢ [] → flat_map f xs ≢ []

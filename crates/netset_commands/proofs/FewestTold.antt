@@ -10,7 +10,6 @@ use Rattle.cidr.specs.declared.family.Family.TheVariants.{Ipv4, Ipv6}
 use Rattle.cidr_forwarding.specs.Forwarding.{in_bits}
 use Rattle.cidr_io.specs.Writing.{State}
 use Rattle.cidr_lists.specs.Lists.{Text}
-use Rattle.cidr_lists.specs.LookUps.{gap}
 use Rattle.cidr_lists.specs.Tables.{resolved, value_at}
 use Rattle.netset_commands.specs.Rows.{kept}
 use Rattle.cidr_lists.specs.declared.forms.RowForm.{RowForm}
@@ -101,16 +100,6 @@ pub not_refused : (holes : Bool) (table : Family → List (List Bool × List ℕ
 not_refused holes table value refused decided fails is family there = true≢false (sym (decided.1 (is, (family, there))) ∙ fails)
 
 -- ---- the lines
--- of a value that is empty, and of another
-pub row_short : (n v : List ℕ) (test : Bool) → test ≡ (length v == 0) → test ≡ true → n ++ (gap 32 v ++ (v ++ codes "\n")) ≡ n ++ codes "\n"
-row_short n [] test is holds = refl
-row_short n (b ∷ v) test is holds = absurd (omega (arith, eqb-true (length (b ∷ v)) 0 (sym is ∙ holds)))
-
-pub row_long : (n v : List ℕ) (test : Bool) → test ≡ (length v == 0) → test ≡ false
-    → n ++ (gap 32 v ++ (v ++ codes "\n")) ≡ n ++ (codes " " ++ (v ++ codes "\n"))
-row_long n [] test is fails = absurd (true≢false (sym is ∙ fails))
-row_long n (b ∷ v) test is fails = refl
-
 by_either : (holes : Bool) (table : Family → List (List Bool × List ℕ)) (v4 v6 : List (List Bool × List ℕ)) → AreFewest holes Ipv4 (table Ipv4) v4
     → AreFewest holes Ipv6 (table Ipv6) v6 → (family : Family) → AreFewest holes family (table family) (by_family (v4, v6) family)
 by_either holes table v4 v6 first second Ipv4 = first

@@ -103,16 +103,6 @@ row_known table address family asked row of bits looked =
     subst (λ (k : List Bool). IsRowAmong (table (address_family address)) k row) bits
     (subst (λ (k : Family). IsRowAmong (table k) asked row) (sym of) looked)
 
--- ---- the line of an address
-pub row_short : (a n v : List ℕ) (test : Bool) → test ≡ (length v == 0) → test ≡ true → found_line a (Some (n, v)) ≡ a ++ (codes " " ++ (n ++ codes "\n"))
-row_short a n [] test is holds = refl
-row_short a n (b ∷ v) test is holds = absurd (omega (arith, eqb-true (length (b ∷ v)) 0 (sym is ∙ holds)))
-
-pub row_long : (a n v : List ℕ) (test : Bool) → test ≡ (length v == 0) → test ≡ false
-    → found_line a (Some (n, v)) ≡ a ++ (codes " " ++ (n ++ (codes " " ++ (v ++ codes "\n"))))
-row_long a n [] test is fails = absurd (true≢false (sym is ∙ fails))
-row_long a n (b ∷ v) test is fails = refl
-
 -- ---- one line after the other
 -- so far
 pub record Looking (place : Asked) (table : Family → List (List Bool × List ℕ)) (contents left : Option (List ℕ)) (s t : State) (block rest : List ℕ) (found : Bool) (number : ℕ) : Type 0 where

@@ -9,7 +9,6 @@ use Rattle.cidr.specs.texts.Printed.{forced_text}
 use Rattle.cidr_forwarding.specs.Forwarding.{IsSmallest, IsSmallestHoled}
 use Rattle.cidr_io.specs.Writing.{State, Answered}
 use Rattle.cidr_io.specs.declared.sink.OutputFailed.{OutputFailed}
-use Rattle.cidr_lists.specs.LookUps.{gap}
 use Rattle.netset_commands.specs.Numbers.{value_in}
 use Rattle.netset_commands.specs.Program.{by_output}
 use Rattle.netset_commands.specs.Smallest.{AreFewest, row_line}
@@ -18,6 +17,7 @@ use Rattle.netset_commands.specs.declared.errors.CommandError.{CommandError}
 use Rattle.netset_commands.specs.declared.errors.CommandError.TheVariants as error
 use Rattle.netset_commands.specs.declared.output.answers.Verdict.{Verdict}
 use Rattle.netset_commands.specs.declared.output.answers.Verdict.TheVariants.{Yes}
+use Rattle.netset_commands.specs.Rows.{row_text}
 
 -- rows with their numbers, none of which is a hole
 abbrev pub with_numbers : {C : Type 0} → List (C × ℕ) → List (C × Option ℕ)
@@ -35,7 +35,7 @@ told_value values (Some number) = value_in values number
 
 -- the line of a row
 abbrev pub told_row : {C : Type 0} → (C → List ℕ) → List (List ℕ) → C × Option ℕ → List ℕ
-told_row text values row = text row.0 ++ (gap 32 (told_value values row.1) ++ (told_value values row.1 ++ codes "\n"))
+told_row text values row = row_text (text row.0) (told_value values row.1)
 
 -- the lines of all rows
 abbrev pub all_rows : Fewest → List ℕ

@@ -1,7 +1,8 @@
 -- The rows of a table, as it is and for look-ups.
-use Rattle.std.specs.Prelude.{ℕ, Bool, List, map}
+use Rattle.std.specs.Prelude.{ℕ, Bool, List, ◌++◌, codes, map}
 use Rattle.cidr.specs.declared.family.Family.{Family}
 use Rattle.cidr.specs.declared.family.Family.TheVariants.{Ipv4, Ipv6}
+use Rattle.cidr_lists.specs.LookUps.{gap}
 use Rattle.cidr_lists.specs.Tables.{resolved}
 use Rattle.cidr_lists.specs.declared.rows.Span.{Span}
 use Rattle.cidr_table.specs.model.FiniteMap.{StoredRows}
@@ -9,6 +10,10 @@ use Rattle.netset_commands.specs.declared.input.tables.Searched.{Searched}
 use Rattle.netset_commands.specs.declared.input.tables.Searched.TheVariants.{Ready, Plain}
 use Rattle.netset_commands.specs.declared.input.tables.SearchedTable.{SearchedTable}
 use Rattle.netset_commands.specs.declared.input.tables.PlainTable.{PlainTable}
+
+-- a network and behind a blank its value, if that is not empty, as a line
+abbrev pub row_text : List ℕ → List ℕ → List ℕ
+row_text network value = network ++ (gap 32 value ++ (value ++ codes "\n"))
 
 -- the rows of a table, of each key one
 abbrev pub kept : PlainTable → Family → List (List Bool × List ℕ)

@@ -8,21 +8,20 @@ use Rattle.cidr.specs.declared.family.Family.TheVariants.{Ipv4, Ipv6}
 use Rattle.cidr_forwarding.specs.Differences.{AreDifferences}
 use Rattle.cidr_lists.specs.Changes.{sign_text}
 use Rattle.cidr_lists.specs.Lists.{Text}
-use Rattle.cidr_lists.specs.LookUps.{gap}
-use Rattle.cidr_lists.specs.Printing.{line}
 use Rattle.cidr_lists.specs.Tables.{IsTable}
 use Rattle.cidr_lists.specs.declared.changes.Sign.{Sign}
 use Rattle.cidr_lists.specs.declared.changes.Sign.TheVariants.{Plus, Minus}
 use Rattle.cidr_lists.specs.declared.forms.RowForm.{RowForm}
 use Rattle.netset_commands.specs.Findings.{IsClean}
 use Rattle.netset_commands.specs.Look.{IsUnreadTable}
+use Rattle.netset_commands.specs.Rows.{row_text}
 use Rattle.netset_commands.specs.declared.errors.CommandError.{CommandError}
 use Rattle.netset_commands.specs.declared.output.answers.Verdict.{Verdict}
 
 -- the value that a network has in a table, as a line, and nothing where it has none
 abbrev pub value_line : Sign → List ℕ → Option (List ℕ) → List ℕ
 value_line sign network None = []
-value_line sign network (Some value) = line (sign_text sign ++ (network ++ (gap 32 value ++ value)))
+value_line sign network (Some value) = sign_text sign ++ row_text network value
 
 -- the same of the first table and of the second
 abbrev pub value_lines : List ℕ → Option (List ℕ) × Option (List ℕ) → List ℕ

@@ -7,17 +7,17 @@ use Rattle.cidr.specs.declared.family.Family.TheVariants.{Ipv4, Ipv6}
 use Rattle.cidr.specs.model.Network.{HasWidth, width_of}
 use Rattle.cidr.specs.texts.Printed.{forced_text}
 use Rattle.cidr_forwarding.specs.Forwarding.{IsSmallest, IsSmallestHoled}
-use Rattle.cidr_lists.specs.LookUps.{gap}
 use Rattle.cidr_lists.specs.Lists.{Text}
 use Rattle.cidr_lists.specs.Tables.{IsTable}
 use Rattle.cidr_lists.specs.declared.forms.RowForm.{RowForm}
 use Rattle.netset_commands.specs.declared.errors.CommandError.{CommandError}
 use Rattle.netset_commands.specs.declared.errors.CommandError.TheVariants as error
 use Rattle.netset_commands.specs.declared.errors.FileError.TheVariants.{Hole}
+use Rattle.netset_commands.specs.Rows.{row_text}
 
--- a row as a line: its network with its prefix length, and behind a blank its value, if that is not empty
+-- a row as a line: its network with its prefix length, and its value
 abbrev pub row_line : Family → List Bool × List ℕ → List ℕ
-row_line family (p, value) = forced_text family p ++ (gap 32 value ++ (value ++ codes "\n"))
+row_line family (p, value) = row_text (forced_text family p) value
 
 -- the rows of a family in as few rows, without holes, which say that their addresses have no value, or with them; a hole has
 -- the value -, which then is no value of the rows

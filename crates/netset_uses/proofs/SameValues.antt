@@ -15,7 +15,7 @@ use Rattle.cidr.specs.declared.family.Family.{Family}
 use Rattle.cidr.specs.declared.family.Family.TheVariants.{Ipv4, Ipv6}
 use Rattle.cidr_lists.specs.Changes.{sign_text}
 use Rattle.cidr_lists.specs.Lists.{Text, text_by}
-use Rattle.cidr_lists.specs.LookUps.{gap}
+use Rattle.netset_commands.specs.Rows.{row_text}
 use Rattle.cidr_lists.specs.declared.changes.Sign.TheVariants.{Plus, Minus}
 use Rattle.cidr_lists.specs.declared.formats.LineFormat.TheVariants.{Plain}
 use Rattle.cidr_lists.specs.declared.lines.HostBits.TheVariants.{Refused}
@@ -61,11 +61,11 @@ no_line f (y ∷ xs) x m e =
 no_values : (network : List ℕ) (values : Option (List ℕ) × Option (List ℕ)) → value_lines network values ≡ [] → values.0 ≡ values.1
 no_values network (None, None) e = refl
 no_values network (None, Some value) e =
-    let none = (both_empty (sign_text Plus ++ (network ++ (gap 32 value ++ value))) (codes "\n") e).1 in
+    let none : codes "+" ≡ [] = (both_empty (sign_text Plus) (row_text network value) e).0 in
     cc
 no_values network (Some value, new) e =
     let first = (both_empty (value_line Minus network (Some value)) (value_line Plus network new) e).0 in
-    let none = (both_empty (sign_text Minus ++ (network ++ (gap 32 value ++ value))) (codes "\n") first).1 in
+    let none : codes "-" ≡ [] = (both_empty (sign_text Minus) (row_text network value) first).0 in
     cc
 
 -- ---- no difference is told

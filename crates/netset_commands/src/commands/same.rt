@@ -8,8 +8,6 @@ ghost use Rattle.cidr.specs.texts.Printed.{plain_text};
 ghost use Rattle.cidr_forwarding.specs.Differences.{AreDifferences};
 ghost use Rattle.cidr_io.specs.Collecting.{Collects};
 ghost use Rattle.cidr_io.specs.Writing.{Answered, Writes};
-ghost use Rattle.cidr_lists.specs.LookUps.{gap};
-ghost use Rattle.cidr_lists.specs.Printing.{line};
 ghost use Rattle.cidr_lists.specs.Tables.{resolved};
 ghost use Rattle.netset_commands.specs.Rows.{kept};
 ghost use Rattle.netset_commands.specs.Causes.{Cause, FileFails};
@@ -25,6 +23,7 @@ use crate::input::numbers::Numbers;
 use crate::input::table::read_table;
 use crate::input::tables::PlainTable;
 use crate::output::answers::{Verdict, by_output};
+use crate::output::rows::push_row;
 use arrayvec::ArrayString;
 use cidr::{FamilyCidr, Ipv4Cidr, Ipv6Cidr};
 use cidr_forwarding::{Answers, differences};
@@ -80,24 +79,6 @@ fn compare<'a>(
     Ok(Differing { numbers, v4, v6 })
 }
 
-/// Appends the line of a value of a network to a block, with a space in front of the value if it is not empty.
-fn push_value<'x, S: Sink>(
-    block: &mut Block,
-    out: &mut S,
-    sign: &'x [u8],
-    text: ArrayString<43>,
-    value: &'x [u8],
-) -> Result<(), OutputFailed>
-    ensures { Collects (S.state out.old) (S.state out.new) block.old block.new
-        (line (sign.now ++ (text.bytes ++ (gap 32 value.now ++ value.now)))) result }
-{
-    let network = text.as_str().as_bytes();
-    if value.is_empty() {
-        return block.push_line(out, &[sign, network, b"\n"]);
-    }
-    block.push_line(out, &[sign, network, b" ", value, b"\n"])
-}
-
 /// Appends the line of the value of a number, if there is one.
 fn push_number<S: Sink>(
     block: &mut Block,
@@ -111,10 +92,11 @@ fn push_number<S: Sink>(
         (value_line sign text.bytes (option_map (value_in numbers.now) number)) result }
 {
     match number {
-        Some(number) => push_value(
+        Some(number) => push_row(
             block,
             out,
             sign_text(sign).as_bytes(),
+            b"",
             text,
             numbers.value(number),
         ),

@@ -10,7 +10,6 @@ ghost use Rattle.cidr.specs.texts.Printed.{forced_text};
 ghost use Rattle.cidr_forwarding.specs.Forwarding.{AreNetworksOf, in_bits};
 ghost use Rattle.cidr_io.specs.Collecting.{Collects};
 ghost use Rattle.cidr_io.specs.Writing.{Answered};
-ghost use Rattle.cidr_lists.specs.LookUps.{gap};
 ghost use Rattle.cidr_lists.specs.Tables.{resolved};
 ghost use Rattle.netset_commands.specs.Rows.{kept};
 ghost use Rattle.netset_commands.specs.Causes.{Cause, FileFails};
@@ -25,7 +24,7 @@ use crate::input::numbers::Numbers;
 use crate::input::table::read_table;
 use crate::input::tables::PlainTable;
 use crate::output::answers::{Verdict, by_output};
-use arrayvec::ArrayString;
+use crate::output::rows::push_row;
 use cidr::{FamilyCidr, Ipv4Cidr, Ipv6Cidr, NetworkBits};
 use cidr_forwarding::SmallestTable;
 use cidr_io::block::Block;
@@ -138,23 +137,6 @@ fn told_value<'n>(numbers: &Numbers<'n>, value: Option<usize>) -> &'n [u8]
     }
 }
 
-/// Appends the line of a row to a block.
-fn push_table_row<S: Sink>(
-    block: &mut Block,
-    out: &mut S,
-    network: ArrayString<43>,
-    value: &[u8],
-) -> Result<(), OutputFailed>
-    ensures { Collects (S.state out.old) (S.state out.new) block.old block.new
-        (network.bytes ++ (gap 32 value.now ++ (value.now ++ codes "\n"))) result }
-{
-    let network = network.as_str().as_bytes();
-    if value.is_empty() {
-        return block.push_line(out, &[network, b"\n"]);
-    }
-    block.push_line(out, &[network, b" ", value, b"\n"])
-}
-
 /// Appends the lines of the rows of one family to a block.
 fn push_rows<C: FamilyCidr, S: Sink>(
     block: &mut Block,
@@ -166,9 +148,11 @@ fn push_rows<C: FamilyCidr, S: Sink>(
         (flat_map (told_row (λ p. forced_text C.FAMILY (C.bits p)) numbers.now) rows.now) result }
 {
     for row in rows {
-        push_table_row(
+        push_row(
             block,
             out,
+            b"",
+            b"",
             row.0.to_text_with_length(),
             told_value(numbers, row.1),
         )?;

@@ -2,9 +2,7 @@
 ghost use Rattle.std.specs.Prelude.{◌≡◌, Bool, List, ℕ, Option, None, Some, length, option_copied, option_map, true, IfErr};
 ghost use Rattle.cidr.specs.declared.addr.ip.IpAddr.{IpAddr as Address};
 ghost use Rattle.cidr.specs.declared.family.Family.{Family as AddressFamily};
-ghost use Rattle.cidr_io.specs.Collecting.{Collects};
 ghost use Rattle.netset_commands.specs.Causes.{Cause, FileFails};
-ghost use Rattle.cidr_lists.specs.LookUps.{found_line};
 ghost use Rattle.netset_commands.specs.KeptLines.{IsRowOf};
 ghost use Rattle.netset_commands.specs.LookUps.{GivesRows, GivesTable, HasAnswer, LooksUp, PushesFound, ReadsFileRows, answer_of, ReadsTable, unread};
 ghost use Rattle.netset_commands.specs.Rows.{searched};
@@ -16,6 +14,7 @@ use crate::input::files::Sources;
 use crate::input::keeping::Said;
 use crate::input::rows::read_rows;
 use crate::input::tables::{PlainTable, SearchedTable};
+use crate::output::rows::push_row;
 use arrayvec::ArrayString;
 use cidr::{BitString, Family, IpAddr, Ipv4Cidr, Ipv6Cidr};
 use cidr_io::block::Block;
@@ -124,26 +123,6 @@ impl RowLookUps for SearchedTable {
     }
 }
 
-/// Appends the line of an address with its network and the value of that to a block, with a space in front of the value
-/// if it is not empty.
-fn push_answer<S: Sink>(
-    block: &mut Block,
-    out: &mut S,
-    address: ArrayString<39>,
-    network: ArrayString<43>,
-    value: &[u8],
-) -> Result<(), OutputFailed>
-    ensures { Collects (S.state out.old) (S.state out.new) block.old block.new
-        (found_line address.bytes (Some (network.bytes, value.now))) result }
-{
-    let address = address.as_str().as_bytes();
-    let network = network.as_str().as_bytes();
-    if value.is_empty() {
-        return block.push_line(out, &[address, b" ", network, b"\n"]);
-    }
-    block.push_line(out, &[address, b" ", network, b" ", value, b"\n"])
-}
-
 /// Appends the line of an address with its network and the value of that to a block.
 pub fn push_match<S: Sink>(
     block: &mut Block,
@@ -155,7 +134,14 @@ pub fn push_match<S: Sink>(
     ensures { PushesFound address.bytes (Some (network.bytes, value.now))
         (S.state out.old) (S.state out.new) block.old block.new result }
 {
-    push_answer(block, out, address, network, value)?;
+    push_row(
+        block,
+        out,
+        address.as_str().as_bytes(),
+        b" ",
+        network,
+        value,
+    )?;
     Ok(true)
 }
 
