@@ -28,7 +28,7 @@ HEADS = {
     "cidr_routes": ["use cidr::Ipv4Cidr;", "use cidr_routes::{lists::*, *};", "use cidr_sets::access::Action;",
                     "use cidr_support::{alloc::Global, vec::Vec};"],
     "cidr_mmdb": ["use cidr::Ipv4Cidr;", "use cidr_mmdb::*;", "use cidr_support::alloc::Global;"],
-    "cidr_rules": ["use cidr::*;", "use cidr_rules::*;"],
+    "cidr_rules": ["use cidr::*;", "use cidr_rules::*;", "use cidr_support::alloc::Global;"],
     "cidr_files": ["use cidr_files::*;", "use cidr_lookup::{Address, Key};", "use cidr_support::{alloc::Global, vec::Vec};",
                    "use core::net::{Ipv4Addr, Ipv6Addr};",
                    "fn name<'a>(table: &FileTables<'a>, address: Ipv4Addr) -> Option<&'a str> {",
@@ -48,6 +48,14 @@ PAYLOADS = ('let payloads = [("192.0.2.0/24", 24, 64496), ("192.0.0.0/16", 16, 6
             "let payloads = Vec::from_slice(Global, &payloads)?;")
 PREFIXES = ('let rows = [(Action::Deny, "10.2.0.0/16", 16, 32), (Action::Permit, "10.0.0.0/8", 16, 24), (Action::Deny, "10.3.0.0/16", 20, 24)];\n'
             "let rows = rows.map(|(action, n, low, high)| Row { action, network: n.parse::<Ipv4Cidr>().unwrap(), low, high });")
+# An entry of an access list, a list whose third rule decides nothing, and a packet that its first rule permits.
+ENTRY = ('let traffic = Traffic::Ports(Transport::Tcp, Range { first: 0, last: 65535 }, Range { first: 443, last: 443 });\n'
+         'let any: Ipv4Cidr = "0.0.0.0/0".parse()?;\n'
+         'let entry = Entry { action: Action::Permit, source: "10.0.0.0/8".parse()?, destination: any, traffic };')
+RULES = (f"{ENTRY}\nlet other = Entry {{ action: Action::Deny, source: any, destination: any, traffic: Traffic::Any }};\n"
+         "let rules = [entry.rule(), other.rule(), entry.rule()];")
+PACKET = ('let packet = Packet { source: "10.0.0.1".parse::<Ipv4Addr>()?, destination: "192.0.2.1".parse()?, protocol: 6, source_port: 50000,\n'
+          "    destination_port: 443 };")
 # A MaxMind DB file of one node: the lower half of IPv4 has a country.
 MMDB = r"""let mut bytes = b"\x00\x00\x11\x00\x00\x01".to_vec();
 bytes.extend([0; 16]);
@@ -59,6 +67,7 @@ GIVEN = {
         "routes": 'let rows = [("0.0.0.0/0".parse()?, 1), ("10.0.0.0/8".parse()?, 2), ("10.1.0.0/16".parse()?, 3)];\n'
                   "let mut routes: Routes = rows.into_iter().collect();",
     },
+    "cidr_rules": {"entry": ENTRY, "rules": RULES, "packet": PACKET},
     "cidr_mmdb": {"bytes": MMDB, "database": f"{MMDB}\nlet database = open(&bytes).unwrap();"},
     "cidr_files": {"file": FILE, "table": TABLE_OF_A_FILE},
     "cidr_lookup": {

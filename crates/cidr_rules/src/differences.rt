@@ -81,6 +81,10 @@ pub(crate) fn packet_of_rule<A: FieldValue>(
 /// For each two rules of different actions it looks at parts of what both have, and cuts them by the earlier rules of both lists
 /// that meet them. Of n and m rules these are at most (n + 1) (m + 1) (2n + 2m + 1)^5 parts. Where it has looked at `limit` parts and more are left, it returns `TooManyParts`. It keeps the
 /// regions of n + m rules, and 10 parts for each that was looked at.
+///
+/// ```
+/// differing_packet(rt.alloc(), &rules, &rules[1..], 1_000_000)?.is_some() // true
+/// ```
 pub fn differing_packet<A: FieldValue>(
     alloc: Global,
     rules: &[Rule<A>],

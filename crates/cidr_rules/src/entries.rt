@@ -26,6 +26,10 @@ pub enum Transport {
 
 impl Transport {
     /// The number of the protocol, as IANA assigns it.
+    ///
+    /// ```
+    /// Transport::Tcp.number() // 6
+    /// ```
     pub fn number(self) -> u8
         ensures { result ≡ protocol_number self }
     {
@@ -67,6 +71,10 @@ impl<C: Endpoint> Entry<C> {
     /// The rule about the packets of the entry: those whose source begins with the bits of the one network, whose destination
     /// begins with the bits of the other, and whose protocol and ports it names. Where a packet's protocol has no ports, the
     /// numbers in their place play no part.
+    ///
+    /// ```
+    /// entry.rule().region.contains(&packet) // true
+    /// ```
     pub fn rule(&self) -> Rule<C::Value>
         ensures { IsRuleOf (width_of C.FAMILY) C.bits C.Value.number self.now result }
     {

@@ -37,6 +37,10 @@ pub struct Region<A: FieldValue> {
 
 impl<A: FieldValue> Region<A> {
     /// Whether a packet is in the region.
+    ///
+    /// ```
+    /// rules[0].region.contains(&packet) // true
+    /// ```
     #[tactic(auto, unfolding(crate::specs::Packets::is_in))]
     pub fn contains(&self, packet: &Packet<A>) -> bool
         ensures { result ≡ is_in (ranges_of A.number self.now) (fields_of A.number packet.now) }

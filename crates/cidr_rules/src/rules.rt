@@ -27,6 +27,10 @@ pub struct Rule<A: FieldValue> {
 /// The index of the rule that decides a packet, counted from 0: the first that has it. A packet that no rule has is denied.
 ///
 /// It goes through the rules up to the one that decides, O(n), and takes no memory.
+///
+/// ```
+/// decides(&rules, &packet) // Some(0)
+/// ```
 pub fn decides<A: FieldValue>(rules: &[Rule<A>], packet: &Packet<A>) -> Option<usize>
     ensures { result ≡ decided A.number rules.now (fields_of A.number packet.now) }
 {
@@ -36,6 +40,10 @@ pub fn decides<A: FieldValue>(rules: &[Rule<A>], packet: &Packet<A>) -> Option<u
 /// Whether a packet is permitted: by the first rule that has it. A packet that no rule has is denied.
 ///
 /// It goes through the rules up to the one that decides, O(n), and takes no memory.
+///
+/// ```
+/// permits(&rules, &packet) // true
+/// ```
 pub fn permits<A: FieldValue>(rules: &[Rule<A>], packet: &Packet<A>) -> bool
     ensures { result ≡ is_permitted A.number rules.now (fields_of A.number packet.now) }
 {

@@ -39,6 +39,10 @@ fn is_shadowed<A: FieldValue>(
 /// n (2n + 1)^5 parts, each beside n rules. Where it has looked at `limit` parts and
 /// more are left, it returns `TooManyParts`. Beside the answer it keeps the regions of n rules, and 10 parts for each that was
 /// looked at.
+///
+/// ```
+/// shadowed(rt.alloc(), &rules, 1_000_000)? // [2]
+/// ```
 pub fn shadowed<A: FieldValue>(
     alloc: Global,
     rules: &[Rule<A>],
@@ -62,6 +66,10 @@ pub fn shadowed<A: FieldValue>(
 /// The rules that decide a packet, in their order. They permit the same packets, and each decides one of them.
 ///
 /// It takes the time of [`shadowed`], and returns `TooManyParts` as that does.
+///
+/// ```
+/// pruned(rt.alloc(), &rules, 1_000_000)?.len() // 2
+/// ```
 pub fn pruned<A: FieldValue>(
     alloc: Global,
     rules: &[Rule<A>],
@@ -91,6 +99,10 @@ pub fn pruned<A: FieldValue>(
 /// at.
 ///
 /// [`differing_packet`]: crate::differing_packet
+///
+/// ```
+/// redundant(rt.alloc(), &rules, 1_000_000)? // [1, 2]
+/// ```
 pub fn redundant<A: FieldValue>(
     alloc: Global,
     rules: &[Rule<A>],

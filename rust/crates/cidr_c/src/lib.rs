@@ -30,6 +30,7 @@ mod lookups;
 mod mask_texts;
 mod masks;
 mod names;
+mod nested;
 mod ordering;
 mod parts;
 mod plan_words;

@@ -3,6 +3,7 @@
 use cidr_support::vec::Vec;
 use crate::batches::networks_of;
 use crate::codes::{NO_MEMORY, NO_ROOM, NO_VALUE, OK};
+use crate::nested::{longest_in, nested_rows};
 use crate::sets::set_of;
 use crate::values::{CValue, value_network};
 use cidr::AnyIpCidr;
@@ -45,15 +46,16 @@ fn held(set: &NetworkSet<AnyIpCidr>, network: &AnyIpCidr) -> u8 {
 /// For each asked network the index of the longest network that it is in, or `usize::MAX` where it is in none. The
 /// networks may be in any order; of one that repeats the last index counts. Errors as of `pcidr_contains_each`.
 ///
-/// It allocates, and puts the networks in order: O(n log n) at each call.
+/// It allocates, and puts the networks in order: O(n log n) at each call, and then O(log n) for each asked one, and a step for each
+/// network around what stands before it.
 pub fn pcidr_longest_match_each(
     alloc: Global,
     networks: &[CValue],
     asked: &[CValue],
     out: &mut [usize],
 ) -> u32 {
-    let table = match table_of(alloc, networks) {
-        Ok(table) => table,
+    let nested = match nested_rows(alloc, networks) {
+        Ok(nested) => nested,
         Err(code) => return code,
     };
     if out.len() < asked.len() {
@@ -63,7 +65,7 @@ pub fn pcidr_longest_match_each(
         let Some(network) = value_network(&asked[i]) else {
             return NO_VALUE;
         };
-        out[i] = index_of(&table, &network);
+        out[i] = longest_in(&nested, &network);
     }
     OK
 }
@@ -96,13 +98,4 @@ fn with_indexes(
         rows.push((networks[i], i))?;
     }
     Ok(rows)
-}
-
-/// The index of the longest match, or `usize::MAX` where there is none.
-#[inline]
-pub fn index_of(table: &LpmTable<AnyIpCidr, usize>, asked: &AnyIpCidr) -> usize {
-    match table.lookup(asked) {
-        Some(row) => row.1,
-        None => usize::MAX,
-    }
 }

@@ -1,21 +1,14 @@
 //! Networks in order, by their indexes, and the network that stands nearest around each.
 
 use cidr_support::vec::Vec;
-use crate::codes::{NO_MEMORY, NO_ROOM, NO_VALUE, OK};
+use crate::codes::{NO_MEMORY, NO_ROOM, OK};
 use crate::finding::put_list;
-use crate::lookups::{index_of, indexed_rows, table_of};
-use crate::values::{CValue, value_network};
+use crate::lookups::{indexed_rows, table_of};
+use crate::nested::{nested_rows, put_nearest_in, sorted};
+use crate::values::CValue;
 use cidr::{AnyIpCidr, NetworkBits};
-use cidr_ext::NetworkExt;
 use cidr_table::LpmTable;
 use cidr_support::alloc::{AllocError, Global};
-
-/// Rows in the order of their networks, and those of one network by index.
-#[inline]
-fn sorted<C: NetworkBits>(mut rows: Vec<(C, usize)>) -> Vec<(C, usize)> {
-    rows.sort_unstable();
-    rows
-}
 
 /// All rows of a table: those inside the network of no bits.
 #[inline]
@@ -76,32 +69,18 @@ pub fn pcidr_table_order(
     }
 }
 
-/// The index of the row of the smallest network around a network, or `usize::MAX` where there is none.
-#[inline]
-fn nearest_of(table: &LpmTable<AnyIpCidr, usize>, network: &AnyIpCidr) -> usize {
-    match network.parent() {
-        Some(parent) => index_of(table, &parent),
-        None => usize::MAX,
-    }
-}
-
 /// For each network of a list the index of the smallest other one that contains it, or `usize::MAX` where none does; of
 /// one that repeats the last index counts. Errors as of `pcidr_contains_each`.
 ///
-/// It allocates, and puts the networks in order: O(n log n).
+/// It allocates, puts the networks in order, O(n log n), and goes over them once.
 pub fn pcidr_nearest_each(alloc: Global, networks: &[CValue], out: &mut [usize]) -> u32 {
-    let table = match table_of(alloc, networks) {
-        Ok(table) => table,
+    let nested = match nested_rows(alloc, networks) {
+        Ok(nested) => nested,
         Err(code) => return code,
     };
     if out.len() < networks.len() {
         return NO_ROOM;
     }
-    for i in 0..networks.len() {
-        let Some(network) = value_network(&networks[i]) else {
-            return NO_VALUE;
-        };
-        out[i] = nearest_of(&table, &network);
-    }
+    put_nearest_in(&nested, out);
     OK
 }

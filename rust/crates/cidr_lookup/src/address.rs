@@ -46,7 +46,7 @@ pub trait Address: Sized + Copy {
     /// ```
     fn width() -> u32;
 
-    /// The number with its zeros.
+    /// How many zeros are behind them: 4 in IPv4, 2 in IPv6.
     ///
     /// ```
     /// # use cidr::Ipv4Cidr;
@@ -54,12 +54,12 @@ pub trait Address: Sized + Copy {
     /// # use cidr_support::alloc::Global;
     /// # use cidr_table::LpmTable;
     /// # use core::net::Ipv4Addr;
-    /// assert_eq!(0x0a000000u32.padded(), 2684354560);
+    /// assert_eq!(u32::padding(), 4);
     /// # Ok::<(), Box<dyn std::error::Error>>(())
     /// ```
-    fn padded(self) -> u128;
+    fn padding() -> u32;
 
-    /// How many bits it has with them.
+    /// How many bits it has with its zeros: 36 or 130.
     ///
     /// ```
     /// # use cidr::Ipv4Cidr;
@@ -111,7 +111,7 @@ pub trait Address: Sized + Copy {
     /// ```
     fn digit(self, shift: u32) -> u32;
 
-    /// The number of the bits before the last 64, which is 0 in IPv4.
+    /// The number of the bits before the last 66: the first half in IPv6, and 0 in IPv4.
     ///
     /// ```
     /// # use cidr::Ipv4Cidr;
@@ -142,8 +142,8 @@ impl Address for u32 {
     }
 
     #[inline(always)]
-    fn padded(self) -> u128 {
-        u128::from(padded(self))
+    fn padding() -> u32 {
+        4
     }
 
     #[inline(always)]

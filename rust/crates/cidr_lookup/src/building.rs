@@ -3,7 +3,7 @@
 use crate::address::Address;
 use crate::key::Key;
 use crate::list::{MOST_CHANGES, put_list};
-use crate::node::{PARTS, put_node};
+use crate::node::{PARTS, Runs, put_node};
 use crate::search::PLACE;
 use crate::words::{Sink, Stop, Stopped};
 
@@ -21,15 +21,10 @@ pub(crate) fn put_table<A: Address, F: Sink, S: Sink>(
 ) -> Result<(), Stopped> {
     let blocks = 1u64 << (A::padded_width() - 6 * steps);
     let mut near = 0;
+    let mut until = 0;
     for block in 0..blocks {
-        let entry = match entry_of(
-            keys,
-            starts,
-            answers,
-            words,
-            steps,
-            u128::from(block),
-            &mut near,
+        let entry = match next_entry(
+            keys, starts, answers, words, steps, block, &mut near, &mut until,
         ) {
             Ok(entry) => entry,
             Err(stop) => return Err(Stopped::Words(stop)),
@@ -40,6 +35,36 @@ pub(crate) fn put_table<A: Address, F: Sink, S: Sink>(
         }
     }
     Ok(())
+}
+
+/// The entry of a block, as of `entry_of`. The blocks before `until` lie in the range.
+#[inline(always)]
+fn next_entry<A: Address, S: Sink>(
+    keys: &[Key<A>],
+    starts: &[A],
+    answers: &[u32],
+    sink: &mut S,
+    steps: u32,
+    block: u64,
+    near: &mut usize,
+    until: &mut u64,
+) -> Result<u32, Stop> {
+    if block < *until {
+        return Ok(answers[*near]);
+    }
+    let entry = entry_of(keys, starts, answers, sink, steps, u128::from(block), near)?;
+    *until = block_of_next(starts, *near, steps);
+    Ok(entry)
+}
+
+/// The block in which the next range begins, or a number above all, where none does.
+#[inline(always)]
+fn block_of_next<A: Address>(starts: &[A], range: usize, steps: u32) -> u64 {
+    let next = range + 1;
+    if next == starts.len() {
+        return u64::MAX;
+    }
+    starts[next].block(6 * steps) as u64
 }
 
 /// The entry of a block of 64^steps numbers. The words of its nodes and lists are put behind those that were put. `near` is
@@ -54,47 +79,30 @@ pub(crate) fn entry_of<A: Address, S: Sink>(
     block: u128,
     near: &mut usize,
 ) -> Result<u32, Stop> {
-    let shift = 6 * steps;
-    *near = last_upto(starts, *near, block << shift);
-    if is_whole(starts, *near, shift, block) {
+    *near = last_upto(starts, *near, steps, block, 0);
+    if is_whole(starts, *near, steps, block) {
         return Ok(answers[*near]);
     }
     if let Some(count) = changes_in(keys, starts, answers, steps, block, *near) {
         return put_listed(keys, starts, answers, sink, steps, block, *near, count);
     }
-    let first = block * PARTS as u128;
-    let mut entries = [0; PARTS];
+    let mut runs = Runs::new();
     let mut part = 0;
     loop {
-        part = fill_whole(
-            keys,
-            starts,
-            answers,
-            &mut entries,
-            steps - 1,
-            first,
-            part,
-            near,
-        );
+        part = add_whole(keys, starts, answers, &mut runs, steps, block, part, near);
         if part >= PARTS {
             break;
         }
-        entries[part] = entry_of(
-            keys,
-            starts,
-            answers,
-            sink,
-            steps - 1,
-            first + part as u128,
-            near,
-        )?;
+        let child = block * PARTS as u128 + part as u128;
+        let entry = entry_of(keys, starts, answers, sink, steps - 1, child, near)?;
+        runs.add(part, part + 1, entry);
         part += 1;
     }
     let place = sink.len();
     if place >= MOST_WORDS {
         return Err(Stop::TooMany);
     }
-    put_node(&entries, sink)?;
+    put_node(&runs, sink)?;
     Ok(PLACE + 2 * place as u32)
 }
 
@@ -108,14 +116,13 @@ fn changes_in<A: Address>(
     block: u128,
     range: usize,
 ) -> Option<usize> {
-    let shift = 6 * steps;
     let mut count = 0;
-    while !is_whole(starts, range + count, shift, block) {
+    while !is_whole(starts, range + count, steps, block) {
         count += 1;
         if count > MOST_CHANGES {
             return None;
         }
-        if start_of(starts, range + count) % (1 << 64) != 0 {
+        if rest_of(starts, range + count) != 0 {
             return None;
         }
     }
@@ -142,46 +149,51 @@ fn put_listed<A: Address, S: Sink>(
     Ok(PLACE + 2 * place as u32 + 1)
 }
 
-/// Puts the values of parts from one on, up to the first in which a range begins, which is returned, or the number of parts.
-/// `first` is the number of the first part among all blocks of 64^steps numbers, and the rest as in `entry_of`.
-fn fill_whole<A: Address>(
+/// Adds the values of parts from one on, up to the first in which a range begins, which is returned, or the number of parts.
+/// `near` is a range that begins at most with the first of them, and the rest as in `entry_of`.
+#[inline(always)]
+fn add_whole<A: Address>(
     keys: &[Key<A>],
     starts: &[A],
     answers: &[u32],
-    entries: &mut [u32],
+    runs: &mut Runs,
     steps: u32,
-    first: u128,
+    block: u128,
     from: usize,
     near: &mut usize,
 ) -> usize {
-    let shift = 6 * steps;
     let mut part = from;
     let mut range = *near;
     while part < PARTS {
-        let block = first + part as u128;
-        let next = last_upto(starts, range, block << shift);
-        if !is_whole(starts, next, shift, block) {
-            break;
+        range = last_upto(starts, range, steps, block, part);
+        let end = part_of_next(starts, range, steps, block);
+        if end <= part {
+            *near = range;
+            return part;
         }
-        range = next;
-        entries[part] = answers[range];
-        part += 1;
+        runs.add(part, end, answers[range]);
+        part = end;
     }
     *near = range;
     part
 }
 
-/// The number that a range begins with.
-#[inline]
-fn start_of<A: Address>(starts: &[A], range: usize) -> u128 {
-    starts[range].padded()
+/// The part of a block in which the next range begins, or the number of parts, where it begins behind the block or none does.
+#[inline(always)]
+fn part_of_next<A: Address>(starts: &[A], range: usize, steps: u32, block: u128) -> usize {
+    if is_whole(starts, range, steps, block) {
+        return PARTS;
+    }
+    starts[range + 1].digit(6 * (steps - 1)) as usize
 }
 
-/// The last range that begins at most with a number, from one on that does.
-fn last_upto<A: Address>(starts: &[A], from: usize, number: u128) -> usize {
+/// The last range that begins at most with the first number of a part of a block, from one on that does.
+#[inline(always)]
+fn last_upto<A: Address>(starts: &[A], from: usize, steps: u32, block: u128, part: usize) -> usize {
+    let number = first_of::<A>(steps, block, part);
     let mut range = from;
     while range + 1 < starts.len() {
-        if start_of(starts, range + 1) > number {
+        if starts[range + 1].number() > number {
             return range;
         }
         range += 1;
@@ -189,12 +201,26 @@ fn last_upto<A: Address>(starts: &[A], from: usize, number: u128) -> usize {
     range
 }
 
+/// The address with which a part of a block begins.
+#[inline(always)]
+fn first_of<A: Address>(steps: u32, block: u128, part: usize) -> u128 {
+    A::width();
+    let within = (part as u128) << (6 * (steps - 1));
+    (block << (6 * steps - A::padding())) + (within >> A::padding())
+}
+
 /// Whether no later range begins in a block.
-#[inline]
-fn is_whole<A: Address>(starts: &[A], range: usize, shift: u32, block: u128) -> bool {
+#[inline(always)]
+fn is_whole<A: Address>(starts: &[A], range: usize, steps: u32, block: u128) -> bool {
     let next = range + 1;
     if next == starts.len() {
         return true;
     }
-    start_of(starts, next) >> shift > block
+    starts[next].number() >> (6 * steps - A::padding()) > block
+}
+
+/// How far a range begins behind a multiple of 2^66.
+#[inline(always)]
+fn rest_of<A: Address>(starts: &[A], range: usize) -> u128 {
+    starts[range].number() % (1 << (66 - A::padding()))
 }

@@ -36,8 +36,8 @@ impl Address for [u8; 4] {
     }
 
     #[inline(always)]
-    fn padded(self) -> u128 {
-        u32::from_le_bytes(self).padded()
+    fn padding() -> u32 {
+        u32::padding()
     }
 
     #[inline(always)]
@@ -85,8 +85,8 @@ impl Address for [[u8; 8]; 2] {
     }
 
     #[inline(always)]
-    fn padded(self) -> u128 {
-        halves(self).padded()
+    fn padding() -> u32 {
+        Ipv6Halves::padding()
     }
 
     #[inline(always)]

@@ -32,13 +32,13 @@ impl Address for Ipv6Halves {
     }
 
     #[inline(always)]
-    fn padded(self) -> u128 {
-        self.number()
+    fn padding() -> u32 {
+        2
     }
 
     #[inline(always)]
     fn padded_width() -> u32 {
-        128
+        130
     }
 
     #[inline]
@@ -53,7 +53,7 @@ impl Address for Ipv6Halves {
 
     #[inline(always)]
     fn digit(self, shift: u32) -> u32 {
-        ((self.number() >> shift) % 64) as u32
+        digit(self.number(), shift)
     }
 
     #[inline(always)]
@@ -65,5 +65,17 @@ impl Address for Ipv6Halves {
 /// The number of the bits before the last `shift`, which has none of the lower half.
 #[inline(always)]
 fn first_bits(high: u64, _low: u64, shift: u32) -> u64 {
-    high >> (shift - 64)
+    high >> (shift - 66)
+}
+
+/// The six bits before the last `shift` of a number with two zeros behind it.
+#[inline(always)]
+fn digit(number: u128, shift: u32) -> u32 {
+    if shift == 0 {
+        return (number % 16) as u32 * 4;
+    }
+    if shift == 1 {
+        return (number % 32) as u32 * 2;
+    }
+    ((number >> (shift - 2)) % 64) as u32
 }

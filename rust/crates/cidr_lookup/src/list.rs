@@ -53,7 +53,7 @@ fn put_answers<A: Address, S: Sink>(
     Ok(())
 }
 
-/// Where a range begins, by the bits before the last 64.
+/// Where a range begins, by the bits before the last 66.
 #[inline]
 fn upper_of<A: Address>(starts: &[A], range: usize) -> u64 {
     starts[range].upper()

@@ -51,7 +51,7 @@ fn row(value: u32) -> Option<usize> {
 /// The value that an address is led to.
 #[inline(always)]
 fn found_value<A: Address, T: Words>(first: &T, words: &T, steps: u32, address: A) -> u32 {
-    address.padded();
+    address.number();
     let width = A::padded_width();
     if steps > MOST_STEPS {
         return 0;

@@ -16,8 +16,8 @@ pub struct LookupTable {
     pub first: Vec<u32>,
     /// The nodes, each behind what it leads to, and the lists.
     pub words: Vec<u32>,
-    /// How many steps of six bits there are behind the first bits: 3 to 5 of IPv4, 19 or 20 of IPv6. The last step in
-    /// IPv4 has two bits.
+    /// How many steps of six bits there are behind the first bits: 3 to 5 of IPv4, 19 or 20 of IPv6. The last step has two
+    /// bits in IPv4, and four in IPv6.
     pub steps: u32,
 }
 

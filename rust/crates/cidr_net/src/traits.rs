@@ -14,12 +14,9 @@ use core::fmt::{Debug, Display};
 use core::hash::Hash;
 use core::str::FromStr;
 
-pub(crate) mod combined;
 pub(crate) mod family_cidr;
 mod one_family;
 pub(crate) mod sealed_types;
-pub(crate) mod v4;
-pub(crate) mod v6;
 
 /// A type of addresses, and the types of networks, hosts and pairs that go with it: `Ipv4Addr`, `Ipv6Addr` and
 /// `IpAddr`.

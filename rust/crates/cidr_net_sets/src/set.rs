@@ -85,6 +85,12 @@ impl<C: NetworkBits + Copy> NetworkSet<C> {
         reduced(networks)
     }
 
+    /// The set of networks in normal form.
+    #[inline]
+    pub(crate) fn of_reduced(networks: Vec<C>) -> Self {
+        NetworkSet { networks }
+    }
+
     /// Whether the set has all addresses of a network. An address is asked for as the network of full prefix length.
     ///
     /// It is [`contains`](crate::contains) over `probe`: one binary search and a look at one neighbour. Where the number

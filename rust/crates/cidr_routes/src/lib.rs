@@ -23,9 +23,11 @@
 #![allow(clippy::manual_unwrap_or_default, clippy::non_canonical_partial_ord_impl)]
 
 mod covering;
+mod joined;
 mod links;
 pub mod lists;
 mod origins;
+mod shadows;
 
 pub use covering::Covering;
 pub use origins::{Payload, Payloads, Validity};

@@ -1,6 +1,8 @@
 //! Prefix lists: rows in order, each of which permits or denies networks.
 
 use cidr_support::vec::Vec;
+pub use crate::joined::permitted;
+pub use crate::shadows::shadowed;
 use cidr::{FamilyCidr, NetworkBits};
 use cidr_sets::access::{self, Action, Rule};
 use cidr_sets::{NetworkSet, is_inside};
@@ -28,7 +30,7 @@ pub struct Row<C: NetworkBits + Copy> {
 /// # use cidr_routes::{lists::*, *};
 /// # use cidr_sets::access::Action;
 /// # use cidr_support::{alloc::Global, vec::Vec};
-/// let rows = [(Action::Deny, "10.2.0.0/16", 16, 32), (Action::Permit, "10.0.0.0/8", 16, 24)];
+/// let rows = [(Action::Deny, "10.2.0.0/16", 16, 32), (Action::Permit, "10.0.0.0/8", 16, 24), (Action::Deny, "10.3.0.0/16", 20, 24)];
 /// let rows = rows.map(|(action, n, low, high)| Row { action, network: n.parse::<Ipv4Cidr>().unwrap(), low, high });
 /// assert!(permits(&rows, &"10.1.0.0/16".parse()?));
 /// assert!(!permits(&rows, &"10.0.0.0/8".parse()?));
@@ -62,12 +64,12 @@ fn row_matches<C: FamilyCidr>(row: &Row<C>, network: &C) -> bool {
 
 /// Whether a row is about networks of this length.
 #[inline]
-fn has_length<C: FamilyCidr>(row: &Row<C>, len: u8) -> bool {
+pub(crate) fn has_length<C: FamilyCidr>(row: &Row<C>, len: u8) -> bool {
     row.network.network_length() <= len && row.low <= len && len <= row.high
 }
 
 /// The rows about networks of this length, as rules about their addresses.
-fn rules_of_length<C: FamilyCidr>(
+pub(crate) fn rules_of_length<C: FamilyCidr>(
     alloc: Global,
     rows: &[Row<C>],
     len: u8,
@@ -86,7 +88,7 @@ fn rules_of_length<C: FamilyCidr>(
 
 /// The networks of one length that a prefix list permits, as the set of their addresses.
 #[inline]
-fn permitted_of_length<C: FamilyCidr>(
+pub(crate) fn permitted_of_length<C: FamilyCidr>(
     alloc: Global,
     rows: &[Row<C>],
     len: u8,
@@ -97,7 +99,7 @@ fn permitted_of_length<C: FamilyCidr>(
 }
 
 /// Whether a row is about networks of this length and not of one bit less, or the other way round.
-fn is_changed<C: FamilyCidr>(rows: &[Row<C>], len: u8) -> bool {
+pub(crate) fn is_changed<C: FamilyCidr>(rows: &[Row<C>], len: u8) -> bool {
     if len == 0 {
         return true;
     }
@@ -139,9 +141,9 @@ pub struct OneSided<C: NetworkBits + Copy> {
 /// # use cidr_routes::{lists::*, *};
 /// # use cidr_sets::access::Action;
 /// # use cidr_support::{alloc::Global, vec::Vec};
-/// let rows = [(Action::Deny, "10.2.0.0/16", 16, 32), (Action::Permit, "10.0.0.0/8", 16, 24)];
+/// let rows = [(Action::Deny, "10.2.0.0/16", 16, 32), (Action::Permit, "10.0.0.0/8", 16, 24), (Action::Deny, "10.3.0.0/16", 20, 24)];
 /// let rows = rows.map(|(action, n, low, high)| Row { action, network: n.parse::<Ipv4Cidr>().unwrap(), low, high });
-/// let rows = [(Action::Deny, "10.2.0.0/16", 16, 32), (Action::Permit, "10.0.0.0/8", 16, 24)];
+/// let rows = [(Action::Deny, "10.2.0.0/16", 16, 32), (Action::Permit, "10.0.0.0/8", 16, 24), (Action::Deny, "10.3.0.0/16", 20, 24)];
 /// let rows = rows.map(|(action, n, low, high)| Row { action, network: n.parse::<Ipv4Cidr>().unwrap(), low, high });
 /// let others = [rows[0]];
 /// assert_eq!(format!("{:?}", difference(Global, &rows, &others)?), "Some(OneSided { network: 10.0.0.0/15, len: 16, by_first: true })");
@@ -170,7 +172,7 @@ pub fn difference<C: FamilyCidr>(
 
 /// The full prefix length.
 #[inline]
-fn full_length<C: FamilyCidr>() -> u8 {
+pub(crate) fn full_length<C: FamilyCidr>() -> u8 {
     C::FAMILY.len()
 }
 

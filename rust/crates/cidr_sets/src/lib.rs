@@ -44,7 +44,9 @@ mod rests;
 mod search;
 mod set;
 pub mod slices;
+mod spans;
 mod walk;
+mod writing;
 
 pub use cidr_table::is_inside;
 pub use pools::PoolNetwork;

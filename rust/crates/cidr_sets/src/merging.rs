@@ -1,5 +1,6 @@
 //! Steps through two lists of networks at once.
 
+use crate::writing::Writable;
 use cidr::NetworkBits;
 use cidr_table::is_inside;
 use core::cmp::Ordering;
@@ -42,5 +43,38 @@ pub(crate) fn next_shared<'a, C: NetworkBits + Copy>(
     match first.cmp(second) {
         Ordering::Less => Some((None, behind, right)),
         _ => Some((None, left, rest)),
+    }
+}
+
+/// Writes the networks of both lists, ascending, and each once, where there is room for all.
+#[inline]
+pub(crate) fn write_merged<C: NetworkBits + Copy, O: Writable<C>>(
+    out: &mut O,
+    these: &[C],
+    those: &[C],
+) {
+    let mut left = these;
+    let mut right = those;
+    while let Some((network, behind, rest)) = next_of(left, right) {
+        out.put(*network);
+        left = behind;
+        right = rest;
+    }
+}
+
+/// Writes the networks of the addresses that both of two sets have, ascending, where there is room for all.
+pub(crate) fn write_shared<C: NetworkBits + Copy, O: Writable<C>>(
+    out: &mut O,
+    these: &[C],
+    those: &[C],
+) {
+    let mut left = these;
+    let mut right = those;
+    while let Some((shared, behind, rest)) = next_shared(left, right) {
+        if let Some(network) = shared {
+            out.put(network);
+        }
+        left = behind;
+        right = rest;
     }
 }

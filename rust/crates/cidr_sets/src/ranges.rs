@@ -1,10 +1,10 @@
 //! Ranges of addresses: from a first to a last one.
 
 use cidr_support::vec::Vec;
-use crate::set::{NetworkSet, reduced};
+use crate::set::NetworkSet;
+use crate::spans::write_range;
 use cidr::{AnyIpCidr, BitString, IpAddr, Ipv4Addr, Ipv4Cidr, Ipv6Addr, Ipv6Cidr, NetworkBits};
 use cidr_support::alloc::{AllocError, Global};
-use core::cmp::Ordering;
 use core::iter::FusedIterator;
 
 /// Networks and the type of their addresses. `Ipv4Cidr`, `Ipv6Cidr` and `AnyIpCidr` implement it.
@@ -131,23 +131,15 @@ impl<C: Addressed + Copy> NetworkSet<C> {
     /// # Errors
     ///
     /// `AllocError` where memory runs out.
+    #[inline]
     pub fn from_range(
         alloc: Global,
         first: C::Address,
         last: C::Address,
     ) -> Result<Self, AllocError> {
-        let (first, last) = (C::single(first), C::single(last));
         let mut networks = Vec::new(alloc);
-        match first.cmp(&last) {
-            Ordering::Less => {
-                let len = first.shared_prefix_len(&last) + 1;
-                push_side(&mut networks, &first, len, true)?;
-                push_side(&mut networks, &last, len, false)?;
-            }
-            Ordering::Equal => networks.push(first)?,
-            Ordering::Greater => {}
-        }
-        Ok(reduced(networks))
+        write_range(&mut networks, first, last)?;
+        Ok(NetworkSet::of_reduced(networks))
     }
 
     /// The longest ranges of addresses in the set, ascending. No two touch: between one and the next is an address that
@@ -226,38 +218,4 @@ fn touches<C: BitString>(network: &C, next: &C) -> bool {
 #[inline]
 pub(crate) fn all_from<C: BitString>(network: &C, from: usize, bit: bool) -> bool {
     (from..network.len()).all(|i| network.get(i) == bit)
-}
-
-/// Pushes networks of the addresses that begin with the first `len` bits of an edge and, where they first differ from
-/// it, have the bit `up`: those from the edge on, or those up to it.
-fn push_side<C: BitString + Copy>(
-    out: &mut Vec<C>,
-    edge: &C,
-    len: usize,
-    up: bool,
-) -> Result<(), AllocError> {
-    let mut block = trimmed(edge, len, up);
-    out.push(block)?;
-    let start = block.len();
-    while block.len() > len {
-        let last = block.len() - 1;
-        let bit = block.get(last);
-        block.clip(last);
-        if bit != up {
-            let mut sibling = block;
-            sibling.append(up);
-            out.push(sibling)?;
-        }
-    }
-    Ok(())
-}
-
-/// The network of an edge without its last bits, down to `len` bits, that aren't `up`.
-#[inline]
-fn trimmed<C: BitString + Copy>(edge: &C, len: usize, up: bool) -> C {
-    let mut block = *edge;
-    while block.len() > len && block.get(block.len() - 1) != up {
-        block.clip(block.len() - 1);
-    }
-    block
 }

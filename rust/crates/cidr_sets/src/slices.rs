@@ -3,11 +3,13 @@
 //! The caller has to ensure that the networks of each set are in normal form, as `as_slice` of a set has them:
 //! ascending, none in another, and no two the halves of one. So are those that are written. `from_networks` takes any.
 
-use crate::merging::{next_of, next_shared};
-use crate::ranges::{Addressed, all_from};
-use crate::rests::{half, is_passed, skip};
-use cidr::{BitString, NetworkBits};
-use cidr_table::{is_inside, least_cover_in_place};
+use crate::merging::{write_merged, write_shared};
+use crate::ranges::Addressed;
+use crate::rests::{write_complement, write_rests};
+use crate::spans::write_range;
+use crate::writing::Filled;
+use cidr::NetworkBits;
+use cidr_table::least_cover_in_place;
 
 /// Writes the networks of the addresses that one of two sets has, or both, to the first elements of `out`, and returns
 /// how many they are.
@@ -59,20 +61,12 @@ pub fn union<C: NetworkBits + Copy>(these: &[C], those: &[C], out: &mut [C]) -> 
 /// # Panics
 ///
 /// Unless `are_reduced(these) && are_reduced(those) && these.len() + those.len() <= out.len() + 1`.
+#[inline]
 pub fn intersection<C: NetworkBits + Copy>(these: &[C], those: &[C], out: &mut [C]) -> usize {
     assert!(crate::checks::are_reduced(these) && crate::checks::are_reduced(those) && these.len() + those.len() <= out.len() + 1);
-    let mut left = these;
-    let mut right = those;
-    let mut n = 0;
-    while let Some((shared, behind, rest)) = next_shared(left, right) {
-        if let Some(network) = shared {
-            out[n] = network;
-            n += 1;
-        }
-        left = behind;
-        right = rest;
-    }
-    n
+    let mut filled = Filled::new(out);
+    write_shared(&mut filled, these, those);
+    filled.count()
 }
 
 /// Writes the networks of the addresses that the first of two sets has and the other has not to the first elements of
@@ -99,18 +93,12 @@ pub fn intersection<C: NetworkBits + Copy>(these: &[C], those: &[C], out: &mut [
 /// # Panics
 ///
 /// Unless `are_reduced(these) && are_reduced(those)`.
+#[inline]
 pub fn difference<C: NetworkBits + Copy>(these: &[C], those: &[C], out: &mut [C]) -> Option<usize> {
     assert!(crate::checks::are_reduced(these) && crate::checks::are_reduced(those));
-    let mut todo = these;
-    let mut left = those;
-    let mut n = 0;
-    while let Some((network, behind)) = todo.split_first() {
-        let (count, rest) = write_rest(out, n, network, left)?;
-        n = count;
-        todo = behind;
-        left = rest;
-    }
-    Some(n)
+    let mut filled = Filled::new(out);
+    write_rests(&mut filled, these, those).ok()?;
+    Some(filled.count())
 }
 
 /// Writes the networks of the addresses of a network that a set has not to the first elements of `out`, and returns how
@@ -141,8 +129,9 @@ pub fn complement_in<C: NetworkBits + Copy>(
     out: &mut [C],
 ) -> Option<usize> {
     assert!(crate::checks::are_reduced(networks));
-    let (count, _) = write_rest(out, 0, network, networks)?;
-    Some(count)
+    let mut filled = Filled::new(out);
+    write_complement(&mut filled, network, networks).ok()?;
+    Some(filled.count())
 }
 
 /// Writes the networks of the addresses from the first to the last, both included, to the first elements of `out`, and
@@ -168,39 +157,9 @@ pub fn from_range<C: Addressed + Copy>(
     last: C::Address,
     out: &mut [C],
 ) -> Option<usize> {
-    let (first, last) = (C::single(first), C::single(last));
-    write_between(out, 0, &C::null(), &first, &last)
-}
-
-/// Writes the networks of the addresses of a network from a first to a last one, ascending, after the first `n`, and
-/// returns how many there are then; `None` where `out` has no room for them.
-///
-/// A network that has none of them is left out, and one that has only such is written itself. Any other is halved.
-fn write_between<C: NetworkBits + Copy>(
-    out: &mut [C],
-    n: usize,
-    network: &C,
-    first: &C,
-    last: &C,
-) -> Option<usize> {
-    if is_passed(network, first) || is_passed(last, network) {
-        return Some(n);
-    }
-    let starts = is_cut(network, first, false);
-    if !starts && !is_cut(network, last, true) {
-        return write(out, n, network);
-    }
-    let edge = if starts { first } else { last };
-    let lower = half(network, edge, false);
-    let count = write_between(out, n, &lower, first, last)?;
-    let upper = half(network, edge, true);
-    write_between(out, count, &upper, first, last)
-}
-
-/// Whether an edge lies in a network, and has other bits than `bit` behind the network's.
-#[inline]
-fn is_cut<C: BitString>(network: &C, edge: &C, bit: bool) -> bool {
-    is_inside(edge, network) && !all_from(edge, network.len(), bit)
+    let mut filled = Filled::new(out);
+    write_range(&mut filled, first, last).ok()?;
+    Some(filled.count())
 }
 
 /// Makes a slice of networks, which may come in any order, overlap and repeat, the set of their addresses: it stands in
@@ -237,58 +196,10 @@ fn keep_distinct<C: PartialEq + Copy>(elements: &mut [C]) -> usize {
     kept
 }
 
-/// Writes the networks of the addresses of a network that the others have not, ascending, after the first `n`, and
-/// returns how many there are then, and those of the others that can have addresses behind the network; `None` where
-/// `out` has no room for them.
-fn write_rest<'a, C: NetworkBits + Copy>(
-    out: &mut [C],
-    n: usize,
-    network: &C,
-    others: &'a [C],
-) -> Option<(usize, &'a [C])> {
-    let left = skip(network, others);
-    let Some((first, behind)) = left.split_first() else {
-        let count = write(out, n, network)?;
-        return Some((count, left));
-    };
-    if is_inside(network, first) {
-        let rest = if first.len() == network.len() {
-            behind
-        } else {
-            left
-        };
-        return Some((n, rest));
-    }
-    if !is_inside(first, network) {
-        let count = write(out, n, network)?;
-        return Some((count, left));
-    }
-    let lower = half(network, first, false);
-    let (count, rest) = write_rest(out, n, &lower, left)?;
-    let upper = half(network, first, true);
-    write_rest(out, count, &upper, rest)
-}
-
-/// Writes one network after the first `n`, and returns how many there are then; `None` where there is no room.
-#[inline]
-fn write<C: Copy>(out: &mut [C], n: usize, network: &C) -> Option<usize> {
-    if n >= out.len() {
-        return None;
-    }
-    out[n] = *network;
-    Some(n + 1)
-}
-
 /// Writes the networks of both lists, ascending, and each once.
+#[inline]
 fn merge<C: NetworkBits + Copy>(these: &[C], those: &[C], out: &mut [C]) -> usize {
-    let mut left = these;
-    let mut right = those;
-    let mut n = 0;
-    while let Some((network, behind, rest)) = next_of(left, right) {
-        out[n] = *network;
-        n += 1;
-        left = behind;
-        right = rest;
-    }
-    n
+    let mut filled = Filled::new(out);
+    write_merged(&mut filled, these, those);
+    filled.count()
 }

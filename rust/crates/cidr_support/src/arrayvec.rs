@@ -182,6 +182,22 @@ impl<const CAP: usize> fmt::Display for ArrayString<CAP> {
     }
 }
 
+/// Appends the whole text, or fails and appends nothing.
+///
+/// ```
+/// # use cidr_support::arrayvec::*;
+/// use std::fmt::Write;
+/// let mut text = ArrayString::<2>::new();
+/// assert!(write!(text, "{}", 42).is_ok());
+/// assert!(write!(text, "{}", 1).is_err());
+/// assert_eq!(text.as_str(), "42");
+/// ```
+impl<const CAP: usize> fmt::Write for ArrayString<CAP> {
+    fn write_str(&mut self, text: &str) -> fmt::Result {
+        self.try_push_str(text).map_err(|_| fmt::Error)
+    }
+}
+
 impl<const CAP: usize> fmt::Debug for ArrayString<CAP> {
     fn fmt(&self, f: &mut fmt::Formatter<'_>) -> fmt::Result {
         self.as_str().fmt(f)

@@ -27,10 +27,10 @@ use cidr_support::vec::Vec;
 use crate::commands::acl::Question;
 use crate::commands::arguments::operands_from;
 use crate::commands::describe::Description;
-use crate::commands::free::{Extent, length_of};
+use crate::commands::free::length_of;
 use crate::commands::matching::has;
 use crate::commands::operations::Operation;
-use crate::commands::picking::Choice;
+use crate::commands::picking::{Picking, Seeking};
 use crate::commands::single::Single;
 use crate::commands::table::Verb;
 use cidr::IpCidr;
@@ -54,8 +54,8 @@ pub enum Command<'a> {
     Diff(LineFormat, &'a str, &'a str),
     /// How rows are read, and two tables, of which it is told where they differ.
     Same(RowForm, &'a str, &'a str),
-    /// The free networks of a prefix length in a pool, of whose addresses others are used.
-    Free(Option<Style<'a>>, Extent<'a>, &'a str, &'a str, &'a [&'a str]),
+    /// At most so many of the free networks in a pool of a prefix length, of whose addresses others are used; `None` for all.
+    Free(Option<Style<'a>>, Option<u64>, &'a str, u8, &'a [&'a str]),
     /// What is asked of an access list.
     Acl(Question<'a>, &'a str),
     /// The networks of a prefix length inside a network, or inside the networks of a list.
@@ -64,13 +64,12 @@ pub enum Command<'a> {
     Check(&'a [&'a str]),
     /// The lines of the lists of these files that have an address.
     Which(&'a str, &'a [&'a str]),
-    /// The field, the options, the list, and the file of which lines are picked.
-    Match(Choice<'a>, &'a [&'a str], &'a str, &'a str),
-    /// The field, the options, the list, and the files of which lines are picked.
-    MatchEach(Choice<'a>, &'a [&'a str], &'a str, &'a [&'a str]),
-    /// The field, how rows are read, the options, and the longest networks of the first file that have the addresses of the
-    /// second one.
-    Look(Choice<'a>, RowForm, &'a [&'a str], &'a str, &'a str),
+    /// The lines of the second file that are picked by the list of the first one.
+    Match(Picking, &'a str, &'a str),
+    /// The lines of files that are picked by a list.
+    MatchEach(Picking, &'a str, &'a [&'a str]),
+    /// The longest networks of the table of the first file that have the addresses of the second one.
+    Look(Seeking, &'a str, &'a str),
     /// How rows are read, the table that is compiled, and the file that is written.
     Compile(RowForm, &'a str, &'a str),
     /// Whether rows may be holes, how rows are read, and the table that is told in the fewest rows.
@@ -175,9 +174,9 @@ impl<'a> Command<'a> {
                 names.push(*pool)?;
                 names.extend_from_slice(used)?;
             }
-            Command::Match(_, _, list, _)
-            | Command::MatchEach(_, _, list, _)
-            | Command::Look(_, _, _, list, _)
+            Command::Match(_, list, _)
+            | Command::MatchEach(_, list, _)
+            | Command::Look(_, list, _)
             | Command::Compile(_, list, _)
             | Command::Smallest(_, _, list)
             | Command::Split(_, list, _)
@@ -206,7 +205,7 @@ impl<'a> Command<'a> {
                 memory.push(&mut names, *old)?;
                 memory.push(&mut names, *new)?;
             }
-            Command::Look(_, _, _, table, _)
+            Command::Look(_, table, _)
             | Command::Compile(_, table, _)
             | Command::Smallest(_, _, table) => {
                 memory.push(&mut names, *table)?;
@@ -230,9 +229,9 @@ impl<'a> Command<'a> {
             | Command::Acl(_, _)
             | Command::Check(_)
             | Command::Which(_, _)
-            | Command::Match(_, _, _, _)
-            | Command::MatchEach(_, _, _, _)
-            | Command::Look(_, _, _, _, _)
+            | Command::Match(_, _, _)
+            | Command::MatchEach(_, _, _)
+            | Command::Look(_, _, _)
             | Command::Compile(_, _, _)
             | Command::Smallest(_, _, _)
             | Command::Class(_)
@@ -260,14 +259,14 @@ impl<'a> Command<'a> {
                 memory.push(&mut names, *old)?;
                 memory.push(&mut names, *file)?;
             }
-            Command::Match(_, _, _, file)
-            | Command::Look(_, _, _, _, file)
+            Command::Match(_, _, file)
+            | Command::Look(_, _, file)
             | Command::Acl(Question::Permitted(_), file)
             | Command::Acl(Question::Shadowed, file)
             | Command::Class(file) => {
                 memory.push(&mut names, *file)?;
             }
-            Command::MatchEach(_, _, _, files) => {
+            Command::MatchEach(_, _, files) => {
                 let added = names.extend_from_slice(files);
                 memory.watch(added)?;
             }
@@ -289,7 +288,7 @@ impl<'a> Command<'a> {
     pub fn kind(&self) -> ListKind {
         match self {
             Command::Check(_) | Command::Which(_, _) => ListKind::Hosts,
-            Command::Look(_, form, _, _, _)
+            Command::Look(Seeking { form, .. }, _, _)
             | Command::Compile(form, _, _)
             | Command::Same(form, _, _)
             | Command::Smallest(_, form, _) => ListKind::Rows(*form),

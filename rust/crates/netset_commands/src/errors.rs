@@ -70,6 +70,14 @@ pub enum Misfit {
     WithForm,
     /// It is an option that does not go with the format `json`.
     WithJson,
+    /// It is no prefix length.
+    NoLength,
+    /// It is no number below 2^64.
+    NoCount,
+    /// It is no number of a field, from 1 on and below 2^64.
+    NoNumber,
+    /// It is to part the fields of lines, and not one byte.
+    NoByte,
 }
 
 /// Why the arguments are no command.
@@ -79,7 +87,7 @@ pub struct Misuse<'a> {
     pub word: &'a str,
     /// What is wrong with it.
     pub why: Misfit,
-    /// The name of the command, or nothing where there is none.
+    /// The name of the command whose page is to be seen, or nothing.
     pub command: &'a str,
 }
 
@@ -110,14 +118,8 @@ pub enum ArgumentError {
     NoAddress,
     /// It is no address, and no file of this name can be read.
     AddressOrFile,
-    /// It is no number below 2^64.
-    Count,
     /// It is no index below 2^128.
     Index,
-    /// It is no number of a field, from 1 on and below 2^64.
-    Field,
-    /// It is not one byte.
-    Separator,
     /// It is the standard input, which is read already.
     ReadTwice,
 }
@@ -152,7 +154,7 @@ pub enum FileError {
     Hole,
     /// It has the first byte of a file of look-ups, with which no line begins, and not the others of its first word.
     Unlike,
-    /// It is of version 1 or 2, which earlier releases wrote.
+    /// It is of version 1, 2 or 3, which earlier releases wrote.
     Old,
     /// It is of another version that is not read, such as a newer one.
     Version,

@@ -7,6 +7,7 @@ pub mod held;
 pub mod printing;
 pub mod ranges;
 pub mod report;
+pub mod rows;
 pub mod sets;
 pub mod terminal;
 pub mod walks;

@@ -9,13 +9,12 @@ use crate::commands::class::class;
 use crate::commands::combine::combination;
 use crate::commands::compile::{compile, same_file};
 use crate::commands::describe::describe;
-use crate::commands::free::{free, length_of, most_of};
+use crate::commands::free::{free, length_of};
 use crate::commands::help::write_help;
 use crate::commands::inside::not_in;
 use crate::commands::look::look;
 use crate::commands::matching::{match_each, matching};
 use crate::commands::operations::{Operation, form_of};
-use crate::commands::picking::column_of;
 use crate::commands::same::same;
 use crate::commands::single::{answer_single, network_operand};
 use crate::commands::smallest::smallest;
@@ -104,22 +103,20 @@ fn answer<'a, M: Memory, F: Sources, D: Folder, O: Sink>(
         Command::NotIn(style, net, files) => not_in(memory, sources, style, net, files, out),
         Command::Diff(format, old, new) => diff(memory, sources, format, old, new, out),
         Command::Same(form, old, new) => same(memory, sources, form, old, new, out),
-        Command::Free(style, extent, pool, len, used) => {
-            free(memory, sources, style, extent, pool, len, used, out)
+        Command::Free(style, most, pool, len, used) => {
+            free(memory, sources, style, most, pool, len, used, out)
         }
         Command::Split(style, operand, len) => split(memory, sources, style, operand, len, out),
         Command::Acl(asked, file) => acl(memory, sources, asked, file, out),
         Command::Check(files) => check(memory, sources, files, out),
         Command::Which(address, files) => which(memory, sources, address, files, out),
-        Command::Match(choice, options, list, file) => {
-            matching(memory, sources, choice, options, list, file, out)
+        Command::Match(picking, list, file) => {
+            matching(memory, sources, picking, list, file, out)
         }
-        Command::MatchEach(choice, options, list, files) => {
-            match_each(memory, sources, choice, options, list, files, out)
+        Command::MatchEach(picking, list, files) => {
+            match_each(memory, sources, picking, list, files, out)
         }
-        Command::Look(choice, form, options, table, file) => {
-            look(memory, sources, choice, form, options, table, file, out)
-        }
+        Command::Look(seeking, table, file) => look(memory, sources, seeking, table, file, out),
         Command::Compile(form, table, name) => {
             compile(memory, sources, form, table, name, folder)
         }
@@ -145,32 +142,21 @@ fn wrong_argument<'a>(command: Command<'a>) -> Option<CommandError<'a>> {
             Ok(_) => None,
             Err(e) => Some(e),
         },
-        Command::Free(_, extent, _, len, _) => match length_of(len) {
-            Some(_) => match most_of(extent) {
-                Ok(_) => None,
-                Err(e) => Some(e),
-            },
-            None => Some(CommandError::Argument(len, ArgumentError::Length)),
-        },
         Command::Split(_, _, len) => match length_of(len) {
             Some(_) => None,
             None => Some(CommandError::Argument(len, ArgumentError::Length)),
         },
-        Command::Match(choice, _, _, _)
-        | Command::MatchEach(choice, _, _, _)
-        | Command::Look(choice, _, _, _, _) => {
-            match column_of(choice) {
-                Ok(_) => None,
-                Err(e) => Some(e),
-            }
-        }
         Command::Compile(_, table, name) => same_file(table, name),
         Command::Lists(_, _)
         | Command::Styled(_, _, _)
         | Command::Diff(_, _, _)
         | Command::Same(_, _, _)
+        | Command::Free(_, _, _, _, _)
         | Command::Acl(_, _)
         | Command::Check(_)
+        | Command::Match(_, _, _)
+        | Command::MatchEach(_, _, _)
+        | Command::Look(_, _, _)
         | Command::Smallest(_, _, _)
         | Command::Describe(_, _)
         | Command::Class(_)

@@ -3,6 +3,10 @@
 use crate::addr::error::AddrParseError;
 use crate::addr::v4::Ipv4Addr;
 use crate::addr::v6::Ipv6Addr;
+use crate::cidr::combined::IpCidr;
+use crate::inet::combined::IpInet;
+use crate::inet_pair::combined::IpInetPair;
+use crate::traits::Address;
 use cidr_support::arrayvec::ArrayString;
 use core::fmt;
 use core::str::FromStr;
@@ -133,4 +137,13 @@ impl fmt::Debug for IpAddr {
     fn fmt(&self, f: &mut fmt::Formatter<'_>) -> fmt::Result {
         fmt::Display::fmt(self, f)
     }
+}
+
+impl Address for IpAddr {
+    type Inet = IpInet;
+
+    type Cidr = IpCidr;
+
+    type InetPair = IpInetPair;
+
 }

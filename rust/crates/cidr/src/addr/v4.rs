@@ -3,7 +3,11 @@
 use crate::addr::decimal::{push_decimal, push_decimal_dot};
 use crate::addr::error::AddrParseError;
 use crate::addr::read_v4::read_ipv4;
+use crate::cidr::network::Ipv4Cidr;
+use crate::inet::host::Ipv4Inet;
+use crate::inet_pair::host_pair::Ipv4InetPair;
 use crate::text::print::append;
+use crate::traits::Address;
 use cidr_support::arrayvec::ArrayString;
 use core::cmp::Ordering;
 use core::fmt;
@@ -198,4 +202,13 @@ impl fmt::Debug for Ipv4Addr {
     fn fmt(&self, f: &mut fmt::Formatter<'_>) -> fmt::Result {
         fmt::Display::fmt(self, f)
     }
+}
+
+impl Address for Ipv4Addr {
+    type Inet = Ipv4Inet;
+
+    type Cidr = Ipv4Cidr;
+
+    type InetPair = Ipv4InetPair;
+
 }

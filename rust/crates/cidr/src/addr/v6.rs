@@ -5,7 +5,11 @@ use crate::addr::print_v6::push_hex_groups;
 use crate::addr::read_v6::read_ipv6;
 use crate::addr::v4::Ipv4Addr;
 use crate::arithmetic::halves::Halves;
+use crate::cidr::network::Ipv6Cidr;
+use crate::inet::host::Ipv6Inet;
+use crate::inet_pair::host_pair::Ipv6InetPair;
 use crate::text::print::append;
+use crate::traits::Address;
 use cidr_support::arrayvec::ArrayString;
 use core::cmp::Ordering;
 use core::fmt;
@@ -272,4 +276,13 @@ impl fmt::Debug for Ipv6Addr {
     fn fmt(&self, f: &mut fmt::Formatter<'_>) -> fmt::Result {
         fmt::Display::fmt(self, f)
     }
+}
+
+impl Address for Ipv6Addr {
+    type Inet = Ipv6Inet;
+
+    type Cidr = Ipv6Cidr;
+
+    type InetPair = Ipv6InetPair;
+
 }

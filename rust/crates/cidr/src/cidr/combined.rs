@@ -14,6 +14,7 @@ use crate::inet_pair::combined::IpInetPair;
 use crate::text::print::append;
 use crate::text::read::{cut_at_last_slash, read_length};
 use crate::text::with_length::WithLength;
+use crate::traits::Cidr;
 use cidr_support::arrayvec::ArrayString;
 use core::fmt;
 use core::str::FromStr;
@@ -416,4 +417,69 @@ impl fmt::Display for WithLength<IpCidr> {
     fn fmt(&self, f: &mut fmt::Formatter<'_>) -> fmt::Result {
         f.write_str(self.to_text().as_str())
     }
+}
+
+impl Cidr for IpCidr {
+    type Address = IpAddr;
+
+    #[inline]
+    fn new(addr: IpAddr, len: u8) -> Result<IpCidr, NetworkParseError> {
+        IpCidr::new(addr, len)
+    }
+
+    #[inline]
+    fn new_host(addr: IpAddr) -> IpCidr {
+        IpCidr::new_host(addr)
+    }
+
+    #[inline]
+    fn iter(&self) -> InetIterator<IpAddr> {
+        self.iter()
+    }
+
+    #[inline]
+    fn first_address(&self) -> IpAddr {
+        self.first_address()
+    }
+
+    #[inline]
+    fn first(&self) -> IpInet {
+        self.first()
+    }
+
+    #[inline]
+    fn last_address(&self) -> IpAddr {
+        self.last_address()
+    }
+
+    #[inline]
+    fn last(&self) -> IpInet {
+        self.last()
+    }
+
+    #[inline]
+    fn network_length(&self) -> u8 {
+        self.network_length()
+    }
+
+    #[inline]
+    fn family(&self) -> Family {
+        self.family()
+    }
+
+    #[inline]
+    fn is_host_address(&self) -> bool {
+        self.is_host_address()
+    }
+
+    #[inline]
+    fn mask(&self) -> IpAddr {
+        self.mask()
+    }
+
+    #[inline]
+    fn contains(&self, addr: &IpAddr) -> bool {
+        self.contains(addr)
+    }
+
 }

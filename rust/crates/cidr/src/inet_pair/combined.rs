@@ -8,6 +8,7 @@ use crate::inet::combined::IpInet;
 use crate::inet_iterator::InetIterator;
 use crate::inet_pair::host_pair::{Ipv4InetPair, Ipv6InetPair};
 use crate::text::with_length::WithLength;
+use crate::traits::InetPair;
 use cidr_support::arrayvec::ArrayString;
 use core::fmt;
 
@@ -296,4 +297,53 @@ impl fmt::Display for WithLength<IpInetPair> {
     fn fmt(&self, f: &mut fmt::Formatter<'_>) -> fmt::Result {
         f.write_str(self.to_text().as_str())
     }
+}
+
+impl InetPair for IpInetPair {
+    type Address = IpAddr;
+
+    #[inline]
+    fn new(first: IpInet, second: IpInet) -> Result<IpInetPair, InetTupleError> {
+        IpInetPair::new(first, second)
+    }
+
+    #[inline]
+    fn new_from_addresses(
+        first: IpAddr,
+        second: IpAddr,
+        len: u8,
+    ) -> Result<IpInetPair, InetTupleError> {
+        IpInetPair::new_from_addresses(first, second, len)
+    }
+
+    #[inline]
+    fn first(&self) -> IpInet {
+        self.first()
+    }
+
+    #[inline]
+    fn second(&self) -> IpInet {
+        self.second()
+    }
+
+    #[inline]
+    fn network(&self) -> IpCidr {
+        self.network()
+    }
+
+    #[inline]
+    fn network_length(&self) -> u8 {
+        self.network_length()
+    }
+
+    #[inline]
+    fn family(&self) -> Family {
+        self.family()
+    }
+
+    #[inline]
+    fn iter(self) -> InetIterator<IpAddr> {
+        self.iter()
+    }
+
 }

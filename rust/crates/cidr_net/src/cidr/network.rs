@@ -10,12 +10,14 @@ use crate::addr::v4::Ipv4Addr;
 use crate::addr::v6::Ipv6Addr;
 use crate::errors::{NetworkLengthTooLongError, NetworkParseError};
 use crate::family::Family;
-use crate::inet::host::Host;
+use crate::inet::host::{Host, Ipv4Inet, Ipv6Inet};
+use crate::inet_iterator::InetIterator;
 use crate::inet_pair::host_pair::HostPair;
 use crate::internal_traits::address_bits::{AddressBits, AddressText};
 use crate::text::print::{append, forced, plain};
 use crate::text::read::{cut_at_last_slash, read_length};
 use crate::text::with_length::WithLength;
+use crate::traits::Cidr;
 use cidr_support::arrayvec::ArrayString;
 use core::cmp::Ordering;
 use core::fmt;
@@ -833,4 +835,134 @@ impl<A: AddressText> fmt::Debug for Network<A> {
     fn fmt(&self, f: &mut fmt::Formatter<'_>) -> fmt::Result {
         fmt::Display::fmt(&self.with_length(), f)
     }
+}
+
+impl Cidr for Ipv4Cidr {
+    type Address = Ipv4Addr;
+
+    #[inline]
+    fn new(addr: Ipv4Addr, len: u8) -> Result<Ipv4Cidr, NetworkParseError> {
+        Ipv4Cidr::new(addr, len)
+    }
+
+    #[inline]
+    fn new_host(addr: Ipv4Addr) -> Ipv4Cidr {
+        Ipv4Cidr::new_host(addr)
+    }
+
+    #[inline]
+    fn iter(&self) -> InetIterator<Ipv4Addr> {
+        self.iter()
+    }
+
+    #[inline]
+    fn first_address(&self) -> Ipv4Addr {
+        self.first_address()
+    }
+
+    #[inline]
+    fn first(&self) -> Ipv4Inet {
+        self.first()
+    }
+
+    #[inline]
+    fn last_address(&self) -> Ipv4Addr {
+        self.last_address()
+    }
+
+    #[inline]
+    fn last(&self) -> Ipv4Inet {
+        self.last()
+    }
+
+    #[inline]
+    fn network_length(&self) -> u8 {
+        self.network_length()
+    }
+
+    #[inline]
+    fn family(&self) -> Family {
+        self.family()
+    }
+
+    #[inline]
+    fn is_host_address(&self) -> bool {
+        self.is_host_address()
+    }
+
+    #[inline]
+    fn mask(&self) -> Ipv4Addr {
+        self.mask()
+    }
+
+    #[inline]
+    fn contains(&self, addr: &Ipv4Addr) -> bool {
+        self.contains(addr)
+    }
+
+}
+
+impl Cidr for Ipv6Cidr {
+    type Address = Ipv6Addr;
+
+    #[inline]
+    fn new(addr: Ipv6Addr, len: u8) -> Result<Ipv6Cidr, NetworkParseError> {
+        Ipv6Cidr::new(addr, len)
+    }
+
+    #[inline]
+    fn new_host(addr: Ipv6Addr) -> Ipv6Cidr {
+        Ipv6Cidr::new_host(addr)
+    }
+
+    #[inline]
+    fn iter(&self) -> InetIterator<Ipv6Addr> {
+        self.iter()
+    }
+
+    #[inline]
+    fn first_address(&self) -> Ipv6Addr {
+        self.first_address()
+    }
+
+    #[inline]
+    fn first(&self) -> Ipv6Inet {
+        self.first()
+    }
+
+    #[inline]
+    fn last_address(&self) -> Ipv6Addr {
+        self.last_address()
+    }
+
+    #[inline]
+    fn last(&self) -> Ipv6Inet {
+        self.last()
+    }
+
+    #[inline]
+    fn network_length(&self) -> u8 {
+        self.network_length()
+    }
+
+    #[inline]
+    fn family(&self) -> Family {
+        self.family()
+    }
+
+    #[inline]
+    fn is_host_address(&self) -> bool {
+        self.is_host_address()
+    }
+
+    #[inline]
+    fn mask(&self) -> Ipv6Addr {
+        self.mask()
+    }
+
+    #[inline]
+    fn contains(&self, addr: &Ipv6Addr) -> bool {
+        self.contains(addr)
+    }
+
 }

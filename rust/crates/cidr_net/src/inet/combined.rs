@@ -15,6 +15,7 @@ use crate::inet::host::{Ipv4Inet, Ipv6Inet};
 use crate::text::print::append;
 use crate::text::read::{cut_at_last_slash, read_length};
 use crate::text::with_length::WithLength;
+use crate::traits::Inet;
 use cidr_support::arrayvec::ArrayString;
 use core::fmt;
 use core::ops::{Add, Sub};
@@ -593,4 +594,104 @@ impl Sub<u128> for IpInet {
             IpInet::V6(host) => IpInet::V6(host - step),
         }
     }
+}
+
+impl Inet for IpInet {
+    type Address = IpAddr;
+
+    #[inline]
+    fn new(addr: IpAddr, len: u8) -> Result<IpInet, NetworkLengthTooLongError> {
+        IpInet::new(addr, len)
+    }
+
+    #[inline]
+    fn new_host(addr: IpAddr) -> IpInet {
+        IpInet::new_host(addr)
+    }
+
+    #[inline]
+    fn increment(&mut self) -> bool {
+        self.increment()
+    }
+
+    #[inline]
+    fn decrement(&mut self) -> bool {
+        self.decrement()
+    }
+
+    #[inline]
+    fn next(self) -> Option<IpInet> {
+        self.next()
+    }
+
+    #[inline]
+    fn previous(self) -> Option<IpInet> {
+        self.previous()
+    }
+
+    #[inline]
+    fn overflowing_add(self, step: u128) -> (IpInet, bool) {
+        self.overflowing_add(step)
+    }
+
+    #[inline]
+    fn overflowing_sub(self, step: u128) -> (IpInet, bool) {
+        self.overflowing_sub(step)
+    }
+
+    #[inline]
+    fn network(&self) -> IpCidr {
+        self.network()
+    }
+
+    #[inline]
+    fn address(&self) -> IpAddr {
+        self.address()
+    }
+
+    #[inline]
+    fn first_address(&self) -> IpAddr {
+        self.first_address()
+    }
+
+    #[inline]
+    fn first(&self) -> IpInet {
+        self.first()
+    }
+
+    #[inline]
+    fn last_address(&self) -> IpAddr {
+        self.last_address()
+    }
+
+    #[inline]
+    fn last(&self) -> IpInet {
+        self.last()
+    }
+
+    #[inline]
+    fn network_length(&self) -> u8 {
+        self.network_length()
+    }
+
+    #[inline]
+    fn family(&self) -> Family {
+        self.family()
+    }
+
+    #[inline]
+    fn is_host_address(&self) -> bool {
+        self.is_host_address()
+    }
+
+    #[inline]
+    fn mask(&self) -> IpAddr {
+        self.mask()
+    }
+
+    #[inline]
+    fn contains(&self, addr: &IpAddr) -> bool {
+        self.contains(addr)
+    }
+
 }

@@ -7,13 +7,15 @@ use crate::inet::host::HostCalls as _;
 use crate::inet_pair::host_pair::HostPairCalls as _;
 use crate::addr::v4::Ipv4Addr;
 use crate::addr::v6::Ipv6Addr;
-use crate::cidr::network::Network;
+use crate::cidr::network::{Ipv4Cidr, Ipv6Cidr, Network};
 use crate::errors::{InetTupleError, NetworkLengthTooLongError};
 use crate::family::Family;
-use crate::inet::host::Host;
+use crate::inet::host::{Host, Ipv4Inet, Ipv6Inet};
+use crate::inet_iterator::InetIterator;
 use crate::internal_traits::address_bits::{AddressBits, AddressText};
 use crate::text::print::{forced, parenthesized, plain};
 use crate::text::with_length::WithLength;
+use crate::traits::InetPair;
 use cidr_support::arrayvec::ArrayString;
 use core::fmt;
 use core::hash::{Hash, Hasher};
@@ -561,4 +563,102 @@ impl<A: AddressText> fmt::Debug for HostPair<A> {
             .field("second", &self.second())
             .finish()
     }
+}
+
+impl InetPair for Ipv4InetPair {
+    type Address = Ipv4Addr;
+
+    #[inline]
+    fn new(first: Ipv4Inet, second: Ipv4Inet) -> Result<Ipv4InetPair, InetTupleError> {
+        Ipv4InetPair::new(first, second)
+    }
+
+    #[inline]
+    fn new_from_addresses(
+        first: Ipv4Addr,
+        second: Ipv4Addr,
+        len: u8,
+    ) -> Result<Ipv4InetPair, InetTupleError> {
+        Ipv4InetPair::new_from_addresses(first, second, len)
+    }
+
+    #[inline]
+    fn first(&self) -> Ipv4Inet {
+        self.first()
+    }
+
+    #[inline]
+    fn second(&self) -> Ipv4Inet {
+        self.second()
+    }
+
+    #[inline]
+    fn network(&self) -> Ipv4Cidr {
+        self.network()
+    }
+
+    #[inline]
+    fn network_length(&self) -> u8 {
+        self.network_length()
+    }
+
+    #[inline]
+    fn family(&self) -> Family {
+        self.family()
+    }
+
+    #[inline]
+    fn iter(self) -> InetIterator<Ipv4Addr> {
+        self.iter()
+    }
+
+}
+
+impl InetPair for Ipv6InetPair {
+    type Address = Ipv6Addr;
+
+    #[inline]
+    fn new(first: Ipv6Inet, second: Ipv6Inet) -> Result<Ipv6InetPair, InetTupleError> {
+        Ipv6InetPair::new(first, second)
+    }
+
+    #[inline]
+    fn new_from_addresses(
+        first: Ipv6Addr,
+        second: Ipv6Addr,
+        len: u8,
+    ) -> Result<Ipv6InetPair, InetTupleError> {
+        Ipv6InetPair::new_from_addresses(first, second, len)
+    }
+
+    #[inline]
+    fn first(&self) -> Ipv6Inet {
+        self.first()
+    }
+
+    #[inline]
+    fn second(&self) -> Ipv6Inet {
+        self.second()
+    }
+
+    #[inline]
+    fn network(&self) -> Ipv6Cidr {
+        self.network()
+    }
+
+    #[inline]
+    fn network_length(&self) -> u8 {
+        self.network_length()
+    }
+
+    #[inline]
+    fn family(&self) -> Family {
+        self.family()
+    }
+
+    #[inline]
+    fn iter(self) -> InetIterator<Ipv6Addr> {
+        self.iter()
+    }
+
 }

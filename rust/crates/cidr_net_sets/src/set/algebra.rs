@@ -2,8 +2,8 @@
 
 use cidr_support::vec::Vec;
 use crate::lookup::{covers, upto};
-use crate::merging::{next_of, next_shared};
-use crate::rests::{half, skip};
+use crate::merging::{write_merged, write_shared};
+use crate::rests::{write_complement, write_rests};
 use crate::set::{NetworkSet, joined};
 use cidr::names::NetworkBits;
 use cidr_table::is_inside;
@@ -33,7 +33,7 @@ impl<C: NetworkBits + Copy> NetworkSet<C> {
     pub fn union(&self, other: &NetworkSet<C>) -> Result<NetworkSet<C>, AllocError> {
         let (these, those) = (self.as_slice(), other.as_slice());
         let mut networks = with_room(self.networks.allocator().clone(), these, those)?;
-        push_merged(&mut networks, these, those);
+        write_merged(&mut networks, these, those);
         Ok(joined(networks))
     }
 
@@ -59,7 +59,7 @@ impl<C: NetworkBits + Copy> NetworkSet<C> {
     pub fn intersection(&self, other: &NetworkSet<C>) -> Result<NetworkSet<C>, AllocError> {
         let (these, those) = (self.as_slice(), other.as_slice());
         let mut networks = with_room(self.networks.allocator().clone(), these, those)?;
-        push_shared(&mut networks, these, those);
+        write_shared(&mut networks, these, those);
         Ok(NetworkSet { networks })
     }
 
@@ -85,7 +85,7 @@ impl<C: NetworkBits + Copy> NetworkSet<C> {
     #[inline]
     pub fn difference(&self, other: &NetworkSet<C>) -> Result<NetworkSet<C>, AllocError> {
         let mut rest = Vec::new(self.networks.allocator().clone());
-        push_rests(&mut rest, self.as_slice(), other.as_slice())?;
+        write_rests(&mut rest, self.as_slice(), other.as_slice())?;
         Ok(NetworkSet { networks: rest })
     }
 
@@ -184,7 +184,7 @@ impl<C: NetworkBits + Copy> NetworkSet<C> {
     #[inline]
     pub fn complement_in(&self, network: &C) -> Result<NetworkSet<C>, AllocError> {
         let mut rest = Vec::new(self.networks.allocator().clone());
-        push_rest(&mut rest, network, self.as_slice())?;
+        write_complement(&mut rest, network, self.as_slice())?;
         Ok(NetworkSet { networks: rest })
     }
 
@@ -214,80 +214,6 @@ impl<C: NetworkBits + Copy> NetworkSet<C> {
 fn with_room<C>(alloc: Global, these: &[C], those: &[C]) -> Result<Vec<C>, AllocError> {
     let room = these.len().checked_add(those.len()).ok_or(AllocError)?;
     Vec::with_capacity(alloc, room)
-}
-
-/// Pushes the networks of both lists, ascending, and each once, where there is room for all.
-#[inline]
-fn push_merged<C: NetworkBits + Copy>(out: &mut Vec<C>, these: &[C], those: &[C]) {
-    let mut left = these;
-    let mut right = those;
-    while let Some((network, behind, rest)) = next_of(left, right) {
-        out.push_reserved(*network);
-        left = behind;
-        right = rest;
-    }
-}
-
-/// Pushes the networks of the addresses that both of two sets have, ascending, where there is room for all.
-fn push_shared<C: NetworkBits + Copy>(out: &mut Vec<C>, these: &[C], those: &[C]) {
-    let mut left = these;
-    let mut right = those;
-    while let Some((shared, behind, rest)) = next_shared(left, right) {
-        if let Some(network) = shared {
-            out.push_reserved(network);
-        }
-        left = behind;
-        right = rest;
-    }
-}
-
-/// Pushes the networks of the addresses that a set has and another has not, ascending.
-#[inline]
-fn push_rests<C: NetworkBits + Copy>(
-    out: &mut Vec<C>,
-    networks: &[C],
-    others: &[C],
-) -> Result<(), AllocError> {
-    let mut todo = networks;
-    let mut left = others;
-    while let Some((network, behind)) = todo.split_first() {
-        left = push_rest(out, network, left)?;
-        todo = behind;
-    }
-    Ok(())
-}
-
-/// Pushes the networks of the addresses of a network that the others have not, ascending, and returns those of the
-/// others that can have addresses behind the network.
-///
-/// A network that one of the others contains has none, and one that contains none of the others is pushed itself. Any
-/// other is halved.
-pub(super) fn push_rest<'a, C: NetworkBits + Copy>(
-    out: &mut Vec<C>,
-    network: &C,
-    others: &'a [C],
-) -> Result<&'a [C], AllocError> {
-    let left = skip(network, others);
-    let Some((first, behind)) = left.split_first() else {
-        out.push(*network)?;
-        return Ok(left);
-    };
-    if is_inside(network, first) {
-        return Ok(if first.len() == network.len() {
-            behind
-        } else {
-            left
-        });
-    }
-    if !is_inside(first, network) {
-        out.push(*network)?;
-        return Ok(left);
-    }
-    let lower = half(network, first, false);
-    let rest = push_rest(out, &lower, left)?;
-    let upper = half(network, first, true);
-    let last = push_rest(out, &upper, rest)?;
-    Ok(last)
 }
 
 /// The first of the networks that lie in one that none of them contains.

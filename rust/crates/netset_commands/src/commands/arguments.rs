@@ -2,10 +2,10 @@
 
 use cidr_support::vec::Vec;
 use crate::commands::acl::Question;
-use crate::commands::free::Extent;
+use crate::commands::free::length_of;
 use crate::commands::matching::has;
 use crate::commands::operations::Operation;
-use crate::commands::picking::{Choice, place_of};
+use crate::commands::picking::{Picking, picking_of, place_of, seeking_of};
 use crate::commands::single::Single;
 use crate::commands::table::{
     Verb, commands, most_of, name_of, needed_of, options_of, takes_value,
@@ -14,7 +14,7 @@ use crate::commands::{Command, Reading, bits_of, reading_of};
 use crate::errors::{Misfit, Misuse, UsageError};
 use cidr::Family;
 use cidr_io::memory::Memory;
-use cidr_lists::columns::Separator;
+use cidr_lists::columns::{Column, Separator};
 use cidr_lists::formats::{Format, LineFormat, Style, format_of};
 use cidr_lists::forms::{RowColumns, RowForm, RowLayout};
 use cidr_lists::records::ListForm;
@@ -76,14 +76,20 @@ fn value_in<'a>(command: Verb, word: &'a str) -> Option<(&'a str, &'a str)> {
     }
 }
 
+/// That this is wrong with a word, by the page of a command.
+#[inline]
+fn misused<'a>(command: Verb, why: Misfit, word: &'a str) -> Misuse<'a> {
+    Misuse {
+        word,
+        why,
+        command: name_of(command),
+    }
+}
+
 /// The error of a word that is no option of the command.
 #[inline]
 fn no_option<'a>(command: Verb, word: &'a str) -> UsageError<'a> {
-    UsageError::Misuse(Misuse {
-        word,
-        why: Misfit::NoOption,
-        command: name_of(command),
-    })
+    UsageError::Misuse(misused(command, Misfit::NoOption, word))
 }
 
 /// Whether a word that is no option names a command, behind `help`.
@@ -234,11 +240,7 @@ fn parts_of<'a, M: Memory>(
     match next {
         Next::Any => Ok(parts),
         Next::Operand => Ok(parts),
-        Next::Value => Err(UsageError::Misuse(Misuse {
-            word: "VALUE",
-            why: Misfit::Missing,
-            command: name_of(command),
-        })),
+        Next::Value => Err(UsageError::Misuse(misused(command, Misfit::Missing, "VALUE"))),
     }
 }
 
@@ -315,6 +317,7 @@ pub fn operands_from<'a>(operands: &'a [&'a str], place: usize) -> &'a [&'a str]
 }
 
 /// A value of an option, if it has none yet.
+#[inline]
 fn fresh<'a>(
     command: Verb,
     found: Option<&'a str>,
@@ -322,11 +325,7 @@ fn fresh<'a>(
 ) -> Result<Option<&'a str>, Misuse<'a>> {
     match found {
         None => Ok(Some(value)),
-        Some(_) => Err(Misuse {
-            word: value,
-            why: Misfit::Extra,
-            command: name_of(command),
-        }),
+        Some(_) => Err(misused(command, Misfit::Extra, value)),
     }
 }
 
@@ -362,14 +361,11 @@ fn option_value<'a>(
 }
 
 /// The format of a name.
+#[inline]
 fn named_format<'a>(command: Verb, name: &'a str) -> Result<Format, Misuse<'a>> {
     match format_of(name) {
         Some(format) => Ok(format),
-        None => Err(Misuse {
-            word: name,
-            why: Misfit::NoFormat,
-            command: name_of(command),
-        }),
+        None => Err(misused(command, Misfit::NoFormat, name)),
     }
 }
 
@@ -388,16 +384,6 @@ fn text_or<'a>(found: Option<&'a str>) -> &'a str {
     }
 }
 
-/// The error of an option that only the format `plain` has.
-#[inline]
-fn not_plain<'a>(command: Verb, option: &'static str) -> Misuse<'a> {
-    Misuse {
-        word: option,
-        why: Misfit::NotPlain,
-        command: name_of(command),
-    }
-}
-
 /// A format with a prefix and a suffix, which only the plain one has.
 fn style_of<'a>(
     command: Verb,
@@ -413,8 +399,8 @@ fn style_of<'a>(
         });
     }
     match (prefix, suffix) {
-        (Some(_), _) => Err(not_plain(command, "--prefix")),
-        (None, Some(_)) => Err(not_plain(command, "--suffix")),
+        (Some(_), _) => Err(misused(command, Misfit::NotPlain, "--prefix")),
+        (None, Some(_)) => Err(misused(command, Misfit::NotPlain, "--suffix")),
         (None, None) => Ok(Style {
             format,
             prefix: "",
@@ -463,6 +449,7 @@ fn style_in_values<'a>(command: Verb, values: &[&'a str]) -> Result<Option<Style
 }
 
 /// The format of lines of a name.
+#[inline]
 fn named_line_format<'a>(command: Verb, name: &'a str) -> Result<LineFormat, Misuse<'a>> {
     if name == "plain" {
         return Ok(LineFormat::Plain);
@@ -470,11 +457,7 @@ fn named_line_format<'a>(command: Verb, name: &'a str) -> Result<LineFormat, Mis
     if name == "json" {
         return Ok(LineFormat::Json);
     }
-    Err(Misuse {
-        word: name,
-        why: Misfit::NoLineFormat,
-        command: name_of(command),
-    })
+    Err(misused(command, Misfit::NoLineFormat, name))
 }
 
 /// How lines are written: as text, unless an option says otherwise.
@@ -521,32 +504,70 @@ fn lists_command<'a>(
     Ok(made_command(operation, net, style, files))
 }
 
-/// How many networks `free` is to tell, by whether `--all` is given and by the value of `--count`.
-fn extent_by<'a>(all: bool, count: Option<&'a str>) -> Result<Extent<'a>, Misuse<'a>> {
-    match (all, count) {
-        (false, None) => Ok(Extent::First),
-        (true, None) => Ok(Extent::All),
-        (false, Some(count)) => Ok(Extent::Count(count)),
-        (true, Some(_)) => Err(Misuse {
-            word: "--all",
-            why: Misfit::Extra,
-            command: "free",
+/// The prefix length that an argument is.
+fn length_by<'a>(text: &'a str) -> Result<u8, Misuse<'a>> {
+    match length_of(text) {
+        Some(len) => Ok(len),
+        None => Err(Misuse {
+            word: text,
+            why: Misfit::NoLength,
+            command: "",
         }),
     }
+}
+
+/// The number below 2^64 that an argument is.
+#[inline]
+fn count_of(text: &str) -> Option<u64> {
+    match text.parse() {
+        Ok(count) => Some(count),
+        Err(_) => None,
+    }
+}
+
+/// The same as the value of an option.
+fn count_by<'a>(text: &'a str) -> Result<u64, Misuse<'a>> {
+    match count_of(text) {
+        Some(count) => Ok(count),
+        None => Err(Misuse {
+            word: text,
+            why: Misfit::NoCount,
+            command: "",
+        }),
+    }
+}
+
+/// How many networks `free` is to tell at most, by whether `--all` is given and by the value of `--count`; `None` for all.
+fn most_by<'a>(all: bool, count: Option<&'a str>) -> Result<Option<u64>, Misuse<'a>> {
+    match (all, count) {
+        (false, None) => Ok(Some(1)),
+        (true, None) => Ok(None),
+        (false, Some(text)) => {
+            let count = count_by(text)?;
+            Ok(Some(count))
+        }
+        (true, Some(_)) => Err(misused(Verb::Free, Misfit::Extra, "--all")),
+    }
+}
+
+/// How many networks `free` is to tell at most, by its options.
+#[inline]
+fn most_in<'a>(parts: &'a Parts<'a>) -> Result<Option<u64>, Misuse<'a>> {
+    let count = option_value(Verb::Free, "--count", parts.values.as_slice())?;
+    most_by(has(parts.options.as_slice(), "--all"), count)
 }
 
 /// The command `free`.
 fn free_command<'a>(parts: &'a Parts<'a>) -> Result<Command<'a>, Misuse<'a>> {
     let operands = parts.operands.as_slice();
-    let all = has(parts.options.as_slice(), "--all");
-    let count = option_value(Verb::Free, "--count", parts.values.as_slice())?;
-    let extent = extent_by(all, count)?;
+    let len = length_by(operand_or(operands, 1, ""))?;
+    let most = most_in(parts)?;
     let style = style_in_values(Verb::Free, parts.values.as_slice())?;
     Ok(Command::Free(
         style,
-        extent,
+        most,
         operand_or(operands, 0, ""),
-        operand_or(operands, 1, ""),
+        len,
         operands_from(operands, 2),
     ))
 }
@@ -576,6 +597,7 @@ fn diff_command<'a>(parts: &'a Parts<'a>) -> Result<Command<'a>, Misuse<'a>> {
 }
 
 /// That an option with a value is not given; the error is that it does not go with another one.
+#[inline]
 fn not_given<'a>(
     command: Verb,
     option: &'static str,
@@ -584,11 +606,7 @@ fn not_given<'a>(
 ) -> Result<(), Misuse<'a>> {
     match found {
         None => Ok(()),
-        Some(_) => Err(Misuse {
-            word: option,
-            why,
-            command: name_of(command),
-        }),
+        Some(_) => Err(misused(command, why, option)),
     }
 }
 
@@ -630,6 +648,7 @@ fn compared_in<'a>(old: &'a str, values: &[&'a str]) -> Result<Question<'a>, Mis
 }
 
 /// What is asked of an access list, by whether `--shadowed` is given and by the value of `--diff`.
+#[inline]
 fn question_by<'a>(
     shadowed: bool,
     old: Option<&'a str>,
@@ -639,11 +658,7 @@ fn question_by<'a>(
         (false, None) => permitted_in(values),
         (true, None) => shadowed_in(values),
         (false, Some(old)) => compared_in(old, values),
-        (true, Some(_)) => Err(Misuse {
-            word: "--shadowed",
-            why: Misfit::Extra,
-            command: "acl",
-        }),
+        (true, Some(_)) => Err(misused(Verb::Acl, Misfit::Extra, "--shadowed")),
     }
 }
 
@@ -669,36 +684,46 @@ fn help_command<'a>(operands: &[&'a str]) -> Result<Command<'a>, Misuse<'a>> {
     }
 }
 
-/// The field that is read of each line, by the value of `--field`, whether `--any` is given, and the value of
-/// `--separator`.
-fn choice_by<'a>(
-    command: Verb,
-    number: Option<&'a str>,
-    any: bool,
-    separator: Option<&'a str>,
-) -> Result<Choice<'a>, Misuse<'a>> {
-    match (number, any, separator) {
-        (None, _, None) => Ok(Choice::First),
-        (None, _, Some(_)) => Err(Misuse {
-            word: "--separator",
-            why: Misfit::NoField,
-            command: name_of(command),
-        }),
-        (Some(number), false, separator) => Ok(Choice::Field(number, separator)),
-        (Some(_), true, _) => Err(Misuse {
-            word: "--field",
-            why: Misfit::Anywhere,
-            command: name_of(command),
+/// The field of a number, and what parts it from others.
+fn column_by<'a>(number: &'a str, separator: Option<&'a str>) -> Result<Column, Misuse<'a>> {
+    match place_by(number) {
+        Some(place) => {
+            let separator = separator_by(Misfit::NoByte, "", separator)?;
+            Ok(Column { place, separator })
+        }
+        None => Err(Misuse {
+            word: number,
+            why: Misfit::NoNumber,
+            command: "",
         }),
     }
 }
 
+/// The field that is read of each line, if one is told: by the value of `--field`, whether `--any` is given, and the value
+/// of `--separator`.
+fn field_by<'a>(
+    command: Verb,
+    number: Option<&'a str>,
+    any: bool,
+    separator: Option<&'a str>,
+) -> Result<Option<Column>, Misuse<'a>> {
+    match (number, any, separator) {
+        (None, _, None) => Ok(None),
+        (None, _, Some(_)) => Err(misused(command, Misfit::NoField, "--separator")),
+        (Some(number), false, separator) => {
+            let column = column_by(number, separator)?;
+            Ok(Some(column))
+        }
+        (Some(_), true, _) => Err(misused(command, Misfit::Anywhere, "--field")),
+    }
+}
+
 /// The same by the parts of a line.
-fn choice_in<'a>(command: Verb, parts: &'a Parts<'a>) -> Result<Choice<'a>, Misuse<'a>> {
+fn field_in<'a>(command: Verb, parts: &'a Parts<'a>) -> Result<Option<Column>, Misuse<'a>> {
     let values = parts.values.as_slice();
     let number = option_value(command, "--field", values)?;
     let separator = option_value(command, "--separator", values)?;
-    choice_by(
+    field_by(
         command,
         number,
         has(parts.options.as_slice(), "--any"),
@@ -707,19 +732,15 @@ fn choice_in<'a>(command: Verb, parts: &'a Parts<'a>) -> Result<Choice<'a>, Misu
 }
 
 /// The command `match`, of several files where there is a third operand, and else of one or of the standard input.
-fn match_by<'a>(choice: Choice<'a>, parts: &'a Parts<'a>) -> Command<'a> {
-    let options = parts.options.as_slice();
-    let operands = parts.operands.as_slice();
+fn match_by<'a>(picking: Picking, operands: &'a [&'a str]) -> Command<'a> {
     match operands.get(2) {
         None => Command::Match(
-            choice,
-            options,
+            picking,
             operand_or(operands, 0, ""),
             operand_or(operands, 1, "-"),
         ),
         Some(_) => Command::MatchEach(
-            choice,
-            options,
+            picking,
             operand_or(operands, 0, ""),
             operands_from(operands, 1),
         ),
@@ -729,8 +750,9 @@ fn match_by<'a>(choice: Choice<'a>, parts: &'a Parts<'a>) -> Command<'a> {
 /// The command `match` with the field by which it picks lines.
 #[inline]
 fn match_command<'a>(parts: &'a Parts<'a>) -> Result<Command<'a>, Misuse<'a>> {
-    let choice = choice_in(Verb::Match, parts)?;
-    Ok(match_by(choice, parts))
+    let column = field_in(Verb::Match, parts)?;
+    let picking = picking_of(parts.options.as_slice(), column);
+    Ok(match_by(picking, parts.operands.as_slice()))
 }
 
 /// The layout of the rows of tables in a form of this name.
@@ -744,11 +766,7 @@ fn named_layout<'a>(command: Verb, name: &'a str) -> Result<RowLayout, Misuse<'a
     if name == "routes6" {
         return Ok(RowLayout::Routes(Family::Ipv6));
     }
-    Err(Misuse {
-        word: name,
-        why: Misfit::NoForm,
-        command: name_of(command),
-    })
+    Err(misused(command, Misfit::NoForm, name))
 }
 
 /// The form of lists of a name, with which go no options that tell how networks are read.
@@ -758,29 +776,15 @@ fn named_list_form<'a>(
     name: &'a str,
 ) -> Result<ListForm, Misuse<'a>> {
     if name != "rir" {
-        return Err(Misuse {
-            word: name,
-            why: Misfit::NoListForm,
-            command: name_of(command),
-        });
+        return Err(misused(command, Misfit::NoListForm, name));
     }
     if has(options, "--host-bits") {
-        return Err(not_with_form(command, "--host-bits"));
+        return Err(misused(command, Misfit::WithForm, "--host-bits"));
     }
     if has(options, "--masks") {
-        return Err(not_with_form(command, "--masks"));
+        return Err(misused(command, Misfit::WithForm, "--masks"));
     }
     Ok(ListForm::Rir)
-}
-
-/// The error of an option that does not go with `--form`.
-#[inline]
-fn not_with_form<'a>(command: Verb, option: &'static str) -> Misuse<'a> {
-    Misuse {
-        word: option,
-        why: Misfit::WithForm,
-        command: name_of(command),
-    }
 }
 
 /// The form of the lists that a command reads.
@@ -802,8 +806,12 @@ pub fn reading_in<'a>(command: Verb, parts: &'a Parts<'a>) -> Result<Reading, Mi
     Ok(reading_of(form, parts.options.as_slice()))
 }
 
-/// What parts the fields of rows.
-fn separator_by<'a>(command: Verb, separator: Option<&'a str>) -> Result<Separator, Misuse<'a>> {
+/// What parts the fields of lines, or what is told where it is not one byte.
+fn separator_by<'a>(
+    why: Misfit,
+    command: &'static str,
+    separator: Option<&'a str>,
+) -> Result<Separator, Misuse<'a>> {
     let Some(text) = separator else {
         return Ok(Separator::WhiteSpace);
     };
@@ -811,8 +819,8 @@ fn separator_by<'a>(command: Verb, separator: Option<&'a str>) -> Result<Separat
         [byte] => Ok(Separator::Byte(*byte)),
         _ => Err(Misuse {
             word: text,
-            why: Misfit::NotOneByte,
-            command: name_of(command),
+            why,
+            command,
         }),
     }
 }
@@ -845,11 +853,7 @@ fn columns_by<'a>(
             network,
             value,
         })),
-        _ => Err(Misuse {
-            word: numbers,
-            why: Misfit::NoFields,
-            command: name_of(command),
-        }),
+        _ => Err(misused(command, Misfit::NoFields, numbers)),
     }
 }
 
@@ -876,8 +880,8 @@ fn form_by<'a>(
 ) -> Result<RowLayout, Misuse<'a>> {
     match (separator, numbers) {
         (None, None) => named_layout(command, name),
-        (Some(_), _) => Err(not_with_form(command, "--table-separator")),
-        (None, Some(_)) => Err(not_with_form(command, "--table-fields")),
+        (Some(_), _) => Err(misused(command, Misfit::WithForm, "--table-separator")),
+        (None, Some(_)) => Err(misused(command, Misfit::WithForm, "--table-fields")),
     }
 }
 
@@ -892,7 +896,7 @@ fn layout_by<'a>(
     match name {
         Some(name) => form_by(command, name, separator, numbers),
         None => {
-            let separator = separator_by(command, separator)?;
+            let separator = separator_by(Misfit::NotOneByte, name_of(command), separator)?;
             fields_by(command, separator, numbers)
         }
     }
@@ -919,20 +923,17 @@ fn form_in<'a>(command: Verb, values: &[&'a str]) -> Result<RowForm, Misuse<'a>>
 }
 
 /// Whether lines may be kept, if they are: in text alone.
+#[inline]
 fn may_keep<'a>(format: LineFormat, keeps: bool) -> Result<(), Misuse<'a>> {
     match (format, keeps) {
         (LineFormat::Plain, _) | (LineFormat::Json, false) => Ok(()),
-        (LineFormat::Json, true) => Err(Misuse {
-            word: "--keep",
-            why: Misfit::WithJson,
-            command: "look",
-        }),
+        (LineFormat::Json, true) => Err(misused(Verb::Look, Misfit::WithJson, "--keep")),
     }
 }
 
 /// The command `look`, of a table and a file or the standard input.
 fn look_by<'a>(
-    choice: Choice<'a>,
+    column: Option<Column>,
     form: RowForm,
     parts: &'a Parts<'a>,
 ) -> Result<Command<'a>, Misuse<'a>> {
@@ -940,9 +941,7 @@ fn look_by<'a>(
     let operands = parts.operands.as_slice();
     may_keep(form.values, has(options, "--keep"))?;
     Ok(Command::Look(
-        choice,
-        form,
-        options,
+        seeking_of(options, column, form),
         operand_or(operands, 0, ""),
         operand_or(operands, 1, "-"),
     ))
@@ -951,9 +950,9 @@ fn look_by<'a>(
 /// The command `look` with the field that it looks up and how the rows of its table are read.
 #[inline]
 fn look_command<'a>(parts: &'a Parts<'a>) -> Result<Command<'a>, Misuse<'a>> {
-    let choice = choice_in(Verb::Look, parts)?;
+    let column = field_in(Verb::Look, parts)?;
     let form = form_in(Verb::Look, parts.values.as_slice())?;
-    look_by(choice, form, parts)
+    look_by(column, form, parts)
 }
 
 /// The command `compile` with how the rows of its table are read.
@@ -1045,30 +1044,12 @@ pub fn command_of<'a>(command: Verb, parts: &'a Parts<'a>) -> Result<Command<'a>
     }
     let operands = parts.operands.as_slice();
     if let Some(name) = missing_operand(command, operands) {
-        return Err(Misuse {
-            word: name,
-            why: Misfit::Missing,
-            command: name_of(command),
-        });
+        return Err(misused(command, Misfit::Missing, name));
     }
     if let Some(word) = extra_operand(command, operands) {
-        return Err(Misuse {
-            word,
-            why: Misfit::Extra,
-            command: name_of(command),
-        });
+        return Err(misused(command, Misfit::Extra, word));
     }
     verb_command(command, parts)
-}
-
-/// The error of an option that does not go with `--skip-bad`.
-#[inline]
-fn not_skipping<'a>(command: Verb, option: &'static str) -> Misuse<'a> {
-    Misuse {
-        word: option,
-        why: Misfit::Skipping,
-        command: name_of(command),
-    }
 }
 
 /// The file that the answer is written to, by whether `-k` and `--skip-bad` are given: the latter goes with none.
@@ -1081,8 +1062,8 @@ fn target_by<'a>(
 ) -> Result<Option<&'a str>, Misuse<'a>> {
     match (keeps, skips, target) {
         (_, false, _) => Ok(target),
-        (true, true, _) => Err(not_skipping(command, "-k")),
-        (false, true, Some(_)) => Err(not_skipping(command, "-o")),
+        (true, true, _) => Err(misused(command, Misfit::Skipping, "-k")),
+        (false, true, Some(_)) => Err(misused(command, Misfit::Skipping, "-o")),
         (false, true, None) => Ok(None),
     }
 }

@@ -2,7 +2,7 @@
 
 use crate::commands::combine::combination;
 use crate::commands::operations::Operation;
-use crate::errors::{ArgumentError, CommandError};
+use crate::errors::CommandError;
 use crate::input::files::Sources;
 use crate::input::operands::read_pool;
 use crate::output::answers::{Verdict, by_output};
@@ -18,17 +18,6 @@ use cidr_lists::sets::Sets;
 /// The longest prefix length.
 const LONGEST: u8 = 128;
 
-/// How many of the free networks are written.
-#[derive(Clone, Copy)]
-pub enum Extent<'a> {
-    /// The first.
-    First,
-    /// So many of the first as this argument says.
-    Count(&'a str),
-    /// All.
-    All,
-}
-
 /// The prefix length that an argument is.
 #[inline]
 pub fn length_of(text: &str) -> Option<u8> {
@@ -36,18 +25,6 @@ pub fn length_of(text: &str) -> Option<u8> {
         return None;
     };
     if len <= LONGEST { Some(len) } else { None }
-}
-
-/// How many networks are written at most; `None` where all are.
-pub fn most_of<'a>(extent: Extent<'a>) -> Result<Option<u64>, CommandError<'a>> {
-    match extent {
-        Extent::First => Ok(Some(1)),
-        Extent::Count(text) => match text.parse::<u64>() {
-            Ok(count) => Ok(Some(count)),
-            Err(_) => Err(CommandError::Argument(text, ArgumentError::Count)),
-        },
-        Extent::All => Ok(None),
-    }
 }
 
 /// Whether no more networks are written.
@@ -188,23 +165,20 @@ pub fn tell_free<'a, S: Sink>(
     }
 }
 
-/// The command `free`.
+/// The command `free`, of at most so many networks, or all.
+#[inline]
 pub fn free<'a, M: Memory, F: Sources, O: Sink>(
     memory: &mut M,
     sources: &F,
     style: Option<Style<'_>>,
-    extent: Extent<'a>,
+    most: Option<u64>,
     pool: &'a str,
-    len: &'a str,
+    len: u8,
     used: &'a [&'a str],
     out: &mut O,
 ) -> Result<Verdict, CommandError<'a>> {
-    let Some(bits) = length_of(len) else {
-        return Err(CommandError::Argument(len, ArgumentError::Length));
-    };
-    let most = most_of(extent)?;
     let several = read_pool(memory, sources, pool, used)?;
     let rest = combination(Operation::Minus, several);
     let rest = memory.watch(rest)?;
-    tell_free(style, &rest, bits, most, out)
+    tell_free(style, &rest, len, most, out)
 }

@@ -1,8 +1,8 @@
 //! The longest networks of addresses.
 
 use crate::commands::kept::{tell_lines, write_header};
-use crate::commands::matching::{has, next_part};
-use crate::commands::picking::{Choice, asked_of};
+use crate::commands::matching::next_part;
+use crate::commands::picking::Seeking;
 use crate::errors::{CommandError, ListReadError, Reason};
 use crate::input::begun::FileContent;
 use crate::input::files::Sources;
@@ -19,8 +19,7 @@ use cidr_io::sink::{OutputFailed, Sink};
 use cidr_io::source::Source;
 use cidr_lists::errors::LineError;
 use cidr_lists::fields::{Asked, asked_in};
-use cidr_lists::forms::RowForm;
-use cidr_lists::objects::{Telling, telling_by};
+use cidr_lists::objects::Telling;
 
 /// Why look-ups end early.
 pub enum LookError {
@@ -286,9 +285,7 @@ fn look_in<'a, T: RowLookUps, M: Memory, F: Sources, O: Sink>(
     memory: &mut M,
     sources: &F,
     table: &T,
-    telling: Telling,
-    place: Asked,
-    headed: bool,
+    seeking: Seeking,
     file: &'a str,
     out: &mut O,
 ) -> Result<Verdict, CommandError<'a>> {
@@ -299,7 +296,8 @@ fn look_in<'a, T: RowLookUps, M: Memory, F: Sources, O: Sink>(
     let Ok(mut reader) = LineReader::new(memory, reader) else {
         return Err(CommandError::NoMemory);
     };
-    if headed {
+    let (telling, place) = (seeking.telling, seeking.asked);
+    if seeking.headed {
         look_behind(memory, table, telling, place, file, &mut reader, out)
     } else {
         look_left(memory, table, telling, place, file, &mut reader, out)
@@ -310,25 +308,17 @@ fn look_in<'a, T: RowLookUps, M: Memory, F: Sources, O: Sink>(
 pub fn look<'a, M: Memory, F: Sources, O: Sink>(
     memory: &mut M,
     sources: &F,
-    choice: Choice<'a>,
-    form: RowForm,
-    options: &[&str],
+    seeking: Seeking,
     table: &'a str,
     file: &'a str,
     out: &mut O,
 ) -> Result<Verdict, CommandError<'a>> {
-    let place = asked_of(choice, has(options, "--any"))?;
-    let keeps = has(options, "--keep");
-    let telling = telling_by(form.values, keeps);
-    let headed = has(options, "--header");
-    match give_table(memory, sources, form, table)? {
-        FileContent::Lines(rows) => look_in(
-            memory, sources, &rows, telling, place, headed, file, out,
-        ),
+    match give_table(memory, sources, seeking.form, table)? {
+        FileContent::Lines(rows) => look_in(memory, sources, &rows, seeking, file, out),
         FileContent::Stored(bytes) => {
             let stored = Stored::check(memory, table, bytes.as_slice())?;
-            stored.check_values(form.values, table)?;
-            look_in(memory, sources, &stored, telling, place, headed, file, out)
+            stored.check_values(seeking.form.values, table)?;
+            look_in(memory, sources, &stored, seeking, file, out)
         }
     }
 }

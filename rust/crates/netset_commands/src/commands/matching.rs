@@ -1,6 +1,6 @@
 //! The command `match`: the lines of files of which a field lies in a list, or that have an address of it.
 
-use crate::commands::picking::{Choice, column_of};
+use crate::commands::picking::Picking;
 use crate::errors::{CommandError, Reason};
 use crate::input::files::Sources;
 use crate::input::several::read_addresses;
@@ -12,7 +12,6 @@ use cidr_io::lines::{LineReadError, LineReader, is_too_long};
 use cidr_io::memory::Memory;
 use cidr_io::sink::{OutputFailed, Sink};
 use cidr_io::source::Source;
-use cidr_lists::columns::Column;
 use cidr_lists::errors::LineError;
 use cidr_lists::fields::network_at;
 use cidr_lists::sets::Sets;
@@ -34,68 +33,38 @@ pub fn has(options: &[&str], name: &str) -> bool {
     options.contains(&name)
 }
 
-/// What is written of the lines by these options.
-#[inline]
-fn written_of(options: &[&str]) -> Written {
-    if has(options, "-q") {
-        Written::Nothing
-    } else if has(options, "-c") {
-        Written::Count
-    } else {
-        Written::Lines
-    }
-}
-
 /// Which lines are picked, and what is written of them.
 #[derive(Clone, Copy)]
 struct Matcher<'a> {
     sets: &'a Sets,
-    anywhere: bool,
-    column: Column,
-    inverted: bool,
-    /// Whether the first line is a header, which is written and not counted.
-    headed: bool,
-    written: Written,
+    picking: Picking,
     /// The name in front of what is written of a file that is not the only one.
     name: Option<&'a str>,
-}
-
-/// The matcher of these options.
-fn matcher_of<'a>(sets: &'a Sets, column: Column, options: &[&str]) -> Matcher<'a> {
-    Matcher {
-        sets,
-        anywhere: has(options, "--any"),
-        column,
-        inverted: has(options, "-v"),
-        headed: has(options, "--header"),
-        written: written_of(options),
-        name: None,
-    }
 }
 
 impl Matcher<'_> {
     /// Whether the line of this number is a header.
     #[inline]
     fn is_header(&self, number: u64) -> bool {
-        self.headed && number == 1
+        self.picking.headed && number == 1
     }
 
     /// Whether a line is picked by its field.
     #[inline]
     fn picks_by_field(&self, line: &[u8]) -> Result<bool, LineError> {
-        let network = network_at(self.column, line)?;
+        let network = network_at(self.picking.column, line)?;
         let lies = self.sets.have(&network);
-        Ok(is_picked(self.inverted, lies))
+        Ok(is_picked(self.picking.inverted, lies))
     }
 
     /// Whether a line is picked.
     #[inline]
     fn picks(&self, line: &[u8]) -> Result<bool, LineError> {
         if is_too_long(line) {
-            return passed_over(self.anywhere);
+            return passed_over(self.picking.anywhere);
         }
-        if self.anywhere {
-            return Ok(is_picked(self.inverted, self.sets.have_one(line)));
+        if self.picking.anywhere {
+            return Ok(is_picked(self.picking.inverted, self.sets.have_one(line)));
         }
         self.picks_by_field(line)
     }
@@ -196,7 +165,7 @@ impl Gathered {
         out: &mut S,
         line: &[u8],
     ) -> Result<(), OutputFailed> {
-        match matcher.written {
+        match matcher.picking.written {
             Written::Lines => self.push_named(matcher.name, out, line),
             Written::Count | Written::Nothing => Ok(()),
         }
@@ -290,7 +259,7 @@ impl Gathered {
         matcher: &Matcher<'_>,
         out: &mut S,
     ) -> Result<(), OutputFailed> {
-        match matcher.written {
+        match matcher.picking.written {
             Written::Count => {
                 let count = decimal_text(u128::from(self.count));
                 self.push_named(matcher.name, out, count.as_str().as_bytes())
@@ -364,7 +333,7 @@ fn stream<'a, M: Memory, R: Source, S: Sink>(
             Ok(()) => {}
             Err(e) => return gathered.stop(e, out),
         }
-        if gathered.is_done(matcher.written, has_more) {
+        if gathered.is_done(matcher.picking.written, has_more) {
             return told_behind(file, long, gathered.finish(matcher, out));
         }
     }
@@ -394,15 +363,17 @@ fn match_file<'a, M: Memory, F: Sources, O: Sink>(
 pub fn matching<'a, M: Memory, F: Sources, O: Sink>(
     memory: &mut M,
     sources: &F,
-    choice: Choice<'a>,
-    options: &[&str],
+    picking: Picking,
     list: &'a str,
     file: &'a str,
     out: &mut O,
 ) -> Result<Verdict, CommandError<'a>> {
-    let column = column_of(choice)?;
     let sets = read_addresses(memory, sources, list)?;
-    let matcher = matcher_of(&sets, column, options);
+    let matcher = Matcher {
+        sets: &sets,
+        picking,
+        name: None,
+    };
     match_file(memory, sources, &matcher, file, out)
 }
 
@@ -437,16 +408,12 @@ fn match_files<'a, M: Memory, F: Sources, O: Sink>(
     for file in files {
         let named = Matcher {
             sets: matcher.sets,
-            anywhere: matcher.anywhere,
-            column: matcher.column,
-            inverted: matcher.inverted,
-            headed: matcher.headed,
-            written: matcher.written,
+            picking: matcher.picking,
             name: Some(*file),
         };
         let one = match_file(memory, sources, &named, file, out)?;
         verdict = either(verdict, one);
-        if needs_no_more(matcher.written, verdict) {
+        if needs_no_more(matcher.picking.written, verdict) {
             return Ok(verdict);
         }
     }
@@ -458,14 +425,16 @@ fn match_files<'a, M: Memory, F: Sources, O: Sink>(
 pub fn match_each<'a, M: Memory, F: Sources, O: Sink>(
     memory: &mut M,
     sources: &F,
-    choice: Choice<'a>,
-    options: &[&str],
+    picking: Picking,
     list: &'a str,
     files: &[&'a str],
     out: &mut O,
 ) -> Result<Verdict, CommandError<'a>> {
-    let column = column_of(choice)?;
     let addresses = read_addresses(memory, sources, list)?;
-    let matcher = matcher_of(&addresses, column, options);
+    let matcher = Matcher {
+        sets: &addresses,
+        picking,
+        name: None,
+    };
     match_files(memory, sources, &matcher, files, out)
 }

@@ -1,16 +1,34 @@
-//! The field by which `match` picks lines and `look` has an address, as the options name it.
+//! Which lines `match` picks, and which addresses `look` takes of lines.
 
-use crate::errors::{ArgumentError, CommandError};
+use crate::commands::matching::{Written, has};
 use cidr_lists::columns::{Column, Separator};
 use cidr_lists::fields::Asked;
+use cidr_lists::forms::RowForm;
+use cidr_lists::objects::{Telling, telling_by};
 
-/// The field by which lines are picked, or that is looked up.
+/// Which lines are picked, and what is written of them.
 #[derive(Clone, Copy)]
-pub enum Choice<'a> {
-    /// The first one.
-    First,
-    /// The one of this number, from 1 on, and what parts it from others, or white space.
-    Field(&'a str, Option<&'a str>),
+pub struct Picking {
+    /// Whether a line is picked by any address in it, and not by the field of a column.
+    pub anywhere: bool,
+    pub column: Column,
+    /// Whether all other lines are picked.
+    pub inverted: bool,
+    /// Whether the first line is a header, which is written and not counted.
+    pub headed: bool,
+    pub written: Written,
+}
+
+/// Which addresses are looked up in a table, and how that is told.
+#[derive(Clone, Copy)]
+pub struct Seeking {
+    /// The address of a line.
+    pub asked: Asked,
+    /// Whether the first line is a header, in which nothing is looked up.
+    pub headed: bool,
+    pub telling: Telling,
+    /// How the rows of the table are read.
+    pub form: RowForm,
 }
 
 /// The index, counted from 0, of the field of a number.
@@ -22,52 +40,49 @@ pub fn place_of(number: &str) -> Option<u64> {
     }
 }
 
-/// The byte that a string is.
+/// What is written of the lines by these options.
 #[inline]
-fn byte_of(text: &str) -> Option<Separator> {
-    match text.as_bytes() {
-        [byte] => Some(Separator::Byte(*byte)),
-        _ => None,
+fn written_of(options: &[&str]) -> Written {
+    if has(options, "-q") {
+        Written::Nothing
+    } else if has(options, "-c") {
+        Written::Count
+    } else {
+        Written::Lines
     }
 }
 
-/// The field of a number and of what parts it from others.
-fn field_of<'a>(number: &'a str, separator: Option<&'a str>) -> Result<Column, CommandError<'a>> {
-    let Some(place) = place_of(number) else {
-        return Err(CommandError::Argument(number, ArgumentError::Field));
-    };
-    let Some(text) = separator else {
-        return Ok(Column {
-            place,
-            separator: Separator::WhiteSpace,
-        });
-    };
-    match byte_of(text) {
-        Some(separator) => Ok(Column { place, separator }),
-        None => Err(CommandError::Argument(text, ArgumentError::Separator)),
-    }
-}
-
-/// The field that is read of each line.
-#[inline]
-pub fn column_of<'a>(choice: Choice<'a>) -> Result<Column, CommandError<'a>> {
-    match choice {
-        Choice::First => Ok(Column {
+/// The lines that are picked by these options, and by this field or the first one.
+pub fn picking_of(options: &[&str], column: Option<Column>) -> Picking {
+    Picking {
+        anywhere: has(options, "--any"),
+        column: column.unwrap_or(Column {
             place: 0,
             separator: Separator::WhiteSpace,
         }),
-        Choice::Field(number, separator) => field_of(number, separator),
+        inverted: has(options, "-v"),
+        headed: has(options, "--header"),
+        written: written_of(options),
     }
 }
 
-/// The address that is looked up of each line: the first anywhere, or that of the field.
+/// The address that is looked up of each line: that of a field, the first anywhere, or that of the first field.
 #[inline]
-pub fn asked_of<'a>(choice: Choice<'a>, any: bool) -> Result<Asked, CommandError<'a>> {
-    match choice {
-        Choice::First => Ok(if any { Asked::Anywhere } else { Asked::First }),
-        Choice::Field(number, separator) => match field_of(number, separator) {
-            Ok(column) => Ok(Asked::Field(column)),
-            Err(e) => Err(e),
-        },
+fn asked_by(any: bool, column: Option<Column>) -> Asked {
+    match (any, column) {
+        (_, Some(column)) => Asked::Field(column),
+        (true, None) => Asked::Anywhere,
+        (false, None) => Asked::First,
+    }
+}
+
+/// What is looked up by these options, of which field, and in which rows.
+#[inline]
+pub fn seeking_of(options: &[&str], column: Option<Column>, form: RowForm) -> Seeking {
+    Seeking {
+        asked: asked_by(has(options, "--any"), column),
+        headed: has(options, "--header"),
+        telling: telling_by(form.values, has(options, "--keep")),
+        form,
     }
 }

@@ -7,6 +7,7 @@ use crate::input::numbers::Numbers;
 use crate::input::table::read_table;
 use crate::input::tables::PlainTable;
 use crate::output::answers::{Verdict, by_output};
+use crate::output::rows::push_row;
 use cidr_support::arrayvec::ArrayString;
 use cidr::{FamilyCidr, Ipv4Cidr, Ipv6Cidr};
 use cidr_forwarding::{Answers, differences};
@@ -57,22 +58,6 @@ fn compare<'a>(
     Ok(Differing { numbers, v4, v6 })
 }
 
-/// Appends the line of a value of a network to a block, with a space in front of the value if it is not empty.
-#[inline]
-fn push_value<'x, S: Sink>(
-    block: &mut Block,
-    out: &mut S,
-    sign: &'x [u8],
-    text: ArrayString<43>,
-    value: &'x [u8],
-) -> Result<(), OutputFailed> {
-    let network = text.as_str().as_bytes();
-    if value.is_empty() {
-        return block.push_line(out, &[sign, network, b"\n"]);
-    }
-    block.push_line(out, &[sign, network, b" ", value, b"\n"])
-}
-
 /// Appends the line of the value of a number, if there is one.
 fn push_number<S: Sink>(
     block: &mut Block,
@@ -83,10 +68,11 @@ fn push_number<S: Sink>(
     number: Option<usize>,
 ) -> Result<(), OutputFailed> {
     match number {
-        Some(number) => push_value(
+        Some(number) => push_row(
             block,
             out,
             sign_text(sign).as_bytes(),
+            b"",
             text,
             numbers.value(number),
         ),

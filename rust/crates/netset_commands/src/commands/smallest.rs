@@ -7,7 +7,7 @@ use crate::input::numbers::Numbers;
 use crate::input::table::read_table;
 use crate::input::tables::PlainTable;
 use crate::output::answers::{Verdict, by_output};
-use cidr_support::arrayvec::ArrayString;
+use crate::output::rows::push_row;
 use cidr::{FamilyCidr, Ipv4Cidr, Ipv6Cidr, NetworkBits};
 use cidr_forwarding::SmallestTable;
 use cidr_io::block::Block;
@@ -106,21 +106,6 @@ fn told_value<'n>(numbers: &Numbers<'n>, value: Option<usize>) -> &'n [u8] {
     }
 }
 
-/// Appends the line of a row to a block.
-#[inline]
-fn push_table_row<S: Sink>(
-    block: &mut Block,
-    out: &mut S,
-    network: ArrayString<43>,
-    value: &[u8],
-) -> Result<(), OutputFailed> {
-    let network = network.as_str().as_bytes();
-    if value.is_empty() {
-        return block.push_line(out, &[network, b"\n"]);
-    }
-    block.push_line(out, &[network, b" ", value, b"\n"])
-}
-
 /// Appends the lines of the rows of one family to a block.
 fn push_rows<C: FamilyCidr, S: Sink>(
     block: &mut Block,
@@ -129,9 +114,11 @@ fn push_rows<C: FamilyCidr, S: Sink>(
     rows: &[(C, Option<usize>)],
 ) -> Result<(), OutputFailed> {
     for row in rows {
-        push_table_row(
+        push_row(
             block,
             out,
+            b"",
+            b"",
             row.0.to_text_with_length(),
             told_value(numbers, row.1),
         )?;

@@ -6,6 +6,7 @@ use crate::input::files::Sources;
 use crate::input::keeping::Said;
 use crate::input::rows::read_rows;
 use crate::input::tables::{PlainTable, SearchedTable};
+use crate::output::rows::push_row;
 use cidr_support::arrayvec::ArrayString;
 use cidr::{BitString, Family, IpAddr, Ipv4Cidr, Ipv6Cidr};
 use cidr_io::block::Block;
@@ -102,26 +103,7 @@ impl RowLookUps for SearchedTable {
     }
 }
 
-/// Appends the line of an address with its network and the value of that to a block, with a space in front of the value
-/// if it is not empty.
-#[inline]
-fn push_answer<S: Sink>(
-    block: &mut Block,
-    out: &mut S,
-    address: ArrayString<39>,
-    network: ArrayString<43>,
-    value: &[u8],
-) -> Result<(), OutputFailed> {
-    let address = address.as_str().as_bytes();
-    let network = network.as_str().as_bytes();
-    if value.is_empty() {
-        return block.push_line(out, &[address, b" ", network, b"\n"]);
-    }
-    block.push_line(out, &[address, b" ", network, b" ", value, b"\n"])
-}
-
 /// Appends the line of an address with its network and the value of that to a block.
-#[inline]
 pub fn push_match<S: Sink>(
     block: &mut Block,
     out: &mut S,
@@ -129,7 +111,14 @@ pub fn push_match<S: Sink>(
     network: ArrayString<43>,
     value: &[u8],
 ) -> Result<bool, OutputFailed> {
-    push_answer(block, out, address, network, value)?;
+    push_row(
+        block,
+        out,
+        address.as_str().as_bytes(),
+        b" ",
+        network,
+        value,
+    )?;
     Ok(true)
 }
 

@@ -16,9 +16,6 @@ fn argument_message(error: &ArgumentError) -> ArrayString<99> {
         ArgumentError::Network(wrong, e) => return wrong_words(wrong, e.to_text()),
         ArgumentError::Length => text.push_str("no prefix length inside the network"),
         ArgumentError::Index => text.push_str("no index below 2^128"),
-        ArgumentError::Count => text.push_str("no count below 2^64"),
-        ArgumentError::Field => text.push_str("no number of a field, from 1 on"),
-        ArgumentError::Separator => text.push_str("more or less than one byte"),
         ArgumentError::NoAddress => text.push_str("no address"),
         ArgumentError::AddressOrFile => text.push_str("no address, and no file that can be read"),
         ArgumentError::Operand => {
@@ -257,6 +254,10 @@ fn misfit_text(why: Misfit) -> ArrayString<128> {
         Misfit::NoFields => text.push_str(": not the numbers of two fields, see: netset help "),
         Misfit::WithForm => text.push_str(": not with --form, see: netset help "),
         Misfit::WithJson => text.push_str(": not with the format json, see: netset help "),
+        Misfit::NoLength => text.push_str(": no prefix length inside the network"),
+        Misfit::NoCount => text.push_str(": no count below 2^64"),
+        Misfit::NoNumber => text.push_str(": no number of a field, from 1 on"),
+        Misfit::NoByte => text.push_str(": more or less than one byte"),
     }
     text
 }
