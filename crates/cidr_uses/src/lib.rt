@@ -1,5 +1,5 @@
 //! Parts of small programs, written by the public calls of `cidr`, `cidr_table`, `cidr_forwarding`, `cidr_lookup`,
-//! `cidr_routes`, `cidr_mmdb`, `cidr_sets` and `cidr_ext` only and proved from their public contracts only.
+//! `cidr_routes`, `cidr_mmdb`, `cidr_rules`, `cidr_sets` and `cidr_ext` only and proved from their public contracts only.
 #![tactic(auto)]
 
 pub mod access_list;
@@ -12,6 +12,7 @@ pub mod at_one_family;
 pub mod compact;
 pub mod config_line;
 pub mod consequences;
+pub mod filter_rules;
 pub mod forwarding;
 pub mod headline;
 pub mod host_lengths;
