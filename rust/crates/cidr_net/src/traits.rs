@@ -14,6 +14,7 @@ use core::fmt::{Debug, Display};
 use core::hash::Hash;
 use core::str::FromStr;
 
+mod addresses;
 pub(crate) mod family_cidr;
 mod one_family;
 pub(crate) mod sealed_types;

@@ -55,6 +55,7 @@ pub trait Endpoint: Sized + FamilyCidr {
     /// ```
     /// # use cidr::*;
     /// # use cidr_rules::*;
+    /// # use cidr_support::alloc::Global;
     /// assert_eq!(format!("{}", "192.0.2.0/24".parse::<Ipv4Cidr>()?.addresses().last), "192.0.2.255");
     /// # Ok::<(), Box<dyn std::error::Error>>(())
     /// ```

@@ -59,6 +59,19 @@ pub(crate) fn packet_of_rule<A: FieldValue>(
 /// that meet them. Of n and m rules these are at most (n + 1) (m + 1) (2n + 2m + 1)^5 parts. Where it has looked at `limit` parts and more are left, it returns `TooManyParts`. It keeps the
 /// regions of n + m rules, and 10 parts for each that was looked at.
 ///
+/// ```
+/// # use cidr::*;
+/// # use cidr_rules::*;
+/// # use cidr_support::alloc::Global;
+/// let traffic = Traffic::Ports(Transport::Tcp, Range { first: 0, last: 65535 }, Range { first: 443, last: 443 });
+/// let any: Ipv4Cidr = "0.0.0.0/0".parse()?;
+/// let entry = Entry { action: Action::Permit, source: "10.0.0.0/8".parse()?, destination: any, traffic };
+/// let other = Entry { action: Action::Deny, source: any, destination: any, traffic: Traffic::Any };
+/// let rules = [entry.rule(), other.rule(), entry.rule()];
+/// assert!(differing_packet(Global, &rules, &rules[1..], 1_000_000)?.is_some());
+/// # Ok::<(), Box<dyn std::error::Error>>(())
+/// ```
+///
 /// # Errors
 ///
 /// `RulesError`, which tells what is wrong.

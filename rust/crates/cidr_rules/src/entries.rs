@@ -23,6 +23,14 @@ pub enum Transport {
 
 impl Transport {
     /// The number of the protocol, as IANA assigns it.
+    ///
+    /// ```
+    /// # use cidr::*;
+    /// # use cidr_rules::*;
+    /// # use cidr_support::alloc::Global;
+    /// assert_eq!(Transport::Tcp.number(), 6);
+    /// # Ok::<(), Box<dyn std::error::Error>>(())
+    /// ```
     #[inline]
     pub fn number(self) -> u8 {
         match self {
@@ -63,6 +71,19 @@ impl<C: Endpoint> Entry<C> {
     /// The rule about the packets of the entry: those whose source begins with the bits of the one network, whose destination
     /// begins with the bits of the other, and whose protocol and ports it names. Where a packet's protocol has no ports, the
     /// numbers in their place play no part.
+    ///
+    /// ```
+    /// # use cidr::*;
+    /// # use cidr_rules::*;
+    /// # use cidr_support::alloc::Global;
+    /// let traffic = Traffic::Ports(Transport::Tcp, Range { first: 0, last: 65535 }, Range { first: 443, last: 443 });
+    /// let any: Ipv4Cidr = "0.0.0.0/0".parse()?;
+    /// let entry = Entry { action: Action::Permit, source: "10.0.0.0/8".parse()?, destination: any, traffic };
+    /// let packet = Packet { source: "10.0.0.1".parse::<Ipv4Addr>()?, destination: "192.0.2.1".parse()?, protocol: 6, source_port: 50000,
+    ///     destination_port: 443 };
+    /// assert!(entry.rule().region.contains(&packet));
+    /// # Ok::<(), Box<dyn std::error::Error>>(())
+    /// ```
     pub fn rule(&self) -> Rule<C::Value> {
         Rule {
             action: self.action,

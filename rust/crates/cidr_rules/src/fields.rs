@@ -7,6 +7,7 @@ pub trait FieldValue: Sized + Copy {
     /// ```
     /// # use cidr::*;
     /// # use cidr_rules::*;
+    /// # use cidr_support::alloc::Global;
     /// assert!(80u16.is_upto(443));
     /// # Ok::<(), Box<dyn std::error::Error>>(())
     /// ```
@@ -17,6 +18,7 @@ pub trait FieldValue: Sized + Copy {
     /// ```
     /// # use cidr::*;
     /// # use cidr_rules::*;
+    /// # use cidr_support::alloc::Global;
     /// assert_eq!(80u16.next(443), 81);
     /// # Ok::<(), Box<dyn std::error::Error>>(())
     /// ```
@@ -27,6 +29,7 @@ pub trait FieldValue: Sized + Copy {
     /// ```
     /// # use cidr::*;
     /// # use cidr_rules::*;
+    /// # use cidr_support::alloc::Global;
     /// assert_eq!(443u16.previous(80), 442);
     /// # Ok::<(), Box<dyn std::error::Error>>(())
     /// ```
@@ -82,6 +85,7 @@ impl<T: FieldValue> Range<T> {
     /// ```
     /// # use cidr::*;
     /// # use cidr_rules::*;
+    /// # use cidr_support::alloc::Global;
     /// assert!(Range { first: 1024u16, last: 65535 }.contains(8080));
     /// # Ok::<(), Box<dyn std::error::Error>>(())
     /// ```

@@ -34,6 +34,21 @@ pub struct Region<A: FieldValue> {
 
 impl<A: FieldValue> Region<A> {
     /// Whether a packet is in the region.
+    ///
+    /// ```
+    /// # use cidr::*;
+    /// # use cidr_rules::*;
+    /// # use cidr_support::alloc::Global;
+    /// let traffic = Traffic::Ports(Transport::Tcp, Range { first: 0, last: 65535 }, Range { first: 443, last: 443 });
+    /// let any: Ipv4Cidr = "0.0.0.0/0".parse()?;
+    /// let entry = Entry { action: Action::Permit, source: "10.0.0.0/8".parse()?, destination: any, traffic };
+    /// let other = Entry { action: Action::Deny, source: any, destination: any, traffic: Traffic::Any };
+    /// let rules = [entry.rule(), other.rule(), entry.rule()];
+    /// let packet = Packet { source: "10.0.0.1".parse::<Ipv4Addr>()?, destination: "192.0.2.1".parse()?, protocol: 6, source_port: 50000,
+    ///     destination_port: 443 };
+    /// assert!(rules[0].region.contains(&packet));
+    /// # Ok::<(), Box<dyn std::error::Error>>(())
+    /// ```
     #[inline]
     pub fn contains(&self, packet: &Packet<A>) -> bool {
         self.source.contains(packet.source)

@@ -24,6 +24,21 @@ pub struct Rule<A: FieldValue> {
 /// The index of the rule that decides a packet, counted from 0: the first that has it. A packet that no rule has is denied.
 ///
 /// It goes through the rules up to the one that decides, O(n), and takes no memory.
+///
+/// ```
+/// # use cidr::*;
+/// # use cidr_rules::*;
+/// # use cidr_support::alloc::Global;
+/// let traffic = Traffic::Ports(Transport::Tcp, Range { first: 0, last: 65535 }, Range { first: 443, last: 443 });
+/// let any: Ipv4Cidr = "0.0.0.0/0".parse()?;
+/// let entry = Entry { action: Action::Permit, source: "10.0.0.0/8".parse()?, destination: any, traffic };
+/// let other = Entry { action: Action::Deny, source: any, destination: any, traffic: Traffic::Any };
+/// let rules = [entry.rule(), other.rule(), entry.rule()];
+/// let packet = Packet { source: "10.0.0.1".parse::<Ipv4Addr>()?, destination: "192.0.2.1".parse()?, protocol: 6, source_port: 50000,
+///     destination_port: 443 };
+/// assert_eq!(format!("{:?}", decides(&rules, &packet)), "Some(0)");
+/// # Ok::<(), Box<dyn std::error::Error>>(())
+/// ```
 #[inline]
 pub fn decides<A: FieldValue>(rules: &[Rule<A>], packet: &Packet<A>) -> Option<usize> {
     rules.iter().position(|rule| rule.region.contains(packet))
@@ -32,6 +47,21 @@ pub fn decides<A: FieldValue>(rules: &[Rule<A>], packet: &Packet<A>) -> Option<u
 /// Whether a packet is permitted: by the first rule that has it. A packet that no rule has is denied.
 ///
 /// It goes through the rules up to the one that decides, O(n), and takes no memory.
+///
+/// ```
+/// # use cidr::*;
+/// # use cidr_rules::*;
+/// # use cidr_support::alloc::Global;
+/// let traffic = Traffic::Ports(Transport::Tcp, Range { first: 0, last: 65535 }, Range { first: 443, last: 443 });
+/// let any: Ipv4Cidr = "0.0.0.0/0".parse()?;
+/// let entry = Entry { action: Action::Permit, source: "10.0.0.0/8".parse()?, destination: any, traffic };
+/// let other = Entry { action: Action::Deny, source: any, destination: any, traffic: Traffic::Any };
+/// let rules = [entry.rule(), other.rule(), entry.rule()];
+/// let packet = Packet { source: "10.0.0.1".parse::<Ipv4Addr>()?, destination: "192.0.2.1".parse()?, protocol: 6, source_port: 50000,
+///     destination_port: 443 };
+/// assert!(permits(&rules, &packet));
+/// # Ok::<(), Box<dyn std::error::Error>>(())
+/// ```
 #[inline]
 pub fn permits<A: FieldValue>(rules: &[Rule<A>], packet: &Packet<A>) -> bool {
     for rule in rules {

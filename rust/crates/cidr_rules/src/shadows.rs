@@ -33,6 +33,19 @@ fn is_shadowed<A: FieldValue>(
 /// more are left, it returns `TooManyParts`. Beside the answer it keeps the regions of n rules, and 10 parts for each that was
 /// looked at.
 ///
+/// ```
+/// # use cidr::*;
+/// # use cidr_rules::*;
+/// # use cidr_support::alloc::Global;
+/// let traffic = Traffic::Ports(Transport::Tcp, Range { first: 0, last: 65535 }, Range { first: 443, last: 443 });
+/// let any: Ipv4Cidr = "0.0.0.0/0".parse()?;
+/// let entry = Entry { action: Action::Permit, source: "10.0.0.0/8".parse()?, destination: any, traffic };
+/// let other = Entry { action: Action::Deny, source: any, destination: any, traffic: Traffic::Any };
+/// let rules = [entry.rule(), other.rule(), entry.rule()];
+/// assert_eq!(format!("{:?}", shadowed(Global, &rules, 1_000_000)?), "[2]");
+/// # Ok::<(), Box<dyn std::error::Error>>(())
+/// ```
+///
 /// # Errors
 ///
 /// `RulesError`, which tells what is wrong.
@@ -55,6 +68,19 @@ pub fn shadowed<A: FieldValue>(
 /// The rules that decide a packet, in their order. They permit the same packets, and each decides one of them.
 ///
 /// It takes the time of [`shadowed`], and returns `TooManyParts` as that does.
+///
+/// ```
+/// # use cidr::*;
+/// # use cidr_rules::*;
+/// # use cidr_support::alloc::Global;
+/// let traffic = Traffic::Ports(Transport::Tcp, Range { first: 0, last: 65535 }, Range { first: 443, last: 443 });
+/// let any: Ipv4Cidr = "0.0.0.0/0".parse()?;
+/// let entry = Entry { action: Action::Permit, source: "10.0.0.0/8".parse()?, destination: any, traffic };
+/// let other = Entry { action: Action::Deny, source: any, destination: any, traffic: Traffic::Any };
+/// let rules = [entry.rule(), other.rule(), entry.rule()];
+/// assert_eq!(pruned(Global, &rules, 1_000_000)?.len(), 2);
+/// # Ok::<(), Box<dyn std::error::Error>>(())
+/// ```
 ///
 /// # Errors
 ///
@@ -84,6 +110,19 @@ pub fn pruned<A: FieldValue>(
 /// at.
 ///
 /// [`differing_packet`]: crate::differing_packet
+///
+/// ```
+/// # use cidr::*;
+/// # use cidr_rules::*;
+/// # use cidr_support::alloc::Global;
+/// let traffic = Traffic::Ports(Transport::Tcp, Range { first: 0, last: 65535 }, Range { first: 443, last: 443 });
+/// let any: Ipv4Cidr = "0.0.0.0/0".parse()?;
+/// let entry = Entry { action: Action::Permit, source: "10.0.0.0/8".parse()?, destination: any, traffic };
+/// let other = Entry { action: Action::Deny, source: any, destination: any, traffic: Traffic::Any };
+/// let rules = [entry.rule(), other.rule(), entry.rule()];
+/// assert_eq!(format!("{:?}", redundant(Global, &rules, 1_000_000)?), "[1, 2]");
+/// # Ok::<(), Box<dyn std::error::Error>>(())
+/// ```
 ///
 /// # Errors
 ///
