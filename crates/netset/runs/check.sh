@@ -379,7 +379,8 @@ rows_of_input_twice() {
     run 2 '' "$twice" '' diff - -
     run 2 '' "$twice" '' diff -k - -
     run 2 '' "$twice" '' free - 8 -
-    run 2 '' "$twice" '' free ten x - -
+    run 2 '' "$twice" '' free ten 26 - -
+    run 2 '' $'x: no prefix length inside the network\n' '' free ten x - -
     run 2 '' "$twice" '' check - -
     run 2 '' "$twice" '10.0.0.0/8' match - -
     run 2 '' "$twice" '10.0.0.0/8' match -
