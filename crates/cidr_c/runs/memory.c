@@ -31,7 +31,7 @@ static pcidr_table table, built;
 static pcidr_table_sizes sizes;
 /* The same of IPv6. */
 static pcidr_value ascending_ipv6[COUNT];
-static uint32_t first_ipv6[1 << 14], words_ipv6[1 << 12];
+static uint32_t first_ipv6[1 << 16], words_ipv6[1 << 12];
 static pcidr_table table_ipv6, built_ipv6;
 /* Their file, and room for it. */
 static uint32_t offsets[COUNT + 1];
@@ -124,10 +124,10 @@ static void set_values(void) {
     table.family = 4, table.first = first, table.first_len = 1 << 12, table.words = words, table.words_len = 1 << 12;
     if (build_table() != PCIDR_OK) failures++;
     built = table, table.first_len = table.words_len = 1 << 12;
-    table_ipv6.family = 6, table_ipv6.first = first_ipv6, table_ipv6.first_len = 1 << 14;
+    table_ipv6.family = 6, table_ipv6.first = first_ipv6, table_ipv6.first_len = 1 << 16;
     table_ipv6.words = words_ipv6, table_ipv6.words_len = 1 << 12;
     if (build_table_ipv6() != PCIDR_OK) failures++;
-    built_ipv6 = table_ipv6, table_ipv6.first_len = 1 << 14, table_ipv6.words_len = 1 << 12;
+    built_ipv6 = table_ipv6, table_ipv6.first_len = 1 << 16, table_ipv6.words_len = 1 << 12;
     memset(&sizes, 9, sizeof sizes);
     if (pcidr_set_write(ascending, COUNT, file, sizeof file, &file_len) != PCIDR_OK) failures++;
     memset(written, 0, sizeof written), memset(ranges, 0, sizeof ranges), number.high = 0, number.low = 9;
