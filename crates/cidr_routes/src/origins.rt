@@ -5,7 +5,7 @@ ghost use Rattle.std.specs.List.Sorted.{IsStrictlySortedBy};
 ghost use Rattle.cidr.specs.either.IpAddress.{TiesEqual};
 ghost use Rattle.cidr.specs.model.Network.{first_of, width_of};
 ghost use Rattle.cidr_lookup.specs.declared.table.TableError.TheVariants.{NoMemory};
-ghost use Rattle.cidr_routes.specs.Links.{AreEnds, AreOrdered, IsUpto};
+ghost use Rattle.cidr_routes.specs.Links.{AreEnds, IsUpto};
 ghost use Rattle.cidr_routes.specs.Origins.{Covers, IsRefused, IsValidity, payload_cmp};
 ghost use Rattle.cidr_routes.specs.declared.origins.Payload.{Payload};
 ghost use Rattle.cidr_routes.specs.declared.origins.Validity.{Validity};
@@ -89,7 +89,6 @@ impl<C: Keyed> Payloads<C> {
         ensures refused { IfErr result IsRefused }
     {
         let payloads = ascending(payloads);
-        know_order(payloads.as_slice());
         let above = or_no_memory(links(alloc, payloads.as_slice()))?;
         let ends = ready(alloc, or_no_memory(ends_of(alloc, payloads.as_slice()))?)?;
         Ok(Payloads {
@@ -221,12 +220,6 @@ fn ascending<T: Ord + Copy>(mut values: Vec<T>) -> Vec<T>
     values.dedup();
     values
 }
-
-/// Payloads that ascend stand in the order of their networks, which a proof gets from the call.
-fn know_order<C: NetworkBits + Copy>(payloads: &[Payload<C>])
-    requires { IsStrictlySortedBy (payload_cmp C.cmp) payloads.now }
-    ensures { AreOrdered C.bits payloads.now }
-{}
 
 /// For each network how many payloads there are up to its last, where those of one network stand together.
 fn ends_of<C: NetworkBits + Copy>(
