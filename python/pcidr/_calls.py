@@ -155,9 +155,9 @@ class TableSizes(Structure):
 
     first: int
     words: int
-    place: int
+    index: int
     steps: int
-    _fields_ = [("first", c_size_t), ("words", c_size_t), ("place", c_size_t), ("steps", c_uint32)]
+    _fields_ = [("first", c_size_t), ("words", c_size_t), ("index", c_size_t), ("steps", c_uint32)]
 
 
 class FileTable(Structure):

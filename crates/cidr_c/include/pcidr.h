@@ -845,13 +845,13 @@ PCIDR_ASSERT(offsetof(pcidr_table, family) == 4 * sizeof(void *) + 8);
 typedef struct pcidr_table_sizes {
     size_t first;   /* how many entries the table has, and so of NO_ROOM how many are room enough */
     size_t words;   /* how many words, likewise */
-    size_t place;   /* of NO_VALUE: the index of the first value that is refused */
+    size_t index;   /* of NO_VALUE: that of the first value that is refused */
     uint32_t steps; /* how many steps */
 } pcidr_table_sizes;
 
 PCIDR_ASSERT(offsetof(pcidr_table_sizes, first) == 0);
 PCIDR_ASSERT(offsetof(pcidr_table_sizes, words) == sizeof(size_t));
-PCIDR_ASSERT(offsetof(pcidr_table_sizes, place) == 2 * sizeof(size_t));
+PCIDR_ASSERT(offsetof(pcidr_table_sizes, index) == 2 * sizeof(size_t));
 PCIDR_ASSERT(offsetof(pcidr_table_sizes, steps) == 3 * sizeof(size_t));
 
 /* What stands for no row. */
@@ -880,7 +880,7 @@ uint32_t pcidr_ipv6_table_lookup_each(const uint32_t *first, size_t first_len, c
 
 /* Builds the table of networks into the arrays. Before it `first_len` and `words_len` of the table are for how many there is
  * room, and after PCIDR_OK how many there are; what the arrays have behind these stays. Errors: TOO_MANY networks; NO_VALUE,
- * and `place` of the sizes is the index of the first value that is no network of the family, or does not come after the one
+ * and `index` of the sizes is that of the first value that is no network of the family, or does not come after the one
  * before it; TOO_MANY words; NO_ROOM, and the sizes are those of the table; NO_MEMORY may come before each. Then `table` is
  * as it was, and so are the arrays. Takes O(n), also of NO_ROOM. Allocates: while it runs the table, and 24 bytes for each
  * network, or 64 in IPv6. */

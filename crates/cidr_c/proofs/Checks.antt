@@ -40,17 +40,17 @@ accepted w padding steps_of networks first words first_new words_new sizes sizes
 -- an error's code is none of a table
 no_table_is : (error : TableError) → (table_error_code error ≡ 0) ⊎ (table_error_code error ≡ no_room) → ⊥
 no_table_is TooMany e = elim e [ inl z ↦ omega (arith, z) | inr z ↦ omega (arith, z) ]
-no_table_is (Refused place) e = elim e [ inl z ↦ omega (arith, z) | inr z ↦ omega (arith, z) ]
+no_table_is (Refused index) e = elim e [ inl z ↦ omega (arith, z) | inr z ↦ omega (arith, z) ]
 no_table_is TooLarge e = elim e [ inl z ↦ omega (arith, z) | inr z ↦ omega (arith, z) ]
 no_table_is NoMemory e = elim e [ inl z ↦ omega (arith, z) | inr z ↦ omega (arith, z) ]
 
 module _ (w padding : ℕ) (steps_of : ℕ → ℕ) (networks : List (ℕ × ℕ)) (first words : List ℕ) (sizes : CTableSizes) where
-  pub refused_at : (place : ℕ) → IsTableRefused w padding (steps_of (length networks)) networks (Refused place)
+  pub refused_at : (index : ℕ) → IsTableRefused w padding (steps_of (length networks)) networks (Refused index)
       → IsBuilt w padding steps_of networks first words first words sizes
-      (record { first = sizes.first; words = sizes.words; place = place; steps = sizes.steps }) (table_error_code (Refused place))
-  refused_at place is = record {
-    table = λ e. absurd (no_table_is (Refused place) e);
-    few = λ e. absurd (no_table_is (Refused place) e);
+      (record { first = sizes.first; words = sizes.words; index = index; steps = sizes.steps }) (table_error_code (Refused index))
+  refused_at index is = record {
+    table = λ e. absurd (no_table_is (Refused index) e);
+    few = λ e. absurd (no_table_is (Refused index) e);
     many = λ z. absurd (omega (arith, z));
     refused = λ _. (is.0, is.1, refl);
     codes = inr (inr (inr (inl refl)));
@@ -58,10 +58,10 @@ module _ (w padding : ℕ) (steps_of : ℕ → ℕ) (networks : List (ℕ × ℕ
     sizes_stay = λ e. elim e [ inl z ↦ absurd (omega (arith, z)) | inr z ↦ absurd (omega (arith, z)) ];
   }
 
-  pub not_built : (error : TableError) → ((place : ℕ) → error ≡ Refused place → ⊥)
+  pub not_built : (error : TableError) → ((index : ℕ) → error ≡ Refused index → ⊥)
       → IsTableRefused w padding (steps_of (length networks)) networks error
       → IsBuilt w padding steps_of networks first words first words sizes sizes (table_error_code error)
-  not_built (Refused place) other is = absurd (other place refl)
+  not_built (Refused index) other is = absurd (other index refl)
   not_built TooMany other is = record {
     table = λ e. absurd (no_table_is TooMany e);
     few = λ e. absurd (no_table_is TooMany e);

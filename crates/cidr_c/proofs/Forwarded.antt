@@ -35,7 +35,7 @@ pub rows_fit : (rows : List CRow) (table : List (AnyIpCidr × ℕ)) → AreRowVa
 rows_fit rows table fine last row c =
     let stands = (last row).0 c in
     let none : CRow = record { network = record { high = 0; low = 0; tag = 0; zero_17 = 0; zero_18 = 0; zero_20 = 0 }; value = 0 } in
-    let k = stands.place in
+    let k = stands.index in
     let within : k < length rows = omega (arith, slice_get_within (map network_row rows) k row stands.here, length-map rows network_row) in
     let here : network_row (get_or rows k none) ≡ row = sym (get_or-map network_row rows k none row within) ∙ get_or_from_slice_get (map network_row rows) k row row stands.here in
     subst (λ (r : AnyIpCidr × ℕ). IsIpNetworkBits (any_bits r.0)) here (network_fits (get_or rows k none).network (fine k none within))

@@ -145,7 +145,7 @@ static int is_left(void) {
     static const pcidr_plan_fault no_faults[COUNT];
     if (line != 9 || told[0] != 9 || wrong != 9) return 0;
     if (memcmp(plan_rows, no_rows, sizeof plan_rows) != 0 || memcmp(faults, no_faults, sizeof faults) != 0) return 0;
-    if (sizes.first != NINES || sizes.words != NINES || sizes.place != NINES || sizes.steps != 0x09090909) return 0;
+    if (sizes.first != NINES || sizes.words != NINES || sizes.index != NINES || sizes.steps != 0x09090909) return 0;
     if (number.high != 0 || number.low != 9 || memcmp(ranges, no_ranges, sizeof ranges) != 0) return 0;
     for (size_t i = 0; i < sizeof written; i++)
         if (written[i] != 0) return 0;

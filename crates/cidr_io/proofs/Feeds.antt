@@ -11,19 +11,19 @@ use Rattle.std.proofs.Math.Seq.{drop-cons, take-append_seam}
 use Rattle.cidr_io.specs.Lines.{HasNoFeed, HasTaken, IsFirstFeed, IsNextLine, KeepsLines, MayFail, StaysTold, is_line_feed, kept_of, lines_of}
 
 -- the line up to the first line feed, or the whole text
-pub line_cut : (text : List ℕ) (place : ℕ) → ((k : ℕ) → k < place → is_line_feed (slice_index text k) ≡ false)
-    → place < length text → is_line_feed (slice_index text place) ≡ true → lines_of text ≡ kept_of (take place text) ∷ lines_of (drop (place + 1) text)
-line_cut text place before within here =
-    let behind = drop (place + 1) text in
-    let y = slice_index text place in
-    let tail : drop place text ≡ y ∷ behind = rw add-one (drop-cons text place 0 within) in
-    let whole : take place text ++ (y ∷ behind) ≡ text = ap (λ (t : List ℕ). take place text ++ t) (sym tail) ∙ take-append-drop place text in
-    let none : All (λ x. is_line_feed x ≡ false) (take place text) =
+pub line_cut : (text : List ℕ) (index : ℕ) → ((k : ℕ) → k < index → is_line_feed (slice_index text k) ≡ false)
+    → index < length text → is_line_feed (slice_index text index) ≡ true → lines_of text ≡ kept_of (take index text) ∷ lines_of (drop (index + 1) text)
+line_cut text index before within here =
+    let behind = drop (index + 1) text in
+    let y = slice_index text index in
+    let tail : drop index text ≡ y ∷ behind = rw add-one (drop-cons text index 0 within) in
+    let whole : take index text ++ (y ∷ behind) ≡ text = ap (λ (t : List ℕ). take index text ++ t) (sym tail) ∙ take-append-drop index text in
+    let none : All (λ x. is_line_feed x ≡ false) (take index text) =
     λ k d lt.
-    let below : k < place = omega (arith, lt, length-take-le place text (omega arith)) in
+    let below : k < index = omega (arith, lt, length-take-le index text (omega arith)) in
     let inside : k < length text = omega arith in
-    ap is_line_feed (get_or-take place text k d below ∙ get_or_default_zero text k d inside) ∙ before k below in
-    ap lines_of (sym whole) ∙ ap (map kept_of) (slice_split_at is_line_feed (take place text) y behind none here)
+    ap is_line_feed (get_or-take index text k d below ∙ get_or_default_zero text k d inside) ∙ before k below in
+    ap lines_of (sym whole) ∙ ap (map kept_of) (slice_split_at is_line_feed (take index text) y behind none here)
 
 pub line_whole : (text : List ℕ) → HasNoFeed text → lines_of text ≡ kept_of text ∷ []
 line_whole text none =
@@ -37,8 +37,8 @@ below_seen block seen k none within h =
 
 from_seen : (block : List ℕ) (seen k : ℕ) → seen ≤ k → slice_index block k ≡ slice_index (drop seen block) (k - seen)
 from_seen block seen k h =
-    let place : seen + (k - seen) ≡ k = omega (arith, h) in
-    ap (slice_index block) (sym place) ∙ sym (get_or-drop seen block (k - seen) 0)
+    let index : seen + (k - seen) ≡ k = omega (arith, h) in
+    ap (slice_index block) (sym index) ∙ sym (get_or-drop seen block (k - seen) 0)
 
 no_feed_before : (block : List ℕ) (seen most : ℕ) → HasNoFeed (take seen block) → seen ≤ length block
     → ((k : ℕ) → k < most → is_line_feed (slice_index (drop seen block) k) ≡ false) → (k : ℕ) → k < seen + most → is_line_feed (slice_index block k) ≡ false
@@ -48,12 +48,12 @@ no_feed_before block seen most none within rest k h =
       | inr past ↦ ap is_line_feed (from_seen block seen k past) ∙ rest (k - seen) (omega (arith, h, past))
     ]
 
-pub feed_behind : (block : List ℕ) (seen place : ℕ) → HasNoFeed (take seen block) → seen ≤ length block → IsFirstFeed (drop seen block) place
-    → IsFirstFeed block (seen + place)
-feed_behind block seen place none within f = record {
+pub feed_behind : (block : List ℕ) (seen index : ℕ) → HasNoFeed (take seen block) → seen ≤ length block → IsFirstFeed (drop seen block) index
+    → IsFirstFeed block (seen + index)
+feed_behind block seen index none within f = record {
   within = omega (arith, f.within, length-drop seen block, within);
-  here = ap is_line_feed (sym (get_or-drop seen block place 0)) ∙ f.here;
-  before = no_feed_before block seen place none within f.before;
+  here = ap is_line_feed (sym (get_or-drop seen block index 0)) ∙ f.here;
+  before = no_feed_before block seen index none within f.before;
 }
 
 pub none_behind : (block : List ℕ) (seen : ℕ) → HasNoFeed (take seen block) → seen ≤ length block → HasNoFeed (drop seen block) → HasNoFeed block

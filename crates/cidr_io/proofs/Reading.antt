@@ -17,26 +17,26 @@ each_utf8 [] = tt
 each_utf8 (text ∷ texts) = (IsUtf8-string_bytes text, each_utf8 texts)
 
 -- an argument that is not UTF-8, after strings
-pub not_text : {Z : Type 0} (told : Option (List (List ℕ))) (place : ℕ) (texts : List (String Z)) (bytes shown : List ℕ)
-    → IfSome told (λ given. (place ≤ length given) × (map string_bytes texts ≡ take place given)) → IsArgument told place (Some bytes)
+pub not_text : {Z : Type 0} (told : Option (List (List ℕ))) (index : ℕ) (texts : List (String Z)) (bytes shown : List ℕ)
+    → IfSome told (λ given. (index ≤ length given) × (map string_bytes texts ≡ take index given)) → IsArgument told index (Some bytes)
     → ¬ (IsUtf8 bytes) → shown ≡ byte_excerpt bytes → IsNotText told shown
-not_text None place texts bytes shown before at bad is = tt
-not_text (Some given) place texts bytes shown before at bad is = (
-  take place given,
-  drop (suc place) given,
+not_text None index texts bytes shown before at bad is = tt
+not_text (Some given) index texts bytes shown before at bad is = (
+  take index given,
+  drop (suc index) given,
   bytes,
-  subst (λ argument. given ≡ take place given ++ argument ∷ drop (suc place) given) (get_or_from_slice_get given place bytes bytes at)
-      (split_at given place bytes (slice_get_within given place bytes at)),
+  subst (λ argument. given ≡ take index given ++ argument ∷ drop (suc index) given) (get_or_from_slice_get given index bytes bytes at)
+      (split_at given index bytes (slice_get_within given index bytes at)),
   subst (All IsUtf8) before.1 (All-from_recursion IsUtf8 (map string_bytes texts) (each_utf8 texts)),
   bad,
   is,
 )
 
 -- one more argument after those that were read
-pub one_more : {S : Type 0} (bytes_of : S → List ℕ) (told : Option (List (List ℕ))) (place : ℕ) (texts : List S) (text : S) (bytes : List ℕ)
-    → IfSome told (λ given. (place ≤ length given) × (map bytes_of texts ≡ take place given)) → IsArgument told place (Some bytes) → bytes_of text ≡ bytes
-    → IfSome told (λ given. (place + 1 ≤ length given) × (map bytes_of (texts ++ text ∷ []) ≡ take (place + 1) given))
-one_more bytes_of None place texts text bytes before at same = tt
-one_more bytes_of (Some given) place texts text bytes before at same =
-    let within = slice_get_within given place bytes at in
-    (omega arith, map-append bytes_of texts (text ∷ []) ∙ (rw (before.1, same, ← get_or_from_slice_get given place bytes bytes at) (sym (take_more given place bytes within))))
+pub one_more : {S : Type 0} (bytes_of : S → List ℕ) (told : Option (List (List ℕ))) (index : ℕ) (texts : List S) (text : S) (bytes : List ℕ)
+    → IfSome told (λ given. (index ≤ length given) × (map bytes_of texts ≡ take index given)) → IsArgument told index (Some bytes) → bytes_of text ≡ bytes
+    → IfSome told (λ given. (index + 1 ≤ length given) × (map bytes_of (texts ++ text ∷ []) ≡ take (index + 1) given))
+one_more bytes_of None index texts text bytes before at same = tt
+one_more bytes_of (Some given) index texts text bytes before at same =
+    let within = slice_get_within given index bytes at in
+    (omega arith, map-append bytes_of texts (text ∷ []) ∙ (rw (before.1, same, ← get_or_from_slice_get given index bytes bytes at) (sym (take_more given index bytes within))))

@@ -9,17 +9,17 @@ use Rattle.std.specs.declared.env.FillError.TheVariants.{NotPresent, TooLong}
 
 -- the argument at this index, or `None` past the last one, where the arguments are told
 abbrev pub IsArgument : Option (List (List ℕ)) → ℕ → Option (List ℕ) → Type 0
-IsArgument told place argument = IfSome told (λ given. slice_get given place ≡ argument)
+IsArgument told index argument = IfSome told (λ given. slice_get given index ≡ argument)
 
 -- a buffer begins with the argument at this index, or there is none, or it is longer than the buffer
 abbrev pub BeginsWithArgument : List (List ℕ) → ℕ → Result ℕ FillError → List ℕ → Type 0
-BeginsWithArgument given place (Ok n) buf = slice_get given place ≡ Some (take n buf)
-BeginsWithArgument given place (Err NotPresent) buf = slice_get given place ≡ None
-BeginsWithArgument given place (Err TooLong) buf = (argument : List ℕ) × (slice_get given place ≡ Some argument) × (length buf < length argument)
+BeginsWithArgument given index (Ok n) buf = slice_get given index ≡ Some (take n buf)
+BeginsWithArgument given index (Err NotPresent) buf = slice_get given index ≡ None
+BeginsWithArgument given index (Err TooLong) buf = (argument : List ℕ) × (slice_get given index ≡ Some argument) × (length buf < length argument)
 
 -- the same, where the arguments are told
 abbrev pub Fills : Option (List (List ℕ)) → ℕ → Result ℕ FillError → List ℕ → Type 0
-Fills told place r buf = IfSome told (λ given. BeginsWithArgument given place r buf)
+Fills told index r buf = IfSome told (λ given. BeginsWithArgument given index r buf)
 
 -- these are all the arguments
 abbrev pub AreArguments : Option (List (List ℕ)) → List (List ℕ) → Type 0

@@ -16,10 +16,10 @@ abbrev pub is_line_feed : ℕ → Bool
 is_line_feed byte = byte == 10
 
 -- the first line feed of a text stands at this index
-pub record IsFirstFeed (text : List ℕ) (place : ℕ) : Type 0 where
-  pub within : place < length text
-  pub here : is_line_feed (slice_index text place) ≡ true
-  pub before : (k : ℕ) → k < place → is_line_feed (slice_index text k) ≡ false
+pub record IsFirstFeed (text : List ℕ) (index : ℕ) : Type 0 where
+  pub within : index < length text
+  pub here : is_line_feed (slice_index text index) ≡ true
+  pub before : (k : ℕ) → k < index → is_line_feed (slice_index text k) ≡ false
 
 -- a text has none
 abbrev pub HasNoFeed : List ℕ → Type 0

@@ -22,10 +22,10 @@ pub trait Arguments {
     /// Copies the argument at this index, from 0 on and without the program's name, to the start of `buf`, and returns
     /// its length in bytes. The errors are `NotPresent` past the last argument, and `TooLong` where `buf` has no room
     /// for all of it. The caller has to prove that the index is below 2^64 - 1.
-    fn copy_to(&self, place: usize, buf: &mut [u8]) -> Result<usize, FillError>
-        requires { place < 18446744073709551615 }
+    fn copy_to(&self, index: usize, buf: &mut [u8]) -> Result<usize, FillError>
+        requires { index < 18446744073709551615 }
         ensures bound { WritesAtMost result buf.new }
-        ensures fills { Fills (told self.now) place result buf.new };
+        ensures fills { Fills (told self.now) index result buf.new };
 }
 
 /// The arguments that the system has given, which nothing is told of.
@@ -40,8 +40,8 @@ impl<R: Env> Arguments for SystemArguments<'_, R> {
 
     ghost told = { λ _. None };
 
-    fn copy_to(&self, place: usize, buf: &mut [u8]) -> Result<usize, FillError> {
-        self.system.arg(place + 1, buf)
+    fn copy_to(&self, index: usize, buf: &mut [u8]) -> Result<usize, FillError> {
+        self.system.arg(index + 1, buf)
     }
 }
 
@@ -69,11 +69,11 @@ impl From<AllocError> for ArgumentReadError {
 fn bytes_at<M: Memory, A: Arguments>(
     memory: &mut M,
     arguments: &A,
-    place: usize,
+    index: usize,
 ) -> Result<Option<Vec<u8>>, AllocError>
-    requires { place < 18446744073709551615 }
+    requires { index < 18446744073709551615 }
     ensures argument { IfOk result
-        (λ found. IsArgument (A.told arguments.now) place (option_map (λ bytes. bytes.items) found)) }
+        (λ found. IsArgument (A.told arguments.now) index (option_map (λ bytes. bytes.items) found)) }
     ensures refused { OnErr result (M.refused memory.new ≡ true) }
 {
     let mut buf = Vec::new(memory.alloc());
@@ -84,7 +84,7 @@ fn bytes_at<M: Memory, A: Arguments>(
         let Ok(()) = buf.resize(room, 0) else {
             unreachable!()
         };
-        match arguments.copy_to(place, buf.as_mut_slice()) {
+        match arguments.copy_to(index, buf.as_mut_slice()) {
             Ok(n) => {
                 buf.truncate(n);
                 return Ok(Some(buf));

@@ -108,8 +108,8 @@ fn fill_line<M: Memory, S: Source>(
 {
     let mut seen = 0;
     for _reads in 0..u64::MAX {
-        if let Some(place) = feed_in(&block[seen..]) {
-            return Ok(Some(seen + place));
+        if let Some(index) = feed_in(&block[seen..]) {
+            return Ok(Some(seen + index));
         }
         block.truncate(KEPT);
         seen = block.len();
@@ -299,7 +299,7 @@ impl<S: Source + Drop> LineReader<S> {
     /// Whether a whole line is read already behind this one, so that nothing is read for it: then a line feed is left. No
     /// contract says when it is so: what is made of lines has to be the same either way.
     pub fn has_line(&self) -> bool
-        ensures { IsTrue result → IfSome self.now.left (λ text. (place : ℕ) × IsFirstFeed text place) }
+        ensures { IsTrue result → IfSome self.now.left (λ text. (index : ℕ) × IsFirstFeed text index) }
     {
         self.ahead.is_some()
     }

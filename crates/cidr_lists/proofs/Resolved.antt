@@ -38,15 +38,15 @@ module _ {C V W : Type 0} (f : V → W) where
 
   last_mapped : (rows : List (C × V)) (row : C × V) → IsLastRow rows row → IsLastRow (map with_value rows) (with_value row)
   last_mapped rows row h = record {
-    place = h.place;
-    here = slice_get-map with_value rows h.place ∙ ap (option_map with_value) h.here;
+    index = h.index;
+    here = slice_get-map with_value rows h.index ∙ ap (option_map with_value) h.here;
     last = λ other after e. h.last other after (ap (λ (ks : List C). slice_get ks other) (sym (same_keys rows)) ∙ e);
   }
 
   last_from : (rows : List (C × V)) (y : C × W) → IsLastRow (map with_value rows) y → (row : C × V) × IsLastRow rows row × (with_value row ≡ y)
   last_from rows y h =
-      let at : option_map with_value (slice_get rows h.place) ≡ Some y = sym (slice_get-map with_value rows h.place) ∙ h.here in
-      elim ((slice_get_cases rows h.place).1) [
+      let at : option_map with_value (slice_get rows h.index) ≡ Some y = sym (slice_get-map with_value rows h.index) ∙ h.here in
+      elim ((slice_get_cases rows h.index).1) [
         | inr none ↦
             let no : None ≡ Some y = sym (ap (option_map with_value) none.1) ∙ at in
             absurd (cc)
@@ -55,7 +55,7 @@ module _ {C V W : Type 0} (f : V → W) where
             let e : with_value row ≡ y = same_some (with_value row) y (sym (ap (option_map with_value) here) ∙ at) in (
               row,
               record {
-                place = h.place;
+                index = h.index;
                 here = here;
                 last = λ other after k. h.last other after (ap (λ (ks : List C). slice_get ks other) (same_keys rows) ∙ (k ∙ ap (λ (r : C × W). Some r.0) e));
               },

@@ -42,15 +42,15 @@ module _ {C : Type 0} (cmp : C → C → Ordering) (o : IsTotalOrder cmp) (exact
         (row.1, subst (λ (k : C). Contains kept (k, row.1)) same ((last row).1 (last_row rows row ends)));
     row = λ n l c.
         let r = (last (n, l)).0 c in
-        let (u, at, is) = from r.place (n, l) r.here in
-        let size : l ≡ r.place + 1 = ap (λ (x : C × ℕ). x.1) is in
-        let index : r.place ≡ l - 1 = omega (arith, size) in
+        let (u, at, is) = from r.index (n, l) r.here in
+        let size : l ≡ r.index + 1 = ap (λ (x : C × ℕ). x.1) is in
+        let index : r.index ≡ l - 1 = omega (arith, size) in
         (u, omega (arith, size), subst (λ k. slice_get vrps k ≡ Some u) index at, sym (ap (λ (x : C × ℕ). x.0) is));
     last = λ n j l u c s same.
         let r = (last (n, l)).0 c in
-        let (w, at, is) = from r.place (n, l) r.here in
-        let size : l ≡ r.place + 1 = ap (λ (x : C × ℕ). x.1) is in
-        elim (cases_lt r.place j) [
+        let (w, at, is) = from r.index (n, l) r.here in
+        let size : l ≡ r.index + 1 = ap (λ (x : C × ℕ). x.1) is in
+        elim (cases_lt r.index j) [
           | inl lt ↦ absurd (r.last j lt (key_of_row rows j (u.network, j + 1) (to j u s) ∙ ap Some same))
           | inr le ↦ omega (arith, le, size)
         ];

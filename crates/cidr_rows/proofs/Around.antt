@@ -127,24 +127,24 @@ module _ {C : Type 0} (cmp : C → C → Ordering) (bits : C → List Bool) (ord
   ]
 
   -- the longest one behind those that are shorter
-  pub with_longest : (place : ℕ) (h : IsLongestAt bits asked keys place) (indexes : List ℕ) → AreShorter (length (bits h.key)) indexes
-      → AreCovering bits asked keys (indexes ++ place ∷ [])
-  with_longest place h indexes s = record {
-    ascending = increasing_pushed indexes place s.ascending (λ i c.
+  pub with_longest : (index : ℕ) (h : IsLongestAt bits asked keys index) (indexes : List ℕ) → AreShorter (length (bits h.key)) indexes
+      → AreCovering bits asked keys (indexes ++ index ∷ [])
+  with_longest index h indexes s = record {
+    ascending = increasing_pushed indexes index s.ascending (λ i c.
         let at = (s.exact i).0 c in
-        before_longer i place at.0 h.key at.1 h.here at.2 h.begins at.3);
+        before_longer i index at.0 h.key at.1 h.here at.2 h.begins at.3);
     exact = λ i. (
-      λ c. elim (contains_either indexes place i c) [
+      λ c. elim (contains_either indexes index i c) [
         | inl before ↦ let at = (s.exact i).0 before in (at.0, at.1, at.2)
         | inr e ↦ (h.key, rw e h.here, h.begins)
       ],
       λ at.
           let most = h.longest at.0 (contains_got keys i at.0 at.1) at.2 in
           elim (cases_lt (length (bits at.0)) (length (bits h.key))) [
-            | inl lt ↦ contains_left indexes place i ((s.exact i).1 (at.0, at.1, at.2, lt))
+            | inl lt ↦ contains_left indexes index i ((s.exact i).1 (at.0, at.1, at.2, lt))
             | inr le ↦
                 let same : bits h.key ≡ bits at.0 = same_length (bits h.key) (bits at.0) (begins_both asked (bits h.key) (bits at.0) h.begins at.2 most) (omega arith) in
-                rw (same_place i place at.0 h.key at.1 h.here (sym same)) (contains_last indexes place)
+                rw (same_place i index at.0 h.key at.1 h.here (sym same)) (contains_last indexes index)
           ],
     );
   }
@@ -173,39 +173,39 @@ module _ {C : Type 0} (cmp : C → C → Ordering) (bits : C → List Bool) (ord
     counted = refl;
   }
 
-  module _ (place : ℕ) (within : place < length keys) (longest : IsStrictlySortedBy cmp keys → IsLongestAt bits asked keys place)
-      (key : C) (there : (other : C) → get_or keys place other ≡ key) (len : ℕ) (least : len ≡ min (length (bits key)) (length asked)) where
+  module _ (index : ℕ) (within : index < length keys) (longest : IsStrictlySortedBy cmp keys → IsLongestAt bits asked keys index)
+      (key : C) (there : (other : C) → get_or keys index other ≡ key) (len : ℕ) (least : len ≡ min (length (bits key)) (length asked)) where
     -- the length is that of the longest key
     length_is : (s : IsStrictlySortedBy cmp keys) → length (bits (longest s).key) ≡ len
     length_is s =
         let h = longest s in
-        let same : h.key ≡ key = sym (get_or_from_slice_get keys place h.key h.key h.here) ∙ there h.key in
+        let same : h.key ≡ key = sym (get_or_from_slice_get keys index h.key h.key h.here) ∙ there h.key in
         omega (arith, ap (λ k. length (bits k)) same, begins_length asked (bits h.key) h.begins, least)
 
-    pub one_found : (old new : List ℕ) (count : ℕ) → len ≡ 0 → new ≡ set old 0 place → count ≡ 1 → AreCoveringPut bits asked keys old new count
+    pub one_found : (old new : List ℕ) (count : ℕ) → len ≡ 0 → new ≡ set old 0 index → count ≡ 1 → AreCoveringPut bits asked keys old new count
     one_found old new count none is one = record {
-      indexes = place ∷ [];
-      within = All-push (λ (i : ℕ). i < length keys) [] place (All-nil (λ (i : ℕ). i < length keys)) within;
+      indexes = index ∷ [];
+      within = All-push (λ (i : ℕ). i < length keys) [] index (All-nil (λ (i : ℕ). i < length keys)) within;
       most = omega arith;
       covering = λ s.
           let t = sorted_keys cmp bits ordered keys s in
-          with_longest cmp bits ordered keys t asked place (longest t) []
+          with_longest cmp bits ordered keys t asked index (longest t) []
           (rw (length_is t ∙ none) (none_shorter cmp bits ordered keys t asked));
-      put = is ∙ (ap (λ l. set l 0 place) (put_nothing old) ∙ put_more [] old place);
+      put = is ∙ (ap (λ l. set l 0 index) (put_nothing old) ∙ put_more [] old index);
       counted = one;
     }
 
     pub more_found : (shorter : List Bool) → 0 < len → shorter ≡ take (len - 1) asked → (old mid new : List ℕ) (before count : ℕ)
-        → AreCoveringPut bits shorter keys old mid before → new ≡ set mid before place → count ≡ before + 1
+        → AreCoveringPut bits shorter keys old mid before → new ≡ set mid before index → count ≡ before + 1
         → AreCoveringPut bits asked keys old new count
     more_found shorter some cut old mid new before count h is one = record {
-      indexes = h.indexes ++ place ∷ [];
-      within = All-push (λ (i : ℕ). i < length keys) h.indexes place h.within within;
-      most = omega (arith, h.most, length_push h.indexes place, ap length cut, length-take (len - 1) asked, least);
+      indexes = h.indexes ++ index ∷ [];
+      within = All-push (λ (i : ℕ). i < length keys) h.indexes index h.within within;
+      most = omega (arith, h.most, length_push h.indexes index, ap length cut, length-take (len - 1) asked, least);
       covering = λ s.
           let t = sorted_keys cmp bits ordered keys s in
-          with_longest cmp bits ordered keys t asked place (longest t) h.indexes
+          with_longest cmp bits ordered keys t asked index (longest t) h.indexes
           (rw (length_is t) (shorter_ones cmp bits ordered keys t asked len h.indexes some (rw cut at (h.covering s))));
-      put = is ∙ (ap (λ l. set l before place) h.put ∙ (ap (λ k. set (put_in h.indexes old) k place) h.counted ∙ put_more h.indexes old place));
-      counted = one ∙ (ap (λ k. k + 1) h.counted ∙ sym (length_push h.indexes place));
+      put = is ∙ (ap (λ l. set l before index) h.put ∙ (ap (λ k. set (put_in h.indexes old) k index) h.counted ∙ put_more h.indexes old index));
+      counted = one ∙ (ap (λ k. k + 1) h.counted ∙ sym (length_push h.indexes index));
     }

@@ -15,7 +15,7 @@ use cidr_table::is_inside;
 /// Where a network stands, or the index before which it would: each before that is less, and each from there on greater.
 pub fn find<C: NetworkBits + Copy, K: Keys<C>>(rows: &K, key: &C) -> Result<usize, usize>
     ensures within { MatchResult result (λ i. i < length (K.keys rows.now)) (λ i. i ≤ length (K.keys rows.now)) }
-    ensures place { IsStrictlySortedBy bit_cmp (map C.bits (K.keys rows.now))
+    ensures index { IsStrictlySortedBy bit_cmp (map C.bits (K.keys rows.now))
         → IsPlace bit_cmp (map C.bits (K.keys rows.now)) (C.bits key.now) (length (K.keys rows.now)) result }
 {
     place_of(rows, key, rows.len())
@@ -36,30 +36,30 @@ pub fn longest<C: NetworkBits + Copy, K: Keys<C>>(rows: &K, asked: &C) -> Option
 pub fn covering<C: NetworkBits + Copy, K: Keys<C>>(rows: &K, asked: &C, out: &mut [usize]) -> usize
     ensures { AreCoveringPut C.bits (C.bits asked.now) (K.keys rows.now) out.old out.new result }
 {
-    let Some(place) = longest_key(rows, asked) else {
+    let Some(index) = longest_key(rows, asked) else {
         return 0;
     };
-    let len = rows.key(place).len().min(asked.len());
+    let len = rows.key(index).len().min(asked.len());
     if len == 0 {
-        return put(out, 0, place);
+        return put(out, 0, index);
     }
     // The others are shorter.
     let mut shorter = *asked;
     shorter.clip(len - 1);
     let count = covering(rows, &shorter, out);
-    put(out, count, place)
+    put(out, count, index)
 }
 
-/// Writes an index at a place, if there is room for it, and returns the next place.
-fn put(out: &mut [usize], place: usize, index: usize) -> usize
-    requires { place < 2 ^ 32 }
-    ensures next { result ≡ place + 1 }
-    ensures put { out.new ≡ slice_set out.old place index }
+/// Writes an index at another, if there is room for it, and returns the next one.
+fn put(out: &mut [usize], at: usize, index: usize) -> usize
+    requires { at < 2 ^ 32 }
+    ensures next { result ≡ at + 1 }
+    ensures put { out.new ≡ slice_set out.old at index }
 {
-    if place < out.len() {
-        out[place] = index;
+    if at < out.len() {
+        out[at] = index;
     }
-    place + 1
+    at + 1
 }
 
 /// Which networks are in the outer one, that may be one of them: those from the first index on and before the second.
@@ -85,18 +85,18 @@ pub fn covered<C: NetworkBits + Copy, K: Keys<C>>(rows: &K, outer: &C) -> (usize
 /// How many keys come before this one.
 fn lower_bound<C: Ord + Copy, K: Keys<C>>(rows: &K, key: &C) -> usize
     ensures within { result ≤ length (K.keys rows.now) }
-    ensures place { IsStrictlySortedBy C.cmp (K.keys rows.now)
+    ensures index { IsStrictlySortedBy C.cmp (K.keys rows.now)
         → IsLowerBound C.cmp (K.keys rows.now) key.now (length (K.keys rows.now)) result }
 {
-    let (Ok(place) | Err(place)) = place_of(rows, key, rows.len());
-    place
+    let (Ok(index) | Err(index)) = place_of(rows, key, rows.len());
+    index
 }
 
 /// Where a key stands among the first `end`, or the index before which it would.
 fn place_of<C: Ord + Copy, K: Keys<C>>(rows: &K, key: &C, end: usize) -> Result<usize, usize>
     requires { end ≤ length (K.keys rows.now) }
     ensures within { MatchResult result (λ i. i < end) (λ i. i ≤ end) }
-    ensures place { IsStrictlySortedBy C.cmp (K.keys rows.now) → IsPlace C.cmp (K.keys rows.now) key.now end result }
+    ensures index { IsStrictlySortedBy C.cmp (K.keys rows.now) → IsPlace C.cmp (K.keys rows.now) key.now end result }
 {
     place_between(rows, key, 0, end, end)
 }
@@ -105,7 +105,7 @@ fn place_of<C: Ord + Copy, K: Keys<C>>(rows: &K, key: &C, end: usize) -> Result<
 fn place_back<C: Ord + Copy, K: Keys<C>>(rows: &K, key: &C, end: usize) -> Result<usize, usize>
     requires { end ≤ length (K.keys rows.now) }
     ensures within { MatchResult result (λ i. i < end) (λ i. i ≤ end) }
-    ensures place { IsStrictlySortedBy C.cmp (K.keys rows.now) → IsPlace C.cmp (K.keys rows.now) key.now end result }
+    ensures index { IsStrictlySortedBy C.cmp (K.keys rows.now) → IsPlace C.cmp (K.keys rows.now) key.now end result }
 {
     // The key belongs before those from `upto` on.
     let mut upto = end;
@@ -137,7 +137,7 @@ fn place_between<C: Ord + Copy, K: Keys<C>>(
     requires end { end ≤ length (K.keys rows.now) }
     requires left { low + left ≤ end }
     ensures within { MatchResult result (λ i. i < end) (λ i. i ≤ end) }
-    ensures place { IsStrictlySortedBy C.cmp (K.keys rows.now) → IsBetween C.cmp (K.keys rows.now) key.now low (low + left) end
+    ensures index { IsStrictlySortedBy C.cmp (K.keys rows.now) → IsBetween C.cmp (K.keys rows.now) key.now low (low + left) end
         → IsPlace C.cmp (K.keys rows.now) key.now end result }
 {
     let mut found = false;
@@ -154,11 +154,11 @@ fn place_between<C: Ord + Copy, K: Keys<C>>(
     if found { Ok(low) } else { Err(low) }
 }
 
-/// The place of a key among the first `end`, which are all, or else most likely end not far behind it.
+/// The index of a key among the first `end`, which are all, or else most likely end not far behind it.
 fn seek<C: Ord + Copy, K: Keys<C>>(rows: &K, key: &C, end: usize) -> Result<usize, usize>
     requires { end ≤ length (K.keys rows.now) }
     ensures within { MatchResult result (λ i. i < end) (λ i. i ≤ end) }
-    ensures place { IsStrictlySortedBy C.cmp (K.keys rows.now) → IsPlace C.cmp (K.keys rows.now) key.now end result }
+    ensures index { IsStrictlySortedBy C.cmp (K.keys rows.now) → IsPlace C.cmp (K.keys rows.now) key.now end result }
 {
     if end == rows.len() {
         place_of(rows, key, end)
@@ -178,16 +178,16 @@ fn longest_key<C: NetworkBits + Copy, K: Keys<C>>(rows: &K, asked: &C) -> Option
     let mut end = rows.len();
     while end > 0 {
         match seek(rows, &sought, end) {
-            Ok(place) => return Some(place),
+            Ok(index) => return Some(index),
             Err(0) => return None,
-            Err(place) => {
-                let before = rows.key(place - 1);
+            Err(index) => {
+                let before = rows.key(index - 1);
                 let shared = sought.shared_prefix_len(&before);
                 if shared == before.len() {
-                    return Some(place - 1);
+                    return Some(index - 1);
                 }
                 sought.clip(shared);
-                end = place - 1;
+                end = index - 1;
             }
         }
     }

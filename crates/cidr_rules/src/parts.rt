@@ -29,7 +29,7 @@ fn push_piece<A: FieldValue, F: Field<A>>(
     range: Option<Range<F::Value>>,
 ) -> Result<(), AllocError>
     ensures { OnOk result (boxes_of A.number parts.new.items ≡ boxes_of A.number parts.old.items
-        ++ piece (ranges_of A.number region.now) F.place (option_map (range_of F.Value.number) range)) }
+        ++ piece (ranges_of A.number region.now) F.index (option_map (range_of F.Value.number) range)) }
 {
     match range {
         Some(range) => {
@@ -46,7 +46,7 @@ fn trim<A: FieldValue, F: Field<A>>(
     rest: &mut Region<A>,
     hole: &Region<A>,
 ) -> Result<(), AllocError>
-    ensures { OnOk result (IsTrimmed F.place (ranges_of A.number rest.old) (ranges_of A.number rest.new) (ranges_of A.number hole.now)
+    ensures { OnOk result (IsTrimmed F.index (ranges_of A.number rest.old) (ranges_of A.number rest.new) (ranges_of A.number hole.now)
         (boxes_of A.number parts.old.items) (boxes_of A.number parts.new.items)) }
 {
     let range = F::range(rest);

@@ -122,16 +122,16 @@ pub(crate) trait Field<A: FieldValue> {
     type Value: FieldValue;
 
     /// Its place in the list of fields, counted from 0.
-    ghost place: { ℕ };
+    ghost index: { ℕ };
 
     /// The range of the field.
     fn range(region: &Region<A>) -> Range<Self::Value>
-        ensures value { range_of Self.Value.number result ≡ range_at (ranges_of A.number region.now) place }
-        ensures place { place < 5 };
+        ensures value { range_of Self.Value.number result ≡ range_at (ranges_of A.number region.now) index }
+        ensures index { index < 5 };
 
     /// The region with this range of the field.
     fn with_range(region: &Region<A>, range: Range<Self::Value>) -> Region<A>
-        ensures { ranges_of A.number result ≡ slice_set (ranges_of A.number region.now) place (range_of Self.Value.number range) };
+        ensures { ranges_of A.number result ≡ slice_set (ranges_of A.number region.now) index (range_of Self.Value.number range) };
 }
 
 pub(crate) struct Source;
@@ -139,7 +139,7 @@ pub(crate) struct Source;
 impl<A: FieldValue> Field<A> for Source {
     type Value = A;
 
-    ghost place = { 0 };
+    ghost index = { 0 };
 
     fn range(region: &Region<A>) -> Range<A> {
         region.source
@@ -160,7 +160,7 @@ pub(crate) struct Destination;
 impl<A: FieldValue> Field<A> for Destination {
     type Value = A;
 
-    ghost place = { 1 };
+    ghost index = { 1 };
 
     fn range(region: &Region<A>) -> Range<A> {
         region.destination
@@ -181,7 +181,7 @@ pub(crate) struct Protocol;
 impl<A: FieldValue> Field<A> for Protocol {
     type Value = u8;
 
-    ghost place = { 2 };
+    ghost index = { 2 };
 
     fn range(region: &Region<A>) -> Range<u8> {
         region.protocol
@@ -202,7 +202,7 @@ pub(crate) struct SourcePort;
 impl<A: FieldValue> Field<A> for SourcePort {
     type Value = u16;
 
-    ghost place = { 3 };
+    ghost index = { 3 };
 
     fn range(region: &Region<A>) -> Range<u16> {
         region.source_port
@@ -223,7 +223,7 @@ pub(crate) struct DestinationPort;
 impl<A: FieldValue> Field<A> for DestinationPort {
     type Value = u16;
 
-    ghost place = { 4 };
+    ghost index = { 4 };
 
     fn range(region: &Region<A>) -> Range<u16> {
         region.destination_port

@@ -108,38 +108,38 @@ module _ (s : List (List Bool)) (h : IsReduced 129 s) where
           sym at.here ∙ get_or_default s i q x at.within ∙ ap (λ k. get_or s k x) (sym e) ∙ here
 
   -- around those that lie in a network that none of them contains
-  module _ (p : List Bool) (free : ¬ (Covers s p)) (place : ℕ) (u : IsUpto s p place) where
+  module _ (p : List Bool) (free : ¬ (Covers s p)) (index : ℕ) (u : IsUpto s p index) where
     here_at : (x : List Bool) (i : ℕ) → IsAt s x i → get_or s i p ≡ x
     here_at x i at = get_or_default s i p x at.within ∙ at.here
 
-    before_place : (x : List Bool) (i : ℕ) → IsAt s x i → i < place → bit_cmp x p ≡ Less
+    before_place : (x : List Bool) (i : ℕ) → IsAt s x i → i < index → bit_cmp x p ≡ Less
     before_place x i at lt =
         only_less (bit_cmp x p) (subst (λ z. bit_cmp z p ≢ Greater) (here_at x i at) (u.before i lt))
         (λ e. free (x, contained x i at, subst (λ z. BeginsWith z x) (bits_exact x p e) (begins_itself x)))
 
-    from_place : (x : List Bool) (i : ℕ) → IsAt s x i → place ≤ i → bit_cmp p x ≡ Less
+    from_place : (x : List Bool) (i : ℕ) → IsAt s x i → index ≤ i → bit_cmp p x ≡ Less
     from_place x i at le = turned x p (subst (λ z. bit_cmp z p ≡ Greater) (here_at x i at) (u.behind i le at.within))
 
-    pub parted_inside : (end : ℕ) → place ≤ end → end ≤ length s
-        → ((i : ℕ) → place ≤ i → i < end → BeginsWith (get_or s i p) p) → ((length s ≤ end) ⊎ ¬ (BeginsWith (get_or s end p) p))
-        → IsParted s p (take place s) (drop end s)
+    pub parted_inside : (end : ℕ) → index ≤ end → end ≤ length s
+        → ((i : ℕ) → index ≤ i → i < end → BeginsWith (get_or s i p) p) → ((length s ≤ end) ⊎ ¬ (BeginsWith (get_or s end p) p))
+        → IsParted s p (take index s) (drop end s)
     parted_inside end le within inside last = record {
       each = λ x c.
           let at : IsAt s x c.0 = record { within = c.1; here = c.2 } in
-          elim (cases_lt c.0 place) [
-            | inl lt ↦ inl (taken s x place c.0 lt at)
+          elim (cases_lt c.0 index) [
+            | inl lt ↦ inl (taken s x index c.0 lt at)
             | inr from ↦ elim (cases_lt c.0 end) [
               | inl lt ↦ inr (inl (subst (λ z. BeginsWith z p) (here_at x c.0 at) (inside c.0 from lt)))
               | inr high ↦ inr (inr (dropped s x end c.0 high at))
             ]
           ];
-      kept_these = λ x c. let k = at_taken s x place c in contained x k.0 k.2;
+      kept_these = λ x c. let k = at_taken s x index c in contained x k.0 k.2;
       kept_those = λ x c. let k = at_dropped s x end c in contained x k.0 k.2;
-      before = λ x c. let k = at_taken s x place c in before_place x k.0 k.2 k.1;
+      before = λ x c. let k = at_taken s x index c in before_place x k.0 k.2 k.1;
       behind = λ x c.
           let k = at_dropped s x end c in
           (from_place x k.0 k.2 (omega (arith, k.1, le)), λ b. not_inside x k.0 k.1 k.2 b last);
-      ascend_these = ascend_taken place;
+      ascend_these = ascend_taken index;
       ascend_those = ascend_dropped end within;
     }
       where

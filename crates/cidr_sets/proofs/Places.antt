@@ -70,20 +70,20 @@ only_equal Equal n m = refl
 only_equal Greater n m = absurd (m refl)
 
 -- ---- what stands beside the place
-module _ (s : List (List Bool)) (k : List Bool) (place : ℕ) (h : IsReduced 129 s) (u : IsUpto s k place) where
+module _ (s : List (List Bool)) (k : List Bool) (index : ℕ) (h : IsReduced 129 s) (u : IsUpto s k index) where
   -- a network that contains the asked one is the one before the place
-  pub holder_before : Covers s k → (0 < place) × BeginsWith k (get_or s (place - 1) k)
+  pub holder_before : Covers s k → (0 < index) × BeginsWith k (get_or s (index - 1) k)
   holder_before c =
       let i = c.1.0 in
       let here : get_or s i k ≡ c.0 = get_or_default s i k c.0 c.1.1 ∙ c.1.2 in
       let holds : BeginsWith k (get_or s i k) = subst (BeginsWith k) (sym here) c.2 in
-      let low : i < place = elim (cases_lt i place) [
+      let low : i < index = elim (cases_lt i index) [
         | inl lt ↦ lt
         | inr le ↦ absurd (not_before k (get_or s i k) holds
             (bit_cmp_total.antisymm k (get_or s i k) ∙ ap ordering_reverse (u.behind i le c.1.1)))
       ] in
-      let top = place - 1 in
-      let some : top < place = omega arith in (
+      let top = index - 1 in
+      let some : top < index = omega arith in (
         omega arith,
         elim (cases_eq i top) [
           | inl e ↦ subst (λ j. BeginsWith k (get_or s j k)) e holds
@@ -101,25 +101,25 @@ module _ (s : List (List Bool)) (k : List Bool) (place : ℕ) (h : IsReduced 129
 
   -- a network that lies in the asked one, which none contains, is right behind the place, if any is
   pub inner_behind : (q : List Bool) → Contains s q → BeginsWith q k → ¬ (Covers s k)
-      → (place < length s) × BeginsWith (get_or s place k) k
+      → (index < length s) × BeginsWith (get_or s index k) k
   inner_behind q c b free =
       let i = c.0 in
       let here : get_or s i k ≡ q = get_or_default s i k q c.1 ∙ c.2 in
       let inner : BeginsWith (get_or s i k) k = subst (λ x. BeginsWith x k) (sym here) b in
-      let high : place ≤ i = elim (cases_lt i place) [
+      let high : index ≤ i = elim (cases_lt i index) [
         | inl lt ↦ absurd (free (subst (Covers s)
             (bits_exact (get_or s i k) k (only_equal (bit_cmp (get_or s i k) k) (not_before (get_or s i k) k inner) (u.before i lt)))
             (q, c, subst (λ x. BeginsWith x q) (sym here) (begins_itself q))))
         | inr le ↦ le
       ] in (
         omega (arith, c.1),
-        elim (cases_eq i place) [
+        elim (cases_eq i index) [
           | inl e ↦ subst (λ j. BeginsWith (get_or s j k) k) e inner
           | inr n ↦
-              let within : place < length s = omega (arith, c.1) in
-              let later : bit_cmp (get_or s place k) (get_or s i k) ≡ Less = Less-from_sorted bit_cmp s place i k h.ascending (omega arith) c.1 in
-              begins_between k (get_or s i k) (get_or s place k) inner
-              (λ l. (let e = sym (u.behind place (omega arith) within) ∙ l in (cc)))
+              let within : index < length s = omega (arith, c.1) in
+              let later : bit_cmp (get_or s index k) (get_or s i k) ≡ Less = Less-from_sorted bit_cmp s index i k h.ascending (omega arith) c.1 in
+              begins_between k (get_or s i k) (get_or s index k) inner
+              (λ l. (let e = sym (u.behind index (omega arith) within) ∙ l in (cc)))
               (λ g. (let e = sym later ∙ g in (cc)))
         ],
       )

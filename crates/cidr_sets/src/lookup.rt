@@ -5,16 +5,16 @@ ghost use Rattle.cidr_table.specs.model.Cover.{Covers, IsReduced};
 ghost use Rattle.cidr_sets.specs.model.Searches.{IsUpto};
 
 use crate::probe::{Networks, contains};
-use crate::search::place;
+use crate::search::index;
 use cidr::NetworkBits;
 
-/// How many networks come before this one or are the same, by `place`.
+/// How many networks come before this one or are the same, by `index`.
 pub fn upto<C: NetworkBits>(networks: &[C], network: &C) -> usize
     requires { IsReduced 129 (map C.bits networks.now) }
-    ensures place { IsUpto (map C.bits networks.now) (C.bits network.now) result }
+    ensures index { IsUpto (map C.bits networks.now) (C.bits network.now) result }
     ensures within { result ≤ length networks.now }
 {
-    place(&mut Networks::new(networks), network)
+    index(&mut Networks::new(networks), network)
 }
 
 /// Whether one of the networks contains this one, by `contains`.

@@ -4,7 +4,7 @@ ghost use Rattle.std.specs.Bool.{Decides};
 ghost use Rattle.cidr.specs.model.Network.{BeginsWith};
 ghost use Rattle.cidr_table.specs.model.Cover.{Covers, IsReduced};
 
-use crate::search::place;
+use crate::search::index;
 use cidr::{BitString, NetworkBits};
 use cidr_table::{Count, Probe, is_inside};
 use std::cmp::Ordering;
@@ -98,6 +98,6 @@ pub fn contains<C: NetworkBits, P: NetworkProbe<C>>(networks: &mut P, network: &
     ensures cost { (d : ℕ) → length (P.keys networks.old) < 2 ^ d
         → P.count networks.new ≤ P.count networks.old + (d + 1) }
 {
-    let place = place(networks, network);
-    place > 0 && networks.contains_at(place - 1, network)
+    let index = index(networks, network);
+    index > 0 && networks.contains_at(index - 1, network)
 }

@@ -8,9 +8,9 @@ use cidr_table::Probe;
 
 /// How many networks come before this one or are the same. Binary search: it makes at most as many comparisons as the
 /// number of networks has binary digits.
-pub fn place<C: NetworkBits, P: Probe<C>>(networks: &mut P, network: &C) -> usize
+pub fn index<C: NetworkBits, P: Probe<C>>(networks: &mut P, network: &C) -> usize
     requires { IsReduced 129 (map C.bits (P.keys networks.old)) }
-    ensures place { IsUpto (map C.bits (P.keys networks.old)) (C.bits network.now) result }
+    ensures index { IsUpto (map C.bits (P.keys networks.old)) (C.bits network.now) result }
     ensures keys { P.keys networks.new ≡ P.keys networks.old }
     ensures cost { (d : ℕ) → length (P.keys networks.old) < 2 ^ d → P.count networks.new ≤ P.count networks.old + d }
 {

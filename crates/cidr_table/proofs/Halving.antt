@@ -37,9 +37,9 @@ pub record HasLeft (before now places d : ℕ) : Type 0 where
   pub small : places < 2 ^ digits
 
 -- whether the key stands at a place, and where it does not, all from there on are greater
-abbrev pub StandsAt : {C : Type 0} (cmp : C → C → Ordering) (keys : List C) (key : C) (end place : ℕ) → Bool → Type 0
-StandsAt cmp keys key end place true = IsAt cmp keys key end place
-StandsAt cmp keys key end place false = (j : ℕ) → place ≤ j → j < end → cmp (get_or keys j key) key ≡ Greater
+abbrev pub StandsAt : {C : Type 0} (cmp : C → C → Ordering) (keys : List C) (key : C) (end index : ℕ) → Bool → Type 0
+StandsAt cmp keys key end index true = IsAt cmp keys key end index
+StandsAt cmp keys key end index false = (j : ℕ) → index ≤ j → j < end → cmp (get_or keys j key) key ≡ Greater
 
 -- the key's place among the first `end` is one of the `left` from `low` on or the next one, which is known to be equal or not
 pub record Leaves {C : Type 0} (cmp : C → C → Ordering) (old keys : List C) (key : C)

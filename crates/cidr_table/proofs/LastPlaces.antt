@@ -105,8 +105,8 @@ module _ {C : Type 0} (cmp : C → C → Ordering) (o : IsTotalOrder cmp) (exact
                 | inr t ↦ omega (arith, t.1, ap (λ (r : C × ℕ). r.1) e)
               ] in
               let most_there = behind y found.1 key in
-              let place : y.1 ≡ row.1 = omega (arith, places, most_there) in
-              let whole : y ≡ row = ap₂ (λ k n. (k, n)) key place in
+              let index : y.1 ≡ row.1 = omega (arith, places, most_there) in
+              let whole : y ≡ row = ap₂ (λ k n. (k, n)) key index in
               inr (greatest_end xs row a.1 (subst (Contains xs) whole found.1) behind)
           | inr later ↦ inr (greatest_end xs row a.1 later behind)
         ]
@@ -131,16 +131,16 @@ module _ {C : Type 0} where
   placed_at n [] row c = absurd (contains_nothing row c)
   placed_at n (key ∷ keys) row c = elim (contains_cases (key, n) row (placed (n + 1) keys) c) [
     | inl e ↦ (0, omega (arith, ap (λ (r : C × ℕ). r.1) e), ap (λ (r : C × ℕ). Some r.0) e)
-    | inr later ↦ let (i, place, here) = placed_at (n + 1) keys row later in (suc i, omega (arith, place), here)
+    | inr later ↦ let (i, index, here) = placed_at (n + 1) keys row later in (suc i, omega (arith, index), here)
   ]
 
-  at_placed : (n : ℕ) (keys : List C) (key : C) (i place : ℕ) → place ≡ n + i → slice_get keys i ≡ Some key → Contains (placed n keys) (key, place)
-  at_placed n [] key i place e h = absurd (cc)
-  at_placed n (k ∷ keys) key zero place e h =
+  at_placed : (n : ℕ) (keys : List C) (key : C) (i index : ℕ) → index ≡ n + i → slice_get keys i ≡ Some key → Contains (placed n keys) (key, index)
+  at_placed n [] key i index e h = absurd (cc)
+  at_placed n (k ∷ keys) key zero index e h =
       let same : k ≡ key = cc in
-      let first : n ≡ place = omega (arith, e) in
+      let first : n ≡ index = omega (arith, e) in
       subst (Contains (placed n (k ∷ keys))) (ap₂ (λ c m. (c, m)) same first) (contains_first (k, n) (placed (n + 1) keys))
-  at_placed n (k ∷ keys) key (suc i) place e h = contains_later (k, n) (key, place) (placed (n + 1) keys) (at_placed (n + 1) keys key i place (omega (arith, e)) h)
+  at_placed n (k ∷ keys) key (suc i) index e h = contains_later (k, n) (key, index) (placed (n + 1) keys) (at_placed (n + 1) keys key i index (omega (arith, e)) h)
 
   -- the last of the rows of each key has the key's last place
   pub last_places : (keys : List C) (rows new : List (C × ℕ)) → rows ≡ placed 0 keys → AreLast rows new → (row : C × ℕ)
@@ -148,8 +148,8 @@ module _ {C : Type 0} where
   last_places keys rows new e last row = (
     λ c.
         let t = (last row).0 c in
-        let (i, place, here) = placed_at 0 keys row (subst (λ l. Contains l row) e t.0) in
-        let same : i ≡ row.1 = omega (arith, place) in
+        let (i, index, here) = placed_at 0 keys row (subst (λ l. Contains l row) e t.0) in
+        let same : i ≡ row.1 = omega (arith, index) in
         record {
           here = subst (λ j. slice_get keys j ≡ Some row.0) same here;
           last = λ other h. t.1 (row.0, other) (subst (λ l. Contains l (row.0, other)) (sym e) (at_placed 0 keys row.0 other other (omega arith) h)) refl;
@@ -157,9 +157,9 @@ module _ {C : Type 0} where
     λ t. (last row).1 (
       subst (λ l. Contains l row) (sym e) (at_placed 0 keys row.0 row.1 row.1 (omega arith) t.here),
       λ other d s.
-          let (i, place, here) = placed_at 0 keys other (subst (λ l. Contains l other) e d) in
+          let (i, index, here) = placed_at 0 keys other (subst (λ l. Contains l other) e d) in
           let least = t.last i (here ∙ ap Some s) in
-          omega (arith, least, place),
+          omega (arith, least, index),
     ),
   )
 

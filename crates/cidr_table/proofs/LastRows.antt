@@ -27,7 +27,7 @@ module _ {C V : Type 0} where
   end_at (x ∷ xs) row (suc i) h l = inr (end_at xs row i h (λ j u. l (suc j) (omega arith)))
 
   pub end_of : (xs : List (C × V)) (row : C × V) → IsLastRow xs row → EndsAt xs row
-  end_of xs row h = end_at xs row h.place h.here h.last
+  end_of xs row h = end_at xs row h.index h.here h.last
 
   none_later : (x row : C × V) (xs : List (C × V)) → ¬ (Contains (keys_of xs) row.0) → (j : ℕ) → 0 < j → slice_get (keys_of (x ∷ xs)) j ≢ Some row.0
   none_later x row xs n zero u s = absurd (omega arith)
@@ -39,8 +39,8 @@ module _ {C V : Type 0} where
 
   pub last_row : (xs : List (C × V)) (row : C × V) → EndsAt xs row → IsLastRow xs row
   last_row [] row e = absurd e
-  last_row (x ∷ xs) row (inl h) = record { place = 0; here = ap Some h.0; last = none_later x row xs h.1 }
-  last_row (x ∷ xs) row (inr e) = let t = last_row xs row e in record { place = suc t.place; here = t.here; last = later_none x row xs t.place t.last }
+  last_row (x ∷ xs) row (inl h) = record { index = 0; here = ap Some h.0; last = none_later x row xs h.1 }
+  last_row (x ∷ xs) row (inr e) = let t = last_row xs row e in record { index = suc t.index; here = t.here; last = later_none x row xs t.index t.last }
 
   pub end_contains : (xs : List (C × V)) (row : C × V) → EndsAt xs row → Contains xs row
   end_contains [] row e = absurd e

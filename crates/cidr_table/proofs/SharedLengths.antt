@@ -35,7 +35,7 @@ module _ {C : Type 0} (keys : List C) (key asked : List Bool) (most before now l
 -- what a comparison with the first asked bits says
 pub compared : {C : Type 0} (cmp : C → C → Ordering) (bits : C → List Bool)
     → ((x y : C) → cmp x y ≡ bit_cmp (bits x) (bits y))
-    → (keys : List C) (asked clipped : C) (place mid : ℕ) (r : Ordering)
-    → place < length keys → bits clipped ≡ take mid (bits asked) → r ≡ cmp (get_or keys place clipped) clipped → bit_cmp (bits (get_or keys place asked)) (take mid (bits asked)) ≡ r
-compared cmp bits ordered keys asked clipped place mid r l cut answer =
-    rw (get_or_default keys place asked clipped l, sym cut) (sym (ordered (get_or keys place clipped) clipped) ∙ sym answer)
+    → (keys : List C) (asked clipped : C) (index mid : ℕ) (r : Ordering)
+    → index < length keys → bits clipped ≡ take mid (bits asked) → r ≡ cmp (get_or keys index clipped) clipped → bit_cmp (bits (get_or keys index asked)) (take mid (bits asked)) ≡ r
+compared cmp bits ordered keys asked clipped index mid r l cut answer =
+    rw (get_or_default keys index asked clipped l, sym cut) (sym (ordered (get_or keys index clipped) clipped) ∙ sym answer)

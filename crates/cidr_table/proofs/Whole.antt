@@ -72,12 +72,12 @@ module _ {C V : Type 0} (cmp : C → C → Ordering) (o : IsTotalOrder cmp) wher
   last_of [] s row m = absurd (contains_nothing row m)
   last_of (r ∷ rows) s row m = elim (contains_cases r row rows m) [
     | inl e ↦ record {
-      place = 0;
+      index = 0;
       here = ap Some e;
       last = λ other. after (other) e;
     }
     | inr k ↦ let l = last_of rows s.1 row k in record {
-      place = suc l.place;
+      index = suc l.index;
       here = l.here;
       last = λ other. later l other;
     }
@@ -90,10 +90,10 @@ module _ {C V : Type 0} (cmp : C → C → Ordering) (o : IsTotalOrder cmp) wher
           let m : cmp row.0 row.0 ≡ Less = subst (λ (x : C × V). cmp x.0 row.0 ≡ Less) e l in
           not_two cmp o row.0 row.0 m m
 
-      later : (l : IsLastRow rows row) (other : ℕ) → suc l.place < other → slice_get (keys_of (r ∷ rows)) other ≢ Some row.0
+      later : (l : IsLastRow rows row) (other : ℕ) → suc l.index < other → slice_get (keys_of (r ∷ rows)) other ≢ Some row.0
       later l zero h f = absurd (omega arith)
       later l (suc n) h f = l.last n (omega arith) f
 
   pub last_all : (rows kept : List (C × V)) → AreLastRows rows kept → Sorted rows → Sorted kept → kept ≡ rows
   last_all rows kept h s t =
-      same_rows kept rows t s (λ z m. let l = (h z).0 m in in_from_get rows l.place z l.here) (λ z m. (h z).1 (last_of rows s z m))
+      same_rows kept rows t s (λ z m. let l = (h z).0 m in in_from_get rows l.index z l.here) (λ z m. (h z).1 (last_of rows s z m))

@@ -25,7 +25,7 @@ use cidr::{BitString, NetworkBits};
 /// ```
 pub fn longest_match<C: NetworkBits + Copy, P: Probe<C>>(rows: &mut P, asked: &C) -> Option<usize>
     requires { IsStrictlySortedBy C.cmp (P.keys rows.old) }
-    ensures place { IsLongestMatch C.bits (C.bits asked.now) (P.keys rows.old) result }
+    ensures index { IsLongestMatch C.bits (C.bits asked.now) (P.keys rows.old) result }
     ensures keys { P.keys rows.new ≡ P.keys rows.old }
     ensures cost { (d : ℕ) → length (P.keys rows.old) < 2 ^ d →
         P.count rows.new ≤ P.count rows.old + (length (C.bits asked.now) + 1) * d }
@@ -40,8 +40,8 @@ pub fn longest_match<C: NetworkBits + Copy, P: Probe<C>>(rows: &mut P, asked: &C
         let step = rows.len() >> len.min(63);
         let tries = spare.saturating_sub(digits).min(digits);
         match search_back(rows, &clipped(asked, len), end, step, tries) {
-            Ok(place) => return Some(place),
-            Err(place) => end = place,
+            Ok(index) => return Some(index),
+            Err(index) => end = index,
         }
         spare -= tries;
         len -= 1;

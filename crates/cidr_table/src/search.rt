@@ -14,7 +14,7 @@ use cidr::{BitString, NetworkBits};
 pub fn search<C: Ord, P: Probe<C>>(rows: &mut P, key: &C, end: usize) -> Result<usize, usize>
     requires sorted { IsStrictlySortedBy C.cmp (P.keys rows.old) }
     requires end { end ≤ length (P.keys rows.old) }
-    ensures place { IsPlace C.cmp (P.keys rows.old) key.now end result }
+    ensures index { IsPlace C.cmp (P.keys rows.old) key.now end result }
     ensures keys { P.keys rows.new ≡ P.keys rows.old }
     ensures cost { (d : ℕ) → end < 2 ^ d → P.count rows.new ≤ P.count rows.old + d }
 {
@@ -46,7 +46,7 @@ pub fn search_between<C: Ord, P: Probe<C>>(
     requires start { start ≤ end }
     requires end { end ≤ length (P.keys rows.old) }
     requires lesser { (j : ℕ) → j < start → C.cmp (slice_index_or (P.keys rows.old) j key.now) key.now ≡ Less }
-    ensures place { IsPlace C.cmp (P.keys rows.old) key.now end result }
+    ensures index { IsPlace C.cmp (P.keys rows.old) key.now end result }
     ensures keys { P.keys rows.new ≡ P.keys rows.old }
     ensures cost { (d : ℕ) → end - start < 2 ^ d → P.count rows.new ≤ P.count rows.old + d }
 {
@@ -76,7 +76,7 @@ pub fn search_back<C: Ord, P: Probe<C>>(
 ) -> Result<usize, usize>
     requires sorted { IsStrictlySortedBy C.cmp (P.keys rows.old) }
     requires end { end ≤ length (P.keys rows.old) }
-    ensures place { IsPlace C.cmp (P.keys rows.old) key.now end result }
+    ensures index { IsPlace C.cmp (P.keys rows.old) key.now end result }
     ensures keys { P.keys rows.new ≡ P.keys rows.old }
     ensures cost { (d : ℕ) → end < 2 ^ d → P.count rows.new ≤ P.count rows.old + tries + d }
 {
@@ -103,13 +103,13 @@ pub fn search_back<C: Ord, P: Probe<C>>(
 /// else `Err` of at least as many, where the key comes before all longer beginnings.
 pub fn shared_len<C: NetworkBits + Copy, P: Probe<C>>(
     rows: &mut P,
-    place: usize,
+    index: usize,
     asked: &C,
     most: usize,
 ) -> Result<usize, usize>
-    requires place { place < length (P.keys rows.old) }
+    requires index { index < length (P.keys rows.old) }
     requires most { most ≤ length (C.bits asked.now) }
-    ensures shared { let key = slice_index_or (P.keys rows.old) place asked.now in
+    ensures shared { let key = slice_index_or (P.keys rows.old) index asked.now in
         IsShared (C.bits key) (C.bits asked.now) most result }
     ensures keys { P.keys rows.new ≡ P.keys rows.old }
     ensures cost { (d : ℕ) → most < 2 ^ d → P.count rows.new ≤ P.count rows.old + d }
@@ -119,7 +119,7 @@ pub fn shared_len<C: NetworkBits + Copy, P: Probe<C>>(
     while left > 0 {
         let next = left / 2;
         let mid = low + (left - next);
-        let order = rows.compare(place, &clipped(asked, mid));
+        let order = rows.compare(index, &clipped(asked, mid));
         if order.is_gt() {
             low = mid;
         } else if order.is_eq() {

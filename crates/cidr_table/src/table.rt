@@ -113,7 +113,7 @@ impl<C: NetworkBits + Copy, V> LpmTable<C, V> {
     /// The index of the key, or that before which it would stand.
     fn find(&self, key: &C) -> Result<usize, usize>
         ensures sorted { IsStrictlySortedBy C.cmp (keys_of self.now.rows) }
-        ensures place { IsPlace C.cmp (keys_of self.now.rows) key.now (length self.now.rows) result }
+        ensures index { IsPlace C.cmp (keys_of self.now.rows) key.now (length self.now.rows) result }
     {
         search(&mut self.probe(), key, self.rows.len())
     }
@@ -140,8 +140,8 @@ impl<C: NetworkBits + Copy, V> LpmTable<C, V> {
         ensures sorted { IsStrictlySortedBy C.cmp (keys_of self.now.rows) }
     {
         match self.find(key) {
-            Ok(place) => {
-                let row = &self.rows[place];
+            Ok(index) => {
+                let row = &self.rows[index];
                 Some(&row.1)
             }
             Err(_) => None,
@@ -174,12 +174,12 @@ impl<C: NetworkBits + Copy, V> LpmTable<C, V> {
         ensures sorted { IsStrictlySortedBy C.cmp (keys_of self.new.rows) }
     {
         match self.find(&key) {
-            Ok(place) => {
-                let row = &mut self.rows[place];
+            Ok(index) => {
+                let row = &mut self.rows[index];
                 Ok(Some(mem::replace(&mut row.1, value)))
             }
-            Err(place) => {
-                if let Err(refused) = self.rows.insert(place, (key, value)) {
+            Err(index) => {
+                if let Err(refused) = self.rows.insert(index, (key, value)) {
                     return Err(refused.value);
                 }
                 Ok(None)
@@ -204,8 +204,8 @@ impl<C: NetworkBits + Copy, V> LpmTable<C, V> {
         ensures sorted { IsStrictlySortedBy C.cmp (keys_of self.new.rows) }
     {
         match self.find(key) {
-            Ok(place) => {
-                let (_, value) = self.rows.remove(place);
+            Ok(index) => {
+                let (_, value) = self.rows.remove(index);
                 Some(value)
             }
             Err(_) => None,
@@ -281,11 +281,11 @@ impl<C: NetworkBits + Copy, V> LpmTable<C, V> {
     /// routes.row(0) // Some((10.0.0.0/8, 1))
     /// routes.row(1) // None
     /// ```
-    pub fn row(&self, place: usize) -> Option<&(C, V)>
-        ensures row { option_copied result ≡ slice_get self.now.rows place }
+    pub fn row(&self, index: usize) -> Option<&(C, V)>
+        ensures row { option_copied result ≡ slice_get self.now.rows index }
         ensures sorted { IsStrictlySortedBy C.cmp (keys_of self.now.rows) }
     {
-        self.rows.get(place)
+        self.rows.get(index)
     }
 
     /// The rows whose key is in the outer network, which may be a key itself, in the order of the keys: as they stand
@@ -313,8 +313,8 @@ fn lower_bound<C: NetworkBits, V>(rows: &[(C, V)], key: &C) -> usize
     requires { IsStrictlySortedBy C.cmp (keys_of rows.now) }
     ensures { IsLowerBound C.cmp (keys_of rows.now) key.now (length rows.now) result }
 {
-    let (Ok(place) | Err(place)) = search(&mut Rows::new(rows), key, rows.len());
-    place
+    let (Ok(index) | Err(index)) = search(&mut Rows::new(rows), key, rows.len());
+    index
 }
 
 /// Whether the key of a row is in the outer network.

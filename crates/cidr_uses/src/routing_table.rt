@@ -18,8 +18,8 @@ pub fn route<C: NetworkBits + Copy, V: Copy>(routes: &LpmTable<C, V>, asked: &C)
     ensures { MatchOption result (HasNoRoute C.bits routes.now.rows (C.bits asked.now))
         (λ row. IsRoute C.bits routes.now.rows (C.bits asked.now) row) }
 {
-    let place = longest_match(&mut routes.probe(), asked)?;
-    routes.row(place).copied()
+    let index = longest_match(&mut routes.probe(), asked)?;
+    routes.row(index).copied()
 }
 
 /// The value of the route of an address of either family, in a table of networks of both.
@@ -95,8 +95,8 @@ pub fn all_routes<C: NetworkBits + Copy, V>(routes: &LpmTable<C, V>) -> &[(C, V)
     routes.inside(&C::null())
 }
 
-/// The place of a network in a list of prefixes, counted from 0, which is the last where it is there more than once.
-pub fn place_in<C: PrefixBytes + Copy>(
+/// The index of a network in a list of prefixes, counted from 0, which is the last where it is there more than once.
+pub fn index_in<C: PrefixBytes + Copy>(
     alloc: Global,
     list: &[u8],
     network: &C,
@@ -104,6 +104,6 @@ pub fn place_in<C: PrefixBytes + Copy>(
     ensures { MatchResult result (IsLastListed C.bits C.width list.now network.now)
         (IsLoadRefused C.bits C.width list.now) }
 {
-    let places = LpmTable::<C, usize>::load(alloc, list)?;
-    Ok(places.get(network).copied())
+    let indices = LpmTable::<C, usize>::load(alloc, list)?;
+    Ok(indices.get(network).copied())
 }

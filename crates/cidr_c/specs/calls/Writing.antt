@@ -44,10 +44,10 @@ pub record IsFileOf (networks : List CValue) (offsets values bytes : List ℕ) :
 
 -- the first value that is no network of its family or doesn't come behind the one before it
 abbrev pub IsFirstRefusedAt : List CValue → ℕ → Type 0
-IsFirstRefusedAt networks place =
-    IsFirstRefused 32 (ipv4_networks networks) (Some place)
+IsFirstRefusedAt networks index =
+    IsFirstRefused 32 (ipv4_networks networks) (Some index)
     ⊎ (AreAscendingNetworks 32 (ipv4_networks networks)
-    × (rest : ℕ) × (place ≡ ipv4_rows networks + rest) × IsFirstRefused 128 (ipv6_networks networks) (Some rest))
+    × (rest : ℕ) × (index ≡ ipv4_rows networks + rest) × IsFirstRefused 128 (ipv6_networks networks) (Some rest))
 
 -- there are too many of them, or the look-up table of a family has too many words
 abbrev pub AreTooMany : List CValue → Type 0

@@ -30,7 +30,7 @@ ipv6_number halves = halves.high * 2 ^ 64 + halves.low
 -- the number of why keys have no table
 abbrev pub table_error_code : TableError → ℕ
 table_error_code TooMany = too_many
-table_error_code (Refused place) = no_value
+table_error_code (Refused index) = no_value
 table_error_code TooLarge = too_many
 table_error_code NoMemory = no_memory
 
@@ -43,7 +43,7 @@ words_fault_code other = no_table
 -- or there is too little room in one, and all stays. Either way the sizes become those of the table
 pub record ArePut (entries nodes : List ℕ) (steps : ℕ) (first words first_new words_new : List ℕ) (sizes sizes_new : CTableSizes) (code : ℕ)
     : Type 0 where
-  pub sizes_are : sizes_new ≡ record { first = length entries; words = length nodes; place = sizes.place; steps = steps }
+  pub sizes_are : sizes_new ≡ record { first = length entries; words = length nodes; index = sizes.index; steps = steps }
   pub fits : code ≡ 0 → (length entries ≤ length first) × (length nodes ≤ length words)
   pub put : code ≡ 0 → (first_new ≡ entries ++ drop (length entries) first) × (words_new ≡ nodes ++ drop (length nodes) words)
   pub room : code ≡ no_room → (length first < length entries) ⊎ (length words < length nodes)
@@ -52,7 +52,7 @@ pub record ArePut (entries nodes : List ℕ) (steps : ℕ) (first words first_ne
 
 -- building the table of networks into two arrays, of as many steps as the builder takes for so many: it is put into them, where
 -- there is room; or when each error comes, in this order, but for that of memory, which may come before each. With the number
--- of `no_value` the place becomes the index of the first value that is no network of the family or out of order
+-- of `no_value` the index becomes that of the first value that is no network of the family or out of order
 pub record IsBuilt (w padding : ℕ) (steps_of : ℕ → ℕ) (networks : List (ℕ × ℕ)) (first words first_new words_new : List ℕ)
     (sizes sizes_new : CTableSizes) (code : ℕ) : Type 0 where
   pub table : (code ≡ 0) ⊎ (code ≡ no_room) → (entries : List ℕ) × (nodes : List ℕ)
@@ -61,8 +61,8 @@ pub record IsBuilt (w padding : ℕ) (steps_of : ℕ → ℕ) (networks : List (
   pub few : (code ≡ 0) ⊎ (code ≡ no_room) → (length networks < 2 ^ 31) × (sizes_new.first ≤ 2 ^ 20) × (sizes_new.words < 2 ^ 30)
   pub many : code ≡ too_many → IsTableRefused w padding (steps_of (length networks)) networks TooMany
       ⊎ IsTableRefused w padding (steps_of (length networks)) networks TooLarge
-  pub refused : code ≡ no_value → (length networks < 2 ^ 31) × IsFirstRefused w networks (Some sizes_new.place)
-      × (sizes_new ≡ record { first = sizes.first; words = sizes.words; place = sizes_new.place; steps = sizes.steps })
+  pub refused : code ≡ no_value → (length networks < 2 ^ 31) × IsFirstRefused w networks (Some sizes_new.index)
+      × (sizes_new ≡ record { first = sizes.first; words = sizes.words; index = sizes_new.index; steps = sizes.steps })
   pub codes : (code ≡ 0) ⊎ ((code ≡ too_many) ⊎ ((code ≡ no_memory) ⊎ ((code ≡ no_value) ⊎ (code ≡ no_room))))
   pub stays : code ≢ 0 → (first_new ≡ first) × (words_new ≡ words)
   pub sizes_stay : (code ≡ too_many) ⊎ (code ≡ no_memory) → sizes_new ≡ sizes

@@ -10,11 +10,11 @@ pub record ProbedNetworks (C : Type 0) : Type 0 where
   pub comparisons : ℕ
 
 -- ---- what private functions promise: where a network stands among the others
--- those below the place come before the asked one or are the same, and the others come after it
-pub record IsUpto (networks : List (List Bool)) (asked : List Bool) (place : ℕ) : Type 0 where
-  pub within : place ≤ length networks
-  pub before : (j : ℕ) → j < place → bit_cmp (slice_index_or networks j asked) asked ≢ Greater
-  pub behind : (j : ℕ) → place ≤ j → j < length networks → bit_cmp (slice_index_or networks j asked) asked ≡ Greater
+-- those below the index come before the asked one or are the same, and the others come after it
+pub record IsUpto (networks : List (List Bool)) (asked : List Bool) (index : ℕ) : Type 0 where
+  pub within : index ≤ length networks
+  pub before : (j : ℕ) → j < index → bit_cmp (slice_index_or networks j asked) asked ≢ Greater
+  pub behind : (j : ℕ) → index ≤ j → j < length networks → bit_cmp (slice_index_or networks j asked) asked ≡ Greater
 
 -- a network that lies in the outer one, or none where no network does
 abbrev pub IsFirstInside : List (List Bool) → List Bool → Option (List Bool) → Type 0

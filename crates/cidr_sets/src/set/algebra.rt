@@ -183,9 +183,9 @@ fn first_inside<C: NetworkBits + Copy>(networks: &[C], outer: &C) -> Option<C>
     requires apart { ¬ (Covers (map C.bits networks.now) (C.bits outer.now)) }
     ensures { IsFirstInside (map C.bits networks.now) (C.bits outer.now) (option_map C.bits result) }
 {
-    let place = upto(networks, outer);
-    if place < networks.len() && is_inside(&networks[place], outer) {
-        Some(networks[place])
+    let index = upto(networks, outer);
+    if index < networks.len() && is_inside(&networks[index], outer) {
+        Some(networks[index])
     } else {
         None
     }

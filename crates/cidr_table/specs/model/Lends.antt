@@ -25,9 +25,9 @@ module _ {C V : Type 0} where
     pub written : IsWrittenUnder old key value new
 
   -- the same in the row at an index, which there is
-  pub record IsWrittenAt (old : StoredRows C V) (place : ℕ) (value : V) (new : StoredRows C V) : Type 0 where
+  pub record IsWrittenAt (old : StoredRows C V) (index : ℕ) (value : V) (new : StoredRows C V) : Type 0 where
     pub keys : keys_of new.rows ≡ keys_of old.rows
-    pub values : values_of new.rows ≡ slice_set (values_of old.rows) place value
+    pub values : values_of new.rows ≡ slice_set (values_of old.rows) index value
     pub capacity : new.capacity ≡ old.capacity
 
 module _ (C V : RattleType) (key : KeyMembers C.Denot) where
@@ -38,7 +38,7 @@ module _ (C V : RattleType) (key : KeyMembers C.Denot) where
   module _ (table : MutBor (StoredRows C.Denot V.Denot)) where
     -- the row at this index has the last value written through r, and at `None` the table stays as it is
     abbrev pub lends_row : ℕ → Option (MutBor V.Denot) → Fml
-    lends_row place r = LendsSo table_row V table r (λ new value. OnSome r (IsWrittenAt table.now place value new)) (λ new. new ≡ table.now)
+    lends_row index r = LendsSo table_row V table r (λ new value. OnSome r (IsWrittenAt table.now index value new)) (λ new. new ≡ table.now)
 
     -- the key has the last value written through r, and at `None` the table stays as it is
     abbrev pub lends_get : C.Denot → Option (MutBor V.Denot) → Fml

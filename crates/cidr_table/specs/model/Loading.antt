@@ -7,9 +7,9 @@ use Rattle.cidr_table.specs.declared.table.load.LoadError.{LoadError}
 use Rattle.cidr_table.specs.declared.table.load.LoadError.TheVariants.{Prefix, NoMemory}
 
 -- the key stands in the list at this index, and at no later one
-pub record IsLastPlace {C : Type 0} (keys : List C) (key : C) (place : ℕ) : Type 0 where
-  pub here : slice_get keys place ≡ Some key
-  pub last : (other : ℕ) → slice_get keys other ≡ Some key → other ≤ place
+pub record IsLastPlace {C : Type 0} (keys : List C) (key : C) (index : ℕ) : Type 0 where
+  pub here : slice_get keys index ≡ Some key
+  pub last : (other : ℕ) → slice_get keys other ≡ Some key → other ≤ index
 
 module _ {C : Type 0} (bits : C → List Bool) (w : ℕ) where
   -- the input is these prefixes one after the other, and then the rest
@@ -25,8 +25,8 @@ module _ {C : Type 0} (bits : C → List Bool) (w : ℕ) where
   -- the first failure: after as many prefixes as the index says, bytes that begin with none; and for want of memory
   -- only where the input begins with a prefix
   abbrev pub IsLoadRefused : List ℕ → LoadError → Type 0
-  IsLoadRefused input (Prefix place e) =
-      (keys : List C) × (rest : List ℕ) × IsListed keys rest input × (length keys ≡ place) × (rest ≢ []) × IsPrefixRefused w rest e
+  IsLoadRefused input (Prefix index e) =
+      (keys : List C) × (rest : List ℕ) × IsListed keys rest input × (length keys ≡ index) × (rest ≢ []) × IsPrefixRefused w rest e
   IsLoadRefused input NoMemory = (key : C) × (rest : List ℕ) × IsListed (key ∷ []) rest input
 
   -- the result of loading: the rows, or the first failure

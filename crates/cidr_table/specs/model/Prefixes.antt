@@ -7,15 +7,15 @@ use Rattle.cidr.specs.model.Network.{BeginsWith}
 
 module _ {C : Type 0} (bits : C → List Bool) where
   -- the key at this index begins the look-up key, and none that begins it is longer (RFC 1812, 5.2.4.3, longest match)
-  pub record IsLongestAt (asked : List Bool) (keys : List C) (place : ℕ) : Type 0 where
+  pub record IsLongestAt (asked : List Bool) (keys : List C) (index : ℕ) : Type 0 where
     pub key : C
-    pub here : slice_get keys place ≡ Some key
+    pub here : slice_get keys index ≡ Some key
     pub begins : BeginsWith asked (bits key)
     pub longest : (other : C) → Contains keys other → BeginsWith asked (bits other) → length (bits other) ≤ length (bits key)
 
   -- the index of the longest match, or none where no key begins the look-up key
   abbrev pub IsLongestMatch : List Bool → List C → Option ℕ → Type 0
-  IsLongestMatch asked keys (Some place) = IsLongestAt asked keys place
+  IsLongestMatch asked keys (Some index) = IsLongestAt asked keys index
   IsLongestMatch asked keys None = (key : C) → Contains keys key → ¬ (BeginsWith asked (bits key))
 
   -- the rows whose key is in the outer network: it begins with the bits of that network

@@ -29,7 +29,7 @@ impl<C: NetworkBits + Copy, V> LpmTable<C, V> {
         ensures sorted { IsStrictlySortedBy C.cmp (keys_of self.old.rows) }
     {
         match self.find(key) {
-            Ok(place) => Some(self.value_at(place)),
+            Ok(index) => Some(self.value_at(index)),
             Err(_) => None,
         }
     }
@@ -63,12 +63,12 @@ impl<C: NetworkBits + Copy, V> LpmTable<C, V> {
     ///     }
     /// }
     /// ```
-    pub fn value_mut(&mut self, place: usize) -> Option<&mut V>
-        ensures* writes_back { sem 𝓛 (lends_row C.row V.row C.NetworkBits self.entry place result) }
-        ensures value { option_copied_mut result ≡ slice_get (values_of self.old.rows) place }
+    pub fn value_mut(&mut self, index: usize) -> Option<&mut V>
+        ensures* writes_back { sem 𝓛 (lends_row C.row V.row C.NetworkBits self.entry index result) }
+        ensures value { option_copied_mut result ≡ slice_get (values_of self.old.rows) index }
     {
-        if place < self.len() {
-            Some(self.value_at(place))
+        if index < self.len() {
+            Some(self.value_at(index))
         } else {
             None
         }
@@ -91,12 +91,12 @@ impl<C: NetworkBits + Copy, V> LpmTable<C, V> {
     }
 
     /// The value of the row at an index, which there is.
-    fn value_at(&mut self, place: usize) -> &mut V
-        requires { place < length self.old.rows }
-        ensures* writes_back { sem 𝓛 (lends_at C.row V.row C.NetworkBits self.entry place result) }
-        ensures value { slice_get (values_of self.old.rows) place ≡ Some result.now }
+    fn value_at(&mut self, index: usize) -> &mut V
+        requires { index < length self.old.rows }
+        ensures* writes_back { sem 𝓛 (lends_at C.row V.row C.NetworkBits self.entry index result) }
+        ensures value { slice_get (values_of self.old.rows) index ≡ Some result.now }
     {
-        let row = &mut self.rows[place];
+        let row = &mut self.rows[index];
         &mut row.1
     }
 }
@@ -106,8 +106,8 @@ fn write_each<C, V, F: FnMut(&C, &mut V)>(rows: &mut [(C, V)], mut write: F)
     requires { F.IsAlwaysCallable write }
     ensures { AreWrittenInTurn (CallLeaves F.FnMut.steps) write rows.old rows.new }
 {
-    for place in 0..rows.len() {
-        let row = &mut rows[place];
+    for index in 0..rows.len() {
+        let row = &mut rows[index];
         write(&row.0, &mut row.1);
     }
 }

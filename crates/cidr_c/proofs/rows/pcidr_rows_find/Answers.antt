@@ -13,7 +13,7 @@ returns-in-Ok c =
     record {
       taken = λ _. (told.0, omega (arith, within, size));
       within = λ _. omega (arith, within, size);
-      here = λ _ s. found_here networks c.in-Some.asked (network_in c.args.asked.now) c.in-Ok.place told.1 (c.in-Ok.ensures.place s);
+      here = λ _ s. found_here networks c.in-Some.asked (network_in c.args.asked.now) c.in-Ok.found told.1 (c.in-Ok.ensures.index s);
       none = λ e. absurd (omega (arith, e));
       refused = λ e. absurd (omega (arith, e));
       codes = inl refl;

@@ -23,7 +23,7 @@ returns g c =
     elim c.match-error.branch [
       | in-Refused e ↦
           rw (c.table_error_code.ensures.value, e.error-is, e.sizes-is)
-          (refused_at w padding steps_of networks first words c.args.sizes.now e.in-Refused.place
+          (refused_at w padding steps_of networks first words c.args.sizes.now e.in-Refused.index
           (subst (λ (x : TableError). IsTableRefused w padding (steps_of (length networks)) networks x) e.in-Refused.is refused))
       | in_default-error e ↦
           rw (c.table_error_code.ensures.value, e.error-is, e.sizes-is)

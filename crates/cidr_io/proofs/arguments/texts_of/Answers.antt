@@ -10,7 +10,7 @@ returns-in-Err g c =
     let told = g.A.Arguments.told c.args.arguments.now in
     let texts = c.loop-texts.texts in
     let bytes = c.in-Some.bytes.items in
-    let given = subst (λ place. IsArgument told place (Some bytes)) c.len.ensures (rw c.in-Some.is at c.in_ok-bytes.ensures.argument) in
+    let given = subst (λ index. IsArgument told index (Some bytes)) c.len.ensures (rw c.in-Some.is at c.in_ok-bytes.ensures.argument) in
     let same = ap byte_excerpt (c.as_bytes.ensures ∙ ap (λ v. v.items) c.in-Err.ensures.err) in
     not_text told texts.len texts.items bytes c.byte_excerpt.result.bytes c.loop-texts.invariant given (search rules) (c.byte_excerpt.ensures.text ∙ same)
 
@@ -19,7 +19,7 @@ loop-texts-preserved g c =
     let told = g.A.Arguments.told c.args.arguments.now in
     let texts = c.loop-texts.texts in
     let bytes = c.in-Some.bytes.items in
-    let given = subst (λ place. IsArgument told place (Some bytes)) c.len.ensures (rw c.in-Some.is at c.in_ok-bytes.ensures.argument) in
+    let given = subst (λ index. IsArgument told index (Some bytes)) c.len.ensures (rw c.in-Some.is at c.in_ok-bytes.ensures.argument) in
     let spelled = ap (λ v. v.items) c.in-Ok.ensures.ok in
     let longer : c.push.new.self.len ≡ texts.len + 1 =
     c.in-Ok-push.ensures.len ∙ ap (λ n. n + 1) (c.reserve.new.items.ok.0 ∙ ap length c.reserve.ensures.items ∙ sym texts.ok.0) in

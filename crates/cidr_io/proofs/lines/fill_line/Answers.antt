@@ -18,8 +18,8 @@ returns-in-Some g c =
     let block = c.loop-reads.block.items in
     record {
       lines = c.loop-reads.invariant.lines;
-      found = feed_behind block c.loop-reads.seen c.in-Some.place c.loop-reads.invariant.none (omega (arith, c.loop-reads.invariant.within, c.loop-reads.block.ok.0))
-          (subst (λ (k : List ℕ). IsFirstFeed k c.in-Some.place) (part_behind block c.deref.result.now c.loop-reads.seen c.deref.ensures.value) c.in-Some.ensures);
+      found = feed_behind block c.loop-reads.seen c.in-Some.index c.loop-reads.invariant.none (omega (arith, c.loop-reads.invariant.within, c.loop-reads.block.ok.0))
+          (subst (λ (k : List ℕ). IsFirstFeed k c.in-Some.index) (part_behind block c.deref.result.now c.loop-reads.seen c.deref.ensures.value) c.in-Some.ensures);
       failed = tt;
       refused = tt;
     }

@@ -16,7 +16,7 @@ loop-left-preserved-then-is_inside g c =
       from = omega (arith, h.from);
       within = omega (arith, h.within);
       inside = λ s j a l.
-          between g.C.Ord.cmp g.C.BitString.bits g.met.C.NetworkBits.ordered keys s outer c.lower_bound-from.result (c.lower_bound-from.ensures.place s)
+          between g.C.Ord.cmp g.C.BitString.bits g.met.C.NetworkBits.ordered keys s outer c.lower_bound-from.result (c.lower_bound-from.ensures.index s)
           j mid a (omega arith) (omega (arith, h.within)) here;
       behind = λ s j a l. h.behind s j (omega arith) l;
     }
@@ -34,7 +34,7 @@ loop-left-preserved g c =
       within = omega (arith, h.within);
       inside = h.inside;
       behind = λ s j a l inner. other (
-          between g.C.Ord.cmp g.C.BitString.bits g.met.C.NetworkBits.ordered keys s outer c.lower_bound-from.result (c.lower_bound-from.ensures.place s)
+          between g.C.Ord.cmp g.C.BitString.bits g.met.C.NetworkBits.ordered keys s outer c.lower_bound-from.result (c.lower_bound-from.ensures.index s)
           mid j (omega (arith, h.from)) a l inner);
     }
 
@@ -44,4 +44,4 @@ returns-clause-inside g c = λ by_bits.
     let keys = g.K.Keys.keys c.args.rows.now in
     let s = sorted_keys g.C.Ord.cmp g.C.BitString.bits g.met.C.NetworkBits.ordered keys by_bits in
     told g.C.Ord.cmp g.C.BitString.bits g.met.C.NetworkBits.ordered keys s c.args.outer.now c.lower_bound-from.result
-    (c.lower_bound-from.ensures.place s) c.loop-left.to (h.inside s) (λ j a l. h.behind s j (omega arith) l)
+    (c.lower_bound-from.ensures.index s) c.loop-left.to (h.inside s) (λ j a l. h.behind s j (omega arith) l)

@@ -8,20 +8,20 @@ pub returns-in-Ok-clause-longest : goal.returns-in-Ok-clause-longest
 returns-in-Ok-clause-longest g c = λ s.
     let h = c.loop-end.invariant in
     at_place g.C.Ord.cmp g.C.BitString.bits g.met.C.NetworkBits.ordered (g.K.Keys.keys c.args.rows.now) s c.args.asked.now
-    c.loop-end.sought c.loop-end.end h.within h.begins (h.left s) c.in-Ok.place (c.in-Ok.ensures.place s)
+    c.loop-end.sought c.loop-end.end h.within h.begins (h.left s) c.in-Ok.index (c.in-Ok.ensures.index s)
 
 pub returns-in-Err-eq0-clause-longest : goal.returns-in-Err-eq0-clause-longest
 returns-in-Err-eq0-clause-longest g c = λ s.
     let h = c.loop-end.invariant in
     no_place g.C.Ord.cmp g.C.BitString.bits g.met.C.NetworkBits.ordered (g.K.Keys.keys c.args.rows.now) s c.args.asked.now
-    c.loop-end.sought c.loop-end.end h.within h.begins (h.left s) c.in-Err-eq0.field-0 (omega arith) (c.in-Err-eq0.ensures.place s)
+    c.loop-end.sought c.loop-end.end h.within h.begins (h.left s) c.in-Err-eq0.field-0 (omega arith) (c.in-Err-eq0.ensures.index s)
 
 pub returns-then-shared-len-clause-longest : goal.returns-then-shared-len-clause-longest
 returns-then-shared-len-clause-longest g c = λ s.
     let h = c.loop-end.invariant in
     let bits = g.C.BitString.bits in
     before_place g.C.Ord.cmp bits g.met.C.NetworkBits.ordered (g.K.Keys.keys c.args.rows.now) s c.args.asked.now
-    c.loop-end.sought c.loop-end.end h.within h.begins (h.left s) c.in-Err.place (omega arith) (c.in-Err.ensures.place s)
+    c.loop-end.sought c.loop-end.end h.within h.begins (h.left s) c.in-Err.index (omega arith) (c.in-Err.ensures.index s)
     (rw (c.key-before.ensures c.args.asked.now) (whole (bits c.loop-end.sought) (bits c.key-before.result) c.shared_prefix_len-shared.result
     (omega (arith, c.len.ensures.value)) c.shared_prefix_len-shared.ensures))
 
@@ -37,7 +37,7 @@ loop-end-preserved g c =
       begins = rw c.clip.ensures.bits (begins_begins (bits c.args.asked.now) sought (take n sought) h.begins (begins_first n sought));
       left = λ s j l b. rw c.clip.ensures.bits (
           shorter g.C.Ord.cmp bits g.met.C.NetworkBits.ordered (g.K.Keys.keys c.args.rows.now) s c.args.asked.now
-          c.loop-end.sought c.loop-end.end h.within h.begins (h.left s) c.in-Err.place n (omega arith) (c.in-Err.ensures.place s)
+          c.loop-end.sought c.loop-end.end h.within h.begins (h.left s) c.in-Err.index n (omega arith) (c.in-Err.ensures.index s)
           (rw before (not_whole sought (bits c.key-before.result) n (λ e. omega (arith, c.len.ensures.value, e)) c.shared_prefix_len-shared.ensures))
           (rw before c.shared_prefix_len-shared.ensures) j l b);
     }

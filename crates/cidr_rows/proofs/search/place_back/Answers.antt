@@ -18,15 +18,15 @@ loop-step-preserved g c =
       behind = λ s j a l. greater_from g.C.Ord.cmp g.met.C.Ord.total keys s key mid (omega (arith, h.within, h.goes, c.requires)) greater j a (omega (arith, c.requires));
     }
 
-pub returns-then-is_lt-clause-place : goal.returns-then-is_lt-clause-place
-returns-then-is_lt-clause-place g c = λ s.
+pub returns-then-is_lt-clause-index : goal.returns-then-is_lt-clause-index
+returns-then-is_lt-clause-index g c = λ s.
     let h = c.loop-step.invariant in
     let keys = g.K.Keys.keys c.args.rows.now in
     let key = c.args.key.now in
     let mid = c.loop-step.upto - c.loop-step.step in
     let less : g.C.Ord.cmp (get_or keys mid key) key ≡ Less =
     rw (c.key.ensures key) (sym c.cmp-order.ensures ∙ is_Less c.cmp-order.result c.if-is_lt.ensures) in
-    c.place_between.ensures.place s (record {
+    c.place_between.ensures.index s (record {
       before = λ j l. lesser_upto g.C.Ord.cmp g.met.C.Ord.total keys s key mid (omega (arith, h.within, h.goes, c.requires)) less j (omega arith);
       behind = λ j a l. h.behind s j (omega (arith, h.goes)) l;
     })

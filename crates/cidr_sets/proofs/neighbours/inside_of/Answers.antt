@@ -41,7 +41,7 @@ returns-clause-parted g c =
       | inl lt ↦ inr (λ b. none (lt, subst (λ y. BeginsWith y p) (get_or-map f xs l.end c.args.outer.now p lt) b))
       | inr le ↦ inl (omega (arith, le, length-map xs f))
     ] in
-    let parted = parted_inside (map f xs) c.requires.reduced p c.requires.apart start c.upto-start.ensures.place l.end
+    let parted = parted_inside (map f xs) c.requires.reduced p c.requires.apart start c.upto-start.ensures.index l.end
     l.invariant.order (omega (arith, l.invariant.within, length-map xs f)) l.invariant.inside last in
     subst (λ u. IsParted (map f xs) p u (map f (drop l.end xs))) (take-map f start xs)
     (subst (IsParted (map f xs) p (take start (map f xs))) (drop-map f l.end xs) parted)

@@ -8,13 +8,13 @@ use Rattle.cidr_table.proofs.Narrowing.{narrowed_none, found, not_found, begins_
 use Rattle.cidr_table.proofs.lookup.longest_match.Goals as goal
 use Rattle.cidr_table.proofs.lookup.longest_match.Goals.{then-loop-end-test+else-len-gt0, else-loop-end-test, else-end-gt0-2-via-then-end-gt0-2+else-is_eq, else-end-gt0-2-via-else-end-gt0-2}
 
-pub returns-in-Ok-clause-place : goal.returns-in-Ok-clause-place
-returns-in-Ok-clause-place g c =
+pub returns-in-Ok-clause-index : goal.returns-in-Ok-clause-index
+returns-in-Ok-clause-index g c =
     let t = c.loop-end.invariant in
     found g.C.Ord.cmp g.met.C.Ord.total g.C.BitString.bits g.met.C.NetworkBits.ordered
     (g.P.Probe.keys c.args.rows.now) c.requires c.args.asked.now (g.P.Probe.count c.args.rows.now)
     (g.P.Probe.count c.loop-end.rows) c.loop-end.end c.loop-end.len c.loop-end.spare c.binary_digits-digits.result
-    c.in-Ok.place c.clipped.result (rw t.same at t) c.clipped.ensures (rw t.same at c.in-Ok.ensures.place)
+    c.in-Ok.index c.clipped.result (rw t.same at t) c.clipped.ensures (rw t.same at c.in-Ok.ensures.index)
 
 -- what a search that found nothing leaves
 pub loop-end-preserved : goal.loop-end-preserved
@@ -23,8 +23,8 @@ loop-end-preserved g c =
     rw (c.in-Err.ensures.keys, t.same) (not_found g.C.Ord.cmp g.met.C.Ord.total g.C.BitString.bits g.met.C.NetworkBits.ordered
     (g.P.Probe.keys c.args.rows.now) c.requires c.args.asked.now (g.P.Probe.count c.args.rows.now)
     (g.P.Probe.count c.loop-end.rows) (g.P.Probe.count c.search_back.new.rows) c.loop-end.end c.loop-end.len
-    c.loop-end.spare c.binary_digits-digits.result c.min-tries.result c.in-Err.place c.clipped.result (omega arith)
-    (rw t.same at t) c.clipped.ensures (rw t.same at c.in-Err.ensures.place)
+    c.loop-end.spare c.binary_digits-digits.result c.min-tries.result c.in-Err.index c.clipped.result (omega arith)
+    (rw t.same at t) c.clipped.ensures (rw t.same at c.in-Err.ensures.index)
     (omega (arith, t.some, c.min-tries.ensures, c.saturating_sub.ensures))
     (c.in-Err.ensures.cost c.binary_digits-digits.result (omega (arith, t.within))))
 
@@ -34,31 +34,31 @@ loop-end-preserved-then-cost-spare g c =
     let next = not_found g.C.Ord.cmp g.met.C.Ord.total g.C.BitString.bits g.met.C.NetworkBits.ordered
     (g.P.Probe.keys c.args.rows.now) c.requires c.args.asked.now (g.P.Probe.count c.args.rows.now)
     (g.P.Probe.count c.loop-end.rows) (g.P.Probe.count c.search_back.new.rows) c.loop-end.end c.loop-end.len
-    c.loop-end.spare c.binary_digits-digits.result c.min-tries.result c.in-Err.place c.clipped.result (omega arith)
-    (rw t.same at t) c.clipped.ensures (rw t.same at c.in-Err.ensures.place)
+    c.loop-end.spare c.binary_digits-digits.result c.min-tries.result c.in-Err.index c.clipped.result (omega arith)
+    (rw t.same at t) c.clipped.ensures (rw t.same at c.in-Err.ensures.index)
     (omega (arith, t.some, c.min-tries.ensures, c.saturating_sub.ensures))
     (c.in-Err.ensures.cost c.binary_digits-digits.result (omega (arith, t.within))) in
     rw (c.in-Err-shared_len.ensures.keys, c.in-Err.ensures.keys, t.same) (shared_only g.C.Ord.cmp g.met.C.Ord.total g.C.BitString.bits g.met.C.NetworkBits.ordered
     (g.P.Probe.keys c.args.rows.now) c.requires c.args.asked.now (g.P.Probe.count c.args.rows.now)
-    (g.P.Probe.count c.search_back.new.rows) (g.P.Probe.count c.shared_len.new.rows) c.in-Err.place (c.loop-end.len - 1)
+    (g.P.Probe.count c.search_back.new.rows) (g.P.Probe.count c.shared_len.new.rows) c.in-Err.index (c.loop-end.len - 1)
     (c.loop-end.spare - c.min-tries.result) c.binary_digits-digits.result next (omega arith)
     c.binary_digits-cost.result c.in-Err-shared_len.shared
     (rw (c.in-Err.ensures.keys, t.same) at c.in-Err-shared_len.ensures.shared) (omega arith)
     (c.in-Err-shared_len.ensures.cost c.binary_digits-cost.result c.binary_digits-cost.ensures.fits))
 
-pub returns-in-Ok-shared_len-clause-place : goal.returns-in-Ok-shared_len-clause-place
-returns-in-Ok-shared_len-clause-place g c =
+pub returns-in-Ok-shared_len-clause-index : goal.returns-in-Ok-shared_len-clause-index
+returns-in-Ok-shared_len-clause-index g c =
     let t = c.loop-end.invariant in
     let next = not_found g.C.Ord.cmp g.met.C.Ord.total g.C.BitString.bits g.met.C.NetworkBits.ordered
     (g.P.Probe.keys c.args.rows.now) c.requires c.args.asked.now (g.P.Probe.count c.args.rows.now)
     (g.P.Probe.count c.loop-end.rows) (g.P.Probe.count c.search_back.new.rows) c.loop-end.end c.loop-end.len
-    c.loop-end.spare c.binary_digits-digits.result c.min-tries.result c.in-Err.place c.clipped.result (omega arith)
-    (rw t.same at t) c.clipped.ensures (rw t.same at c.in-Err.ensures.place)
+    c.loop-end.spare c.binary_digits-digits.result c.min-tries.result c.in-Err.index c.clipped.result (omega arith)
+    (rw t.same at t) c.clipped.ensures (rw t.same at c.in-Err.ensures.index)
     (omega (arith, t.some, c.min-tries.ensures, c.saturating_sub.ensures))
     (c.in-Err.ensures.cost c.binary_digits-digits.result (omega (arith, t.within))) in
     begins_itself g.C.Ord.cmp g.met.C.Ord.total g.C.BitString.bits g.met.C.NetworkBits.ordered
     (g.P.Probe.keys c.args.rows.now) c.requires c.args.asked.now (g.P.Probe.count c.args.rows.now)
-    (g.P.Probe.count c.search_back.new.rows) 0 c.in-Err.place (c.loop-end.len - 1)
+    (g.P.Probe.count c.search_back.new.rows) 0 c.in-Err.index (c.loop-end.len - 1)
     (c.loop-end.spare - c.min-tries.result) c.binary_digits-digits.result next (omega arith)
     c.in-Ok-shared_len.field-0 (rw (c.in-Err.ensures.keys, t.same) at c.in-Ok-shared_len.ensures.shared)
 
@@ -67,8 +67,8 @@ is_equal Less e = absurd (false≢true e)
 is_equal Equal e = refl
 is_equal Greater e = absurd (false≢true e)
 
-pub returns-then-is_eq-clause-place : goal.returns-then-is_eq-clause-place
-returns-then-is_eq-clause-place g c =
+pub returns-then-is_eq-clause-index : goal.returns-then-is_eq-clause-index
+returns-then-is_eq-clause-index g c =
     let t = c.loop-end.invariant in
     let last : c.loop-end.len ≡ 0 = elim c.loop-end-test.branch [
       | then-loop-end-test+else-len-gt0 w ↦ omega arith
@@ -81,8 +81,8 @@ returns-then-is_eq-clause-place g c =
     c.clipped-then-end-gt0-2.result (rw (t.same, last) at t) c.clipped-then-end-gt0-2.ensures
     (record { within = omega arith; equal = rw t.same at equal })
 
-pub returns-else-end-gt0-2-clause-place : goal.returns-else-end-gt0-2-clause-place
-returns-else-end-gt0-2-clause-place g c =
+pub returns-else-end-gt0-2-clause-index : goal.returns-else-end-gt0-2-clause-index
+returns-else-end-gt0-2-clause-index g c =
     let t = c.loop-end.invariant in
     elim c.else-end-gt0-2.branch [
       | else-end-gt0-2-via-then-end-gt0-2+else-is_eq w ↦

@@ -17,7 +17,7 @@ overflow_sub-end g c =
     let f = g.C.BitString.bits in
     let xs = c.args.networks.now.items in
     (holder_before (map f xs) (f c.args.network.now) c.upto-end.result c.requires.reduced
-    (rw c.as_slice.ensures.value at c.upto-end.ensures.place) c.requires.covered).0
+    (rw c.as_slice.ensures.value at c.upto-end.ensures.index) c.requires.covered).0
 
 pub write_rest-requires-clause-others : goal.write_rest-requires-clause-others
 write_rest-requires-clause-others g c =
@@ -33,7 +33,7 @@ overflow_sub-end-2 g c =
     let f = g.C.BitString.bits in
     let xs = c.args.networks.now.items in
     (holder_before (map f xs) (f c.args.network.now) c.upto-end.result c.requires.reduced
-    (rw c.as_slice.ensures.value at c.upto-end.ensures.place) c.requires.covered).0
+    (rw c.as_slice.ensures.value at c.upto-end.ensures.index) c.requires.covered).0
 
 pub returns-clause-ok : goal.returns-clause-ok
 returns-clause-ok g c =
@@ -42,7 +42,7 @@ returns-clause-ok g c =
     let s = map f xs in
     let p = f c.args.network.now in
     let end = c.upto-end.result in
-    let holder = holder_before s p end c.requires.reduced (rw c.as_slice.ensures.value at c.upto-end.ensures.place) c.requires.covered in
+    let holder = holder_before s p end c.requires.reduced (rw c.as_slice.ensures.value at c.upto-end.ensures.index) c.requires.covered in
     let i = end - 1 in
     let within : i < length xs = omega (arith, holder.0, c.upto-end.ensures.within, ap length c.as_slice.ensures.value) in
     let low : i < length s = omega (arith, within, length-map xs f) in

@@ -6,17 +6,17 @@ use Rattle.cidr_table.proofs.Beginnings.{cmp_exact}
 use Rattle.cidr_table.proofs.table.LpmTable.insert.Goals as goal
 
 pub index_mut-row-requires : goal.index_mut-row-requires
-index_mut-row-requires g c = omega (arith, c.in-Ok.ensures.place.within, ap (λ t. length t.rows) c.self.view_is)
+index_mut-row-requires g c = omega (arith, c.in-Ok.ensures.index.within, ap (λ t. length t.rows) c.self.view_is)
 
 pub insert-requires : goal.insert-requires
-insert-requires g c = omega (arith, c.in-Err.ensures.place.within, ap (λ t. length t.rows) c.self.view_is)
+insert-requires g c = omega (arith, c.in-Err.ensures.index.within, ap (λ t. length t.rows) c.self.view_is)
 
 -- a key that is there: its row takes the value
 pub returns-in-Ok-clause-sorted : goal.returns-in-Ok-clause-sorted
 returns-in-Ok-clause-sorted g c =
     let b = rw (ap (λ t. t.rows) c.self.view_is) at c.index_mut-row.ensures.value in
     let row = c.index_mut-row.result.now in
-    let set = set_at g.C.Ord.cmp g.met.C.Ord.total c.args.key c.args.self.now.rows c.in-Ok.place c.args.value row.0 row c.in-Ok.ensures.sorted c.in-Ok.ensures.place (ap (λ q. q.0) b) in
+    let set = set_at g.C.Ord.cmp g.met.C.Ord.total c.args.key c.args.self.now.rows c.in-Ok.index c.args.value row.0 row c.in-Ok.ensures.sorted c.in-Ok.ensures.index (ap (λ q. q.0) b) in
     rw (ap (λ t. t.rows) c.self.view_is, c.replace.ensures.after, set) (sorted_insert g.C.Ord.cmp g.met.C.Ord.total c.args.key c.args.self.now.rows c.args.value c.in-Ok.ensures.sorted)
 
 pub invariant_of-self : goal.invariant_of-self
@@ -25,7 +25,7 @@ invariant_of-self g c = returns-in-Ok-clause-sorted g c
 pub returns-in-Ok-clause-before : goal.returns-in-Ok-clause-before
 returns-in-Ok-clause-before g c =
     let b = rw (ap (λ t. t.rows) c.self.view_is) at c.index_mut-row.ensures.value in
-    let found = lookup_at g.C.Ord.cmp g.met.C.Ord.total c.args.key c.args.self.now.rows c.in-Ok.place c.index_mut-row.result.now c.in-Ok.ensures.sorted c.in-Ok.ensures.place in
+    let found = lookup_at g.C.Ord.cmp g.met.C.Ord.total c.args.key c.args.self.now.rows c.in-Ok.index c.index_mut-row.result.now c.in-Ok.ensures.sorted c.in-Ok.ensures.index in
     let exact = cmp_exact g.C.Ord.cmp g.C.BitString.bits g.met.C.NetworkBits.ordered g.met.C.NetworkBits.determined in
     rw c.replace.ensures.value (rw (found ∙ ap (λ p. Some p.1) (sym b)) at (looked_up g.C.Ord.cmp g.met.C.Ord.total exact c.args.key c.args.self.now.rows))
 
@@ -33,7 +33,7 @@ pub returns-in-Ok-clause-ok : goal.returns-in-Ok-clause-ok
 returns-in-Ok-clause-ok g c =
     let b = rw (ap (λ t. t.rows) c.self.view_is) at c.index_mut-row.ensures.value in
     let row = c.index_mut-row.result.now in
-    let set = set_at g.C.Ord.cmp g.met.C.Ord.total c.args.key c.args.self.now.rows c.in-Ok.place c.args.value row.0 row c.in-Ok.ensures.sorted c.in-Ok.ensures.place (ap (λ q. q.0) b) in
+    let set = set_at g.C.Ord.cmp g.met.C.Ord.total c.args.key c.args.self.now.rows c.in-Ok.index c.args.value row.0 row c.in-Ok.ensures.sorted c.in-Ok.ensures.index (ap (λ q. q.0) b) in
     let exact = cmp_exact g.C.Ord.cmp g.C.BitString.bits g.met.C.NetworkBits.ordered g.met.C.NetworkBits.determined in
     rw (ap (λ t. t.rows) c.self.view_is, c.replace.ensures.after, set) (inserted g.C.Ord.cmp g.met.C.Ord.total exact c.args.key c.args.self.now.rows c.args.value c.in-Ok.ensures.sorted)
 
@@ -60,10 +60,10 @@ pub returns-in-Err-insert-clause-err : goal.returns-in-Err-insert-clause-err
 returns-in-Err-insert-clause-err g c = c.in-Err-insert.ensures.value_returned
 
 pub returns-in-Err-insert-clause-present : goal.returns-in-Err-insert-clause-present
-returns-in-Err-insert-clause-present g c = λ there. absurd (not_held g.C.Ord.cmp g.met.C.Ord.total (cmp_exact g.C.Ord.cmp g.C.BitString.bits g.met.C.NetworkBits.ordered g.met.C.NetworkBits.determined) c.args.key c.args.self.now.rows c.in-Err.place c.in-Err.ensures.place there)
+returns-in-Err-insert-clause-present g c = λ there. absurd (not_held g.C.Ord.cmp g.met.C.Ord.total (cmp_exact g.C.Ord.cmp g.C.BitString.bits g.met.C.NetworkBits.ordered g.met.C.NetworkBits.determined) c.args.key c.args.self.now.rows c.in-Err.index c.in-Err.ensures.index there)
 
 pub returns-in-Err-insert-clause-kept : goal.returns-in-Err-insert-clause-kept
-returns-in-Err-insert-clause-kept g c = λ there. absurd (not_held g.C.Ord.cmp g.met.C.Ord.total (cmp_exact g.C.Ord.cmp g.C.BitString.bits g.met.C.NetworkBits.ordered g.met.C.NetworkBits.determined) c.args.key c.args.self.now.rows c.in-Err.place c.in-Err.ensures.place there)
+returns-in-Err-insert-clause-kept g c = λ there. absurd (not_held g.C.Ord.cmp g.met.C.Ord.total (cmp_exact g.C.Ord.cmp g.C.BitString.bits g.met.C.NetworkBits.ordered g.met.C.NetworkBits.determined) c.args.key c.args.self.now.rows c.in-Err.index c.in-Err.ensures.index there)
 
 pub returns-in-Err-insert-clause-room : goal.returns-in-Err-insert-clause-room
 returns-in-Err-insert-clause-room g c = λ room. absurd (omega (arith, c.in-Err-insert.ensures.full, ap (λ t. length t.rows) c.self.view_is, ap (λ t. t.capacity) c.self.view_is))
@@ -76,7 +76,7 @@ returns-in-Err-insert-clause-capacity g c = omega (arith, c.in-Err-insert.ensure
 
 -- a new key: its row goes to its place
 pub returns-in_default-clause-before : goal.returns-in_default-clause-before
-returns-in_default-clause-before g c = not_held g.C.Ord.cmp g.met.C.Ord.total (cmp_exact g.C.Ord.cmp g.C.BitString.bits g.met.C.NetworkBits.ordered g.met.C.NetworkBits.determined) c.args.key c.args.self.now.rows c.in-Err.place c.in-Err.ensures.place
+returns-in_default-clause-before g c = not_held g.C.Ord.cmp g.met.C.Ord.total (cmp_exact g.C.Ord.cmp g.C.BitString.bits g.met.C.NetworkBits.ordered g.met.C.NetworkBits.determined) c.args.key c.args.self.now.rows c.in-Err.index c.in-Err.ensures.index
 
 pub returns-in_default-clause-kept : goal.returns-in_default-clause-kept
 returns-in_default-clause-kept g c = λ there. absurd (returns-in_default-clause-before g c there)
@@ -91,7 +91,7 @@ returns-in_default-clause-capacity g c = omega (arith, c.in_default.ensures.capa
 
 pub returns-in_default-clause-sorted : goal.returns-in_default-clause-sorted
 returns-in_default-clause-sorted g c =
-    let gap = insert_gap g.C.Ord.cmp g.met.C.Ord.total c.args.key c.args.self.now.rows c.in-Err.place c.args.value c.in-Err.ensures.place in
+    let gap = insert_gap g.C.Ord.cmp g.met.C.Ord.total c.args.key c.args.self.now.rows c.in-Err.index c.args.value c.in-Err.ensures.index in
     rw (c.in_default.ensures.items, ap (λ t. t.rows) c.self.view_is, gap) (sorted_insert g.C.Ord.cmp g.met.C.Ord.total c.args.key c.args.self.now.rows c.args.value c.in-Err.ensures.sorted)
 
 pub invariant_of-self-in-Err : goal.invariant_of-self-in-Err
@@ -99,6 +99,6 @@ invariant_of-self-in-Err g c = returns-in_default-clause-sorted g c
 
 pub returns-in_default-clause-ok : goal.returns-in_default-clause-ok
 returns-in_default-clause-ok g c =
-    let gap = insert_gap g.C.Ord.cmp g.met.C.Ord.total c.args.key c.args.self.now.rows c.in-Err.place c.args.value c.in-Err.ensures.place in
+    let gap = insert_gap g.C.Ord.cmp g.met.C.Ord.total c.args.key c.args.self.now.rows c.in-Err.index c.args.value c.in-Err.ensures.index in
     let exact = cmp_exact g.C.Ord.cmp g.C.BitString.bits g.met.C.NetworkBits.ordered g.met.C.NetworkBits.determined in
     rw (c.in_default.ensures.items, ap (λ t. t.rows) c.self.view_is, gap) (inserted g.C.Ord.cmp g.met.C.Ord.total exact c.args.key c.args.self.now.rows c.args.value c.in-Err.ensures.sorted)

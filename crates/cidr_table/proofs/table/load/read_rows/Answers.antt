@@ -18,7 +18,7 @@ returns-in-Err g c =
       keys,
       c.loop-rest.rest.now,
       listed,
-      omega (arith, c.len-place.ensures, ap length rows, length-placed 0 keys),
+      omega (arith, c.len-index.ensures, ap length rows, length-placed 0 keys),
       λ none. false≢true (c.loop-rest-test.ensures ∙ ap (λ t. length t == 0) none),
       c.in-Err.ensures.refused,
     )
@@ -35,9 +35,9 @@ loop-rest-smaller g c = shorter g.C.BitString.bits g.C.PrefixBytes.width c.loop-
 pub loop-rest-preserved : goal.loop-rest-preserved
 loop-rest-preserved g c =
     let (keys, listed, rows) = c.loop-rest.invariant in
-    let place : c.len-place.result ≡ 0 + length keys = omega (arith, c.len-place.ensures, ap length rows, length-placed 0 keys) in
-    let items : c.push.new.self.items ≡ c.loop-rest.rows.items ++ (c.in-Ok.read.0, c.len-place.result) ∷ [] = rw c.if-is_err.ensures.negation at c.push.ensures.items in (
+    let index : c.len-index.result ≡ 0 + length keys = omega (arith, c.len-index.ensures, ap length rows, length-placed 0 keys) in
+    let items : c.push.new.self.items ≡ c.loop-rest.rows.items ++ (c.in-Ok.read.0, c.len-index.result) ∷ [] = rw c.if-is_err.ensures.negation at c.push.ensures.items in (
       keys ++ c.in-Ok.read.0 ∷ [],
       one_more g.C.BitString.bits g.C.PrefixBytes.width c.loop-rest.rest.now c.in-Ok.read.0 c.in-Ok.read.1 c.in-Ok.ensures keys c.args.bytes.now listed,
-      items ∙ ap (λ t. t ++ (c.in-Ok.read.0, c.len-place.result) ∷ []) rows ∙ ap (λ n. placed 0 keys ++ (c.in-Ok.read.0, n) ∷ []) place ∙ sym (placed_push 0 keys c.in-Ok.read.0),
+      items ∙ ap (λ t. t ++ (c.in-Ok.read.0, c.len-index.result) ∷ []) rows ∙ ap (λ n. placed 0 keys ++ (c.in-Ok.read.0, n) ∷ []) index ∙ sym (placed_push 0 keys c.in-Ok.read.0),
     )

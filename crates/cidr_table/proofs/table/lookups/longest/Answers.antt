@@ -19,9 +19,9 @@ pub loop-end-preserved : goal.loop-end-preserved
 loop-end-preserved g c = λ any.
     let rows = c.args.rows.now in
     let a = g.C.BitString.bits c.args.asked.now in
-    let place = c.loop-end.end - 1 in
+    let index = c.loop-end.end - 1 in
     let row = c.index-rows-end.result in
-    let key : get_or (keys_of rows) place any ≡ row.0 = key_at rows place any row (omega (arith, (c.loop-end.invariant any).within)) ∙ ap (λ x. x.0) (sym c.index-rows-end.is) in
+    let key : get_or (keys_of rows) index any ≡ row.0 = key_at rows index any row (omega (arith, (c.loop-end.invariant any).within)) ∙ ap (λ x. x.0) (sym c.index-rows-end.is) in
     reached_shorter g.C.BitString.bits (keys_of rows) any a (length rows) c.loop-end.end c.upto_back-end.result
     c.shared_prefix_len-shared.result (omega arith) (c.loop-end.invariant any)
     (λ b. true≢false (sym (c.is_inside.ensures.1 (rw key at b)) ∙ c.if-is_inside.false))

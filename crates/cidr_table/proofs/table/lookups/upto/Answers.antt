@@ -8,10 +8,10 @@ pub returns-in-Ok-clause-reached : goal.returns-in-Ok-clause-reached
 returns-in-Ok-clause-reached g c = λ any.
     let size : length (keys_of c.args.rows.now) ≡ length c.args.rows.now = length-map c.args.rows.now (λ (x : g.row.C.Denot × g.row.V.Denot). x.0) in
     reached_at g.C.Ord.cmp g.C.BitString.bits g.met.C.NetworkBits.ordered (keys_of c.args.rows.now) c.requires.sorted any c.args.asked.now
-    c.args.end c.in-Ok.place g.met.C.Ord.total (omega (arith, size)) (rw c.new.ensures.rows at c.in-Ok.ensures.place)
+    c.args.end c.in-Ok.index g.met.C.Ord.total (omega (arith, size)) (rw c.new.ensures.rows at c.in-Ok.ensures.index)
 
 pub returns-in-Err-clause-reached : goal.returns-in-Err-clause-reached
 returns-in-Err-clause-reached g c = λ any.
     let size : length (keys_of c.args.rows.now) ≡ length c.args.rows.now = length-map c.args.rows.now (λ (x : g.row.C.Denot × g.row.V.Denot). x.0) in
     reached_gap g.C.Ord.cmp g.C.BitString.bits g.met.C.NetworkBits.ordered (keys_of c.args.rows.now) c.requires.sorted any c.args.asked.now
-    c.args.end c.in-Err.place (omega (arith, size)) (rw c.new.ensures.rows at c.in-Err.ensures.place)
+    c.args.end c.in-Err.index (omega (arith, size)) (rw c.new.ensures.rows at c.in-Err.ensures.index)

@@ -1,6 +1,6 @@
 use Rattle.std.proofs.Common.{◌≡◌, map}
 use Rattle.cidr_sets.proofs.Halves.{IsNarrowed}
-use Rattle.cidr_sets.proofs.search.place.Given as goal
+use Rattle.cidr_sets.proofs.search.index.Given as goal
 
 abbrev pub invariant-loop-left : goal.invariant-loop-left
 invariant-loop-left g l = record {

@@ -3,7 +3,7 @@ use Rattle.std.proofs.lemmas.List.{get_or-map, length-map}
 use Rattle.std.specs.declared.cmp.Ordering.{Ordering}
 use Rattle.cidr.specs.model.Bits.{bit_cmp}
 use Rattle.cidr_sets.proofs.Halves.{is_behind, is_upto, narrowed_lower, narrowed_upper}
-use Rattle.cidr_sets.proofs.search.place.Goals as goal
+use Rattle.cidr_sets.proofs.search.index.Goals as goal
 
 -- what a comparison with one of them returns
 compared : {C : Type 0} (f : C → List Bool) (cmp : C → C → Ordering) → ((x y : C) → cmp x y ≡ bit_cmp (f x) (f y)) → (xs : List C) (k : C)
