@@ -1,4 +1,4 @@
-use Rattle.std.proofs.Common.{◌≡◌, ap, ap₂, ◌∙◌, arith, ℕ, ◌+◌, ◌-◌, ◌*◌, ◌/◌, ◌%◌, ◌^◌, ◌≤◌}
+use Rattle.std.proofs.Common.{ap, ap₂, ◌∙◌, arith, ◌+◌, ◌-◌, ◌*◌, ◌/◌, ◌%◌, ◌^◌, ◌≤◌}
 use Rattle.std.proofs.Math.Nat.{mod-eq_of_lt}
 use Rattle.cidr_lookup.proofs.Blocks.{address_fits, before_fits, block_address_fits, first_address}
 use Rattle.cidr_lookup.proofs.building.first_of.Goals as goal

@@ -1,4 +1,4 @@
-use Rattle.std.proofs.Common.{◌≡◌, sym, ◌∙◌, arith, ◌+◌, ◌-◌, ◌*◌, ◌/◌, ◌^◌, get_or, length, map}
+use Rattle.std.proofs.Common.{arith, ◌+◌, ◌-◌, ◌*◌, ◌^◌, get_or, map}
 use Rattle.std.proofs.lemmas.Nat.{pow_pos}
 use Rattle.cidr_lookup.proofs.Blocks.{far, start_at}
 use Rattle.cidr_lookup.proofs.building.last_upto.Goals as goal

@@ -1,12 +1,10 @@
-use Rattle.std.proofs.Common.{◌≡◌, sym, ap, subst, ◌∙◌, arith, ℕ, ◌+◌, ◌*◌, ◌/◌, ◌^◌, ◌<◌, ◌≤◌, List, get_or, length, map}
+use Rattle.std.proofs.Common.{◌≡◌, subst, arith, get_or, length, map}
 use Rattle.std.proofs.lemmas.List.{length-map}
 use Rattle.cidr_lookup.specs.Keys.{key_networks}
 use Rattle.cidr_lookup.specs.Nodes.{IsEntry}
-use Rattle.cidr_lookup.specs.Putting.{StopsBefore}
 use Rattle.cidr_lookup.specs.Tables.{IsAnswer}
 use Rattle.cidr_lookup.proofs.BlockAnswers.{whole}
 use Rattle.cidr_lookup.proofs.Entries.{value_entry}
-use Rattle.cidr_lookup.proofs.Nodes.{on_err}
 use Rattle.cidr_lookup.proofs.Numbers.{length_networks}
 use Rattle.cidr_lookup.proofs.building.next_entry.Goals as goal
 

@@ -1,4 +1,4 @@
-use Rattle.std.proofs.Common.{◌≡◌, sym, ◌∙◌, ap, arith, ◌*◌, ◌-◌, ◌/◌, ◌%◌, ◌^◌}
+use Rattle.std.proofs.Common.{sym, ap, arith, ◌%◌}
 use Rattle.cidr_lookup.proofs.Blocks.{scaled}
 use Rattle.cidr_lookup.proofs.halves.digit.Goals as goal
 

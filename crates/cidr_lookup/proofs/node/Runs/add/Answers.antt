@@ -1,4 +1,4 @@
-use Rattle.std.proofs.Common.{◌≡◌, refl, ap, arith, ◌^◌, ◌+◌, ◌-◌, ◌<◌, ℕ}
+use Rattle.std.proofs.Common.{refl, ap, arith, ◌+◌, ◌-◌, ℕ}
 use Rattle.std.proofs.lemmas.Nat.{one_shl}
 use Rattle.cidr_lookup.proofs.Nodes.{last_kept, next_mark, other_runs, same_runs}
 use Rattle.cidr_lookup.proofs.node.Runs.add.Goals as goal

@@ -1,4 +1,4 @@
-use Rattle.std.proofs.Common.{◌≡◌, refl, sym, ap, arith, ℕ, ◌*◌, ◌^◌, []}
+use Rattle.std.proofs.Common.{refl, sym, ap, arith, ℕ, ◌*◌, ◌^◌, []}
 use Rattle.cidr_lookup.proofs.Nodes.{no_marks, no_runs}
 use Rattle.cidr_lookup.proofs.node.Runs.new.Goals as goal
 
