@@ -1,12 +1,11 @@
 -- The words of a table fit in 32 bits, if there are fewer than 2 ^ 30.
 use Rattle.std.proofs.Common.{◌≡◌, refl, sym, ap, subst, arith, inl, inr, ℕ, zero, suc, ◌+◌, ◌-◌, ◌*◌, ◌/◌, ◌%◌, ◌^◌, ◌<◌, List, [], ◌∷◌, ◌++◌, length, map, get_or, length-append}
-use Rattle.std.specs.List.{flat_map}
 use Rattle.std.proofs.lemmas.Bool.{cases_lt, cond_both}
 use Rattle.std.proofs.lemmas.List.{get_or_append_left, get_or-append_right}
 use Rattle.std.proofs.lemmas.Nat.{mod_below, pow_pos, shr_below}
-use Rattle.cidr_lookup.specs.Nodes.{AreEntries, IsEntry, begins_run, change_words, list, marks, node, runs}
+use Rattle.cidr_lookup.specs.Nodes.{AreEntries, IsEntry, begins_run, change_word, list, marks, node, runs}
 use Rattle.cidr_lookup.specs.Tables.{IsAnswer, IsLookupTable}
-use Rattle.cidr_lookup.proofs.Changes.{first_has, ordered, values_small}
+use Rattle.cidr_lookup.proofs.Changes.{first_has, values_small}
 use Rattle.cidr_lookup.proofs.Entries.{grows}
 use Rattle.cidr_lookup.proofs.Nodes.{marks_fit}
 
@@ -45,11 +44,9 @@ node_fits entries fits =
     word_fits (marks entries 64 % 2 ^ 32) (marks entries 64 / 2 ^ 32 ∷ runs entries 64) (mod_below (marks entries 64) (2 ^ 32) (pow_pos 32))
     (word_fits (marks entries 64 / 2 ^ 32) (runs entries 64) (shr_below (marks entries 64) 32 32 (marks_fit entries 64)) (runs_fit entries 64 fits))
 
-starts_fit : (changes : List (ℕ × ℕ)) → ((i : ℕ) → i < length changes → (get_or changes i (0, 0)).0 < 2 ^ 64) → AllFit (flat_map change_words changes)
-starts_fit [] fits = none_fit
-starts_fit (change ∷ changes) fits =
-    word_fits (change.0 % 2 ^ 32) (change.0 / 2 ^ 32 ∷ flat_map change_words changes) (mod_below change.0 (2 ^ 32) (pow_pos 32))
-    (word_fits (change.0 / 2 ^ 32) (flat_map change_words changes) (shr_below change.0 32 32 (fits 0 (omega arith))) (starts_fit changes (λ i l. fits (suc i) (omega arith))))
+starts_fit : (changes : List (ℕ × ℕ)) → AllFit (map change_word changes)
+starts_fit [] = none_fit
+starts_fit (change ∷ changes) = word_fits (change_word change) (map change_word changes) (mod_below change.0 (2 ^ 32) (pow_pos 32)) (starts_fit changes)
 
 values_fit : (changes : List (ℕ × ℕ)) → ((i : ℕ) → i < length changes → (get_or changes i (0, 0)).1 < 2 ^ 31) → AllFit (map (λ (change : ℕ × ℕ). change.1) changes)
 values_fit [] fits = none_fit
@@ -85,9 +82,8 @@ module _ (Has : (number value : ℕ) → Type 0) where
       let short : length before < 2 ^ 30 = omega (arith, ap length all, length-append before (list value changes)) in
       let s = 2 ^ (6 * suc steps) in
       let lt : block * s < (block + 1) * s = omega (arith, pow_pos (6 * suc steps)) in
-      let order = ordered Has (block * s) ((block + 1) * s) value changes known.2 in
-      let list_fits : AllFit (list value changes) = word_fits (length changes) (flat_map change_words changes ++ value ∷ map (λ (change : ℕ × ℕ). change.1) changes) (omega (arith, known.1))
-      (both_fit (flat_map change_words changes) (value ∷ map (λ (change : ℕ × ℕ). change.1) changes) (starts_fit changes order.fits)
+      let list_fits : AllFit (list value changes) = word_fits (length changes) (map change_word changes ++ value ∷ map (λ (change : ℕ × ℕ). change.1) changes) (omega (arith, known.1))
+      (both_fit (map change_word changes) (value ∷ map (λ (change : ℕ × ℕ). change.1) changes) (starts_fit changes)
       (word_fits value (map (λ (change : ℕ × ℕ). change.1) changes) (omega (arith, (first_has Has (block * s) ((block + 1) * s) value changes lt known.2).0))
       (values_fit changes (values_small Has (block * s) ((block + 1) * s) value changes lt known.2)))) in
       (omega (arith, is, short), subst AllFit (sym all) (both_fit before (list value changes) fits list_fits))

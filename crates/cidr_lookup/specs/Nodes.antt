@@ -1,6 +1,6 @@
 -- A look-up table in words of 32 bits. An entry below 2 ^ 31 is a value; another is 2 ^ 31 and twice the place of a node among the words,
 -- or of a list and one.
-use Rattle.std.specs.Prelude.{◌≡◌, ◌≢◌, ℕ, zero, suc, ◌+◌, ◌-◌, ◌*◌, ◌/◌, ◌%◌, ◌^◌, ◌<◌, ◌≤◌, ◌⊎◌, ◌==◌, ◌||◌, Bool, not, if◌then◌else◌, List, [], ◌∷◌, ◌++◌, length, map, flat_map, slice_index_or}
+use Rattle.std.specs.Prelude.{◌≡◌, ◌≢◌, ℕ, zero, suc, ◌+◌, ◌-◌, ◌*◌, ◌/◌, ◌%◌, ◌^◌, ◌<◌, ◌≤◌, ◌⊎◌, ◌==◌, ◌||◌, Bool, not, if◌then◌else◌, List, [], ◌∷◌, ◌++◌, length, map, slice_index_or}
 
 -- ---- a node: entries of 64 parts, of which those one behind the other that are the same are a run
 -- whether a part begins a run
@@ -21,15 +21,14 @@ marks entries (suc n) = marks entries n * 2 + (if begins_run entries n then 1 el
 abbrev pub node : List ℕ → List ℕ
 node entries = marks entries 64 % 2 ^ 32 ∷ marks entries 64 / 2 ^ 32 ∷ runs entries 64
 
--- ---- a list: the value of the first number of a block, and its changes. A change is a multiple of 2 ^ 66, divided by that, and the value
--- from there on
--- the lower and the higher 32 bits of where a change is
-abbrev pub change_words : ℕ × ℕ → List ℕ
-change_words change = change.0 % 2 ^ 32 ∷ change.0 / 2 ^ 32 ∷ []
+-- ---- a list: the value of the first number of a block, and its changes. A change is a multiple of 2 ^ 82, divided by that, and the value
+-- from there on. Its last 32 bits tell where it is, since the numbers of the block have the bits before these in common
+abbrev pub change_word : ℕ × ℕ → ℕ
+change_word change = change.0 % 2 ^ 32
 
 -- the words of a list: how many changes there are, where they are, and the values
 abbrev pub list : (value : ℕ) (changes : List (ℕ × ℕ)) → List ℕ
-list value changes = length changes ∷ flat_map change_words changes ++ value ∷ map (λ (change : ℕ × ℕ). change.1) changes
+list value changes = length changes ∷ map change_word changes ++ value ∷ map (λ (change : ℕ × ℕ). change.1) changes
 
 -- ---- entries, each with the words that stand before what it needs, and those words with what it needs behind them
 -- the entries of n blocks from the first on, where what each needs stands behind what those before it need
@@ -60,12 +59,12 @@ module _ (Has : (number value : ℕ) → Type 0) where
   -- and each the one of the last change up to it, which is another than before
   unfoldable pub AreChanges : (from end value : ℕ) (changes : List (ℕ × ℕ)) → Type 0
   AreChanges from end value [] = HaveBefore from end value
-  AreChanges from end value (change ∷ changes) = (change.0 < 2 ^ 64) × (from < change.0 * 2 ^ 66) × (change.0 * 2 ^ 66 < end) × (value ≢ change.1)
-      × HaveBefore from (change.0 * 2 ^ 66) value × AreChanges (change.0 * 2 ^ 66) end change.1 changes
+  AreChanges from end value (change ∷ changes) = (from < change.0 * 2 ^ 82) × (change.0 * 2 ^ 82 < end) × (value ≢ change.1)
+      × HaveBefore from (change.0 * 2 ^ 82) value × AreChanges (change.0 * 2 ^ 82) end change.1 changes
 
-  -- a block has a list where there are 1 to 31 changes
+  -- a block of at most 2 ^ 114 numbers has a list where there are 1 to 31 changes
   abbrev pub HasList : (steps block value : ℕ) (changes : List (ℕ × ℕ)) → Type 0
-  HasList steps block value changes = (0 < length changes) × (length changes < 32) × AreChanges (block * 2 ^ (6 * steps)) ((block + 1) * 2 ^ (6 * steps)) value changes
+  HasList steps block value changes = (0 < length changes) × (length changes < 32) × AreChanges (block * 2 ^ (6 * steps)) ((block + 1) * 2 ^ (6 * steps)) value changes × (steps < 20)
 
   -- the entry of a block that is a list
   abbrev pub IsList : (steps block : ℕ) (before : List ℕ) (entry : ℕ) (after : List ℕ) → Type 0

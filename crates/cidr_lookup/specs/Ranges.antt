@@ -26,7 +26,7 @@ pub record AreMatchRanges (w : ℕ) (networks : List (ℕ × ℕ)) (starts answe
   pub matches : (address k : ℕ) → address < 2 ^ w → IsRangeOf starts address k
       → IsLongestMatch (prefix_bits w) (bits w address) networks (row_behind (slice_index_or answers k 0))
 
--- the changes to n ranges from one on: where each begins, with zeros behind it and divided by 2 ^ 66, and its answer
+-- the changes to n ranges from one on: where each begins, with zeros behind it and divided by 2 ^ 82, and its answer
 unfoldable pub changes_from : (padding : ℕ) (starts answers : List ℕ) (k n : ℕ) → List (ℕ × ℕ)
 changes_from padding starts answers k zero = []
-changes_from padding starts answers k (suc n) = (slice_index_or starts k 0 * 2 ^ padding / 2 ^ 66, slice_index_or answers k 0) ∷ changes_from padding starts answers (k + 1) n
+changes_from padding starts answers k (suc n) = (slice_index_or starts k 0 * 2 ^ padding / 2 ^ 82, slice_index_or answers k 0) ∷ changes_from padding starts answers (k + 1) n

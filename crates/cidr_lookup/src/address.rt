@@ -64,9 +64,9 @@ pub trait Address: Copy {
         requires { shift < width + padding }
         ensures { result ≡ value self * 2 ^ padding / 2 ^ shift % 64 };
 
-    /// The number of the bits before the last 66: the first half in IPv6, and 0 in IPv4.
-    fn upper(self) -> u64
-        ensures { result ≡ value self * 2 ^ padding / 2 ^ 66 };
+    /// The number of the 32 bits before the last 82, by which lists tell addresses: the bits 17 to 48 in IPv6, and 0 in IPv4.
+    fn list_word(self) -> u32
+        ensures { result ≡ value self * 2 ^ padding / 2 ^ 82 % 2 ^ 32 };
 }
 
 impl Address for u32 {
@@ -121,7 +121,7 @@ impl Address for u32 {
     }
 
     #[inline(always)]
-    fn upper(self) -> u64 {
+    fn list_word(self) -> u32 {
         padded(self);
         0
     }

@@ -8,7 +8,7 @@ ghost use Rattle.cidr_lookup.specs.Tables.{IsAnswer, IsLookupTable};
 
 use crate::address::Address;
 use crate::key::Key;
-use crate::list::{MOST_CHANGES, put_list};
+use crate::list::{MOST_CHANGES, MOST_LIST_STEPS, put_list};
 use crate::node::{PARTS, Runs, put_node};
 use crate::search::PLACE;
 use crate::words::{Sink, Stop, Stopped};
@@ -199,6 +199,9 @@ fn changes_in<A: Address>(
         (slice_index_or answers.now range 0) (changes_from A.padding (map A.value starts.now) answers.now (range + 1) count)) }
     ensures none { IfNone result (¬ ((value : ℕ) × (changes : List (ℕ × ℕ)) × HasList (IsAnswer A.width A.padding (key_networks A.value keys.now)) steps block value changes)) }
 {
+    if steps > MOST_LIST_STEPS {
+        return None;
+    }
     let mut count = 0;
     while !is_whole(starts, range + count, steps, block) {
         count += 1;
@@ -371,11 +374,11 @@ fn is_whole<A: Address>(starts: &[A], range: usize, steps: u32, block: u128) -> 
     starts[next].number() >> (6 * steps - A::padding()) > block
 }
 
-/// How far a range begins behind a multiple of 2^66.
+/// How far a range begins behind a multiple of 2^82.
 #[inline(always)]
 fn rest_of<A: Address>(starts: &[A], range: usize) -> u128
     requires { range < length starts.now }
-    ensures { result * 2 ^ A.padding ≡ slice_index_or (map A.value starts.now) range 0 * 2 ^ A.padding % 2 ^ 66 }
+    ensures { result * 2 ^ A.padding ≡ slice_index_or (map A.value starts.now) range 0 * 2 ^ A.padding % 2 ^ 82 }
 {
-    starts[range].number() % (1 << (66 - A::padding()))
+    starts[range].number() % (1 << (82 - A::padding()))
 }

@@ -73,8 +73,8 @@ impl Address for [u8; 4] {
     }
 
     #[inline(always)]
-    fn upper(self) -> u64 {
-        u32::from_le_bytes(self).upper()
+    fn list_word(self) -> u32 {
+        u32::from_le_bytes(self).list_word()
     }
 }
 
@@ -129,8 +129,8 @@ impl Address for [[u8; 8]; 2] {
     }
 
     #[inline(always)]
-    fn upper(self) -> u64 {
-        halves(self).upper()
+    fn list_word(self) -> u32 {
+        halves(self).list_word()
     }
 }
 

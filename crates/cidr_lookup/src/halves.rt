@@ -66,8 +66,8 @@ impl Address for Ipv6Halves {
     }
 
     #[inline(always)]
-    fn upper(self) -> u64 {
-        self.high
+    fn list_word(self) -> u32 {
+        list_bits(self.high, self.low)
     }
 }
 
@@ -79,6 +79,14 @@ fn first_bits(high: u64, _low: u64, shift: u32) -> u64
     ensures { result ≡ (high * 2 ^ 64 + _low) * 2 ^ 2 / 2 ^ shift }
 {
     high >> (shift - 66)
+}
+
+/// The 32 bits before the last 82, which has the lower half and 16 bits of the higher one.
+#[inline(always)]
+fn list_bits(high: u64, _low: u64) -> u32
+    ensures { result ≡ (high * 2 ^ 64 + _low) * 2 ^ 2 / 2 ^ 82 % 2 ^ 32 }
+{
+    ((high >> 16) % (1 << 32)) as u32
 }
 
 /// The six bits before the last `shift` of a number with two zeros behind it.

@@ -1,6 +1,6 @@
 //! The words of a list.
-ghost use Rattle.std.specs.Prelude.{◌≡◌, ℕ, ◌+◌, ◌*◌, ◌/◌, ◌^◌, ◌<◌, ◌≤◌, ◌++◌, ◌∷◌, List, flat_map, length, map, slice_index_or, IfErr, OnErr, OnOk};
-ghost use Rattle.cidr_lookup.specs.Nodes.{change_words, list};
+ghost use Rattle.std.specs.Prelude.{◌≡◌, ℕ, ◌+◌, ◌*◌, ◌/◌, ◌%◌, ◌^◌, ◌<◌, ◌≤◌, ◌++◌, ◌∷◌, List, length, map, slice_index_or, IfErr, OnErr, OnOk};
+ghost use Rattle.cidr_lookup.specs.Nodes.{change_word, list};
 ghost use Rattle.cidr_lookup.specs.Putting.{StopsBefore};
 ghost use Rattle.cidr_lookup.specs.Ranges.{changes_from};
 
@@ -9,6 +9,9 @@ use crate::words::{Sink, Stop};
 
 /// The most changes that a list may have.
 pub(crate) const MOST_CHANGES: usize = 31;
+
+/// How many steps may be left for the addresses of a list, so that those have the bits before its words in common.
+pub(crate) const MOST_LIST_STEPS: u32 = 19;
 
 /// Puts the words of a list: the answer of a range, and the changes to so many ranges behind it.
 pub(crate) fn put_list<A: Address, S: Sink>(
@@ -42,14 +45,12 @@ fn put_starts<A: Address, S: Sink>(
 ) -> Result<(), Stop>
     requires within { from + count ≤ length starts.now }
     ensures kept { S.given sink.new ≡ S.given sink.old }
-    ensures put { OnOk result (S.put sink.new ≡ S.put sink.old ++ flat_map change_words (changes_from A.padding (map A.value starts.now) answers.now from count)) }
-    ensures stopped { OnErr result (StopsBefore (S.put sink.new) (S.refuses sink.new) (S.put sink.old ++ flat_map change_words (changes_from A.padding (map A.value starts.now) answers.now from count))) }
+    ensures put { OnOk result (S.put sink.new ≡ S.put sink.old ++ map change_word (changes_from A.padding (map A.value starts.now) answers.now from count)) }
+    ensures stopped { OnErr result (StopsBefore (S.put sink.new) (S.refuses sink.new) (S.put sink.old ++ map change_word (changes_from A.padding (map A.value starts.now) answers.now from count))) }
     ensures only { IfErr result (λ stop. stop ≡ Stop.Refused) }
 {
     for at in 0..count {
-        let start = upper_of(starts, from + at);
-        sink.push((start % (1 << 32)) as u32)?;
-        sink.push((start >> 32) as u32)?;
+        sink.push(word_of(starts, from + at))?;
     }
     Ok(())
 }
@@ -74,10 +75,10 @@ fn put_answers<A: Address, S: Sink>(
     Ok(())
 }
 
-/// Where a range begins, by the bits before the last 66.
-fn upper_of<A: Address>(starts: &[A], range: usize) -> u64
+/// The word of the change to a range.
+fn word_of<A: Address>(starts: &[A], range: usize) -> u32
     requires { range < length starts.now }
-    ensures { result ≡ slice_index_or (map A.value starts.now) range 0 * 2 ^ A.padding / 2 ^ 66 }
+    ensures { result ≡ slice_index_or (map A.value starts.now) range 0 * 2 ^ A.padding / 2 ^ 82 % 2 ^ 32 }
 {
-    starts[range].upper()
+    starts[range].list_word()
 }

@@ -1,9 +1,9 @@
 //! The longest match of an address.
-ghost use Rattle.std.specs.Prelude.{◌≡◌, ℕ, ◌+◌, ◌*◌, ◌^◌, ◌<◌, ◌≤◌, List, length};
+ghost use Rattle.std.specs.Prelude.{◌≡◌, ℕ, ◌+◌, ◌*◌, ◌^◌, ◌<◌, ◌≤◌, List, length, slice_index_or};
 ghost use Rattle.cidr.specs.model.Bits.{bits};
 ghost use Rattle.cidr_table.specs.model.Prefixes.{IsLongestMatch};
 ghost use Rattle.cidr_lookup.specs.Keys.{prefix_bits, row_behind};
-ghost use Rattle.cidr_lookup.specs.Searching.{AreOrdered, AscendAt, IsListAt, IsValueAt, change_at};
+ghost use Rattle.cidr_lookup.specs.Searching.{AreOrdered, AscendAt, IsListAt, IsValueAt};
 ghost use Rattle.cidr_lookup.specs.Tables.{IsAnswer, IsLookupTable};
 
 use crate::address::Address;
@@ -79,7 +79,7 @@ fn found_value<A: Address, T: Words>(first: &T, words: &T, steps: u32, address: 
         left -= 6;
         let place = ((entry - PLACE) / 2) as usize;
         if entry % 2 == 1 {
-            return listed(words, place, address.upper());
+            return listed(words, place, address.list_word());
         }
         if place + 1 >= words.len() {
             return 0;
@@ -95,12 +95,12 @@ fn found_value<A: Address, T: Words>(first: &T, words: &T, steps: u32, address: 
     entry
 }
 
-/// The value that the list at a place has for the numbers that begin so.
+/// The value that the list at a place has for the addresses with this word.
 #[inline(always)]
-fn listed<T: Words>(words: &T, place: usize, upper: u64) -> u32
+fn listed<T: Words>(words: &T, place: usize, address: u32) -> u32
     requires { place < 2 ^ 31 }
     ensures { (value : ℕ) (changes : List (ℕ × ℕ)) → IsListAt (T.words words.now) place value changes → length changes < 32
-        → AreOrdered changes → IsValueAt value changes upper result }
+        → AreOrdered changes → IsValueAt value changes address result }
 {
     if place >= words.len() {
         return 0;
@@ -110,42 +110,32 @@ fn listed<T: Words>(words: &T, place: usize, upper: u64) -> u32
         return 0;
     }
     let starts = place + 1;
-    let values = starts + 2 * count;
+    let values = starts + count;
     if values + count >= words.len() {
         return 0;
     }
-    words.word(values + upto(words, starts, count, upper))
+    words.word(values + upto(words, starts, count, address))
 }
 
-/// How many of the changes of a list, which ascend, are at most a number.
+/// How many of the changes of a list, whose words ascend, are at most a word.
 #[inline(always)]
-fn upto<T: Words>(words: &T, starts: usize, count: usize, number: u64) -> usize
-    requires words { starts + 2 * count ≤ length (T.words words.now) }
+fn upto<T: Words>(words: &T, starts: usize, count: usize, word: u32) -> usize
+    requires words { starts + count ≤ length (T.words words.now) }
     requires starts { starts ≤ 2 ^ 31 }
     requires few { count < 32 }
     ensures within { result ≤ count }
-    ensures before { AscendAt (T.words words.now) starts count → (i : ℕ) → i < result → change_at (T.words words.now) starts i ≤ number }
-    ensures behind { AscendAt (T.words words.now) starts count → (i : ℕ) → result ≤ i → i < count → number < change_at (T.words words.now) starts i }
+    ensures before { AscendAt (T.words words.now) starts count → (i : ℕ) → i < result → slice_index_or (T.words words.now) (starts + i) 0 ≤ word }
+    ensures behind { AscendAt (T.words words.now) starts count → (i : ℕ) → result ≤ i → i < count → word < slice_index_or (T.words words.now) (starts + i) 0 }
 {
     let mut found = 0;
     let mut left = count;
     while left > 0 {
         let half = left - left / 2;
-        if change(words, starts, found + half - 1) <= number {
+        let change = words.word(starts + (found + half - 1));
+        if change <= word {
             found += half;
         }
         left /= 2;
     }
     found
-}
-
-/// Where a change of a list is.
-#[inline(always)]
-fn change<T: Words>(words: &T, starts: usize, at: usize) -> u64
-    requires words { starts + 2 * at + 1 < length (T.words words.now) }
-    requires few { starts + 2 * at + 1 < 2 ^ 32 }
-    ensures { result ≡ change_at (T.words words.now) starts at }
-{
-    let low = starts + 2 * at;
-    u64::from(words.word(low + 1)) * (1 << 32) + u64::from(words.word(low))
 }

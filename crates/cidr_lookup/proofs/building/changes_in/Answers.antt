@@ -15,6 +15,10 @@ loop-count-init g c = record {
   each = λ j lt le. absurd (omega arith);
 }
 
+-- a list has few steps
+pub returns-then-steps-gt-MOST_LIST_STEPS-clause-none : goal.returns-then-steps-gt-MOST_LIST_STEPS-clause-none
+returns-then-steps-gt-MOST_LIST_STEPS-clause-none g c = λ one. omega (arith, one.2.3, c.if-steps-gt-MOST_LIST_STEPS.true)
+
 pub overflow_add-range : goal.overflow_add-range
 overflow_add-range g c = omega (arith, c.loop-count.invariant.within, c.loop-count.invariant.few, c.ranges.range)
 
@@ -51,7 +55,7 @@ returns-then-rest_of-ne0-clause-none g c =
     no_list g.A.Address.width g.A.Address.padding (key_networks g.A.Address.value c.args.keys.now) starts c.args.answers.now c.requires.ranges
     (omega (arith, c.requires.few, length_networks g.A.Address.value c.args.keys.now)) c.requires.keys c.args.steps c.args.block c.args.range j c.requires.block c.requires.upto c.requires.next (omega arith)
     (omega (arith, at.0, size)) at.1 (inl (λ none. c.if-rest_of-ne0.true (no_rest c.rest_of.result (2 ^ g.A.Address.padding) (pow_pos g.A.Address.padding)
-    (c.rest_of.ensures ∙ (ap (λ i. get_or starts i 0 * 2 ^ g.A.Address.padding % 2 ^ 66) e ∙ none)))))
+    (c.rest_of.ensures ∙ (ap (λ i. get_or starts i 0 * 2 ^ g.A.Address.padding % 2 ^ 82) e ∙ none)))))
 
 pub loop-count-smaller : goal.loop-count-smaller
 loop-count-smaller g c = omega (arith, c.if-count-gt-MOST_CHANGES.false, c.loop-count.invariant.few)
@@ -68,7 +72,7 @@ loop-count-preserved g c =
       within = omega (arith, at.0);
       each = λ i lt le. elim (cases_eq i j) [
         | inl same ↦ (
-          ap (λ k. get_or starts k 0 * 2 ^ g.A.Address.padding % 2 ^ 66) (same ∙ sym e) ∙ (sym c.rest_of.ensures ∙ (ap (λ r. r * 2 ^ g.A.Address.padding) c.if-rest_of-ne0.false ∙ omega arith)),
+          ap (λ k. get_or starts k 0 * 2 ^ g.A.Address.padding % 2 ^ 82) (same ∙ sym e) ∙ (sym c.rest_of.ensures ∙ (ap (λ r. r * 2 ^ g.A.Address.padding) c.if-rest_of-ne0.false ∙ omega arith)),
           omega (arith, ap (λ k. get_or starts k 0 * 2 ^ g.A.Address.padding / 2 ^ (6 * c.args.steps)) same, at.1),
         )
         | inr other ↦ c.loop-count.invariant.each i lt (omega arith)
@@ -90,7 +94,7 @@ returns-clause-some g c =
     ] in (
       c.loop-count.invariant.within,
       has_list g.A.Address.width g.A.Address.padding (key_networks g.A.Address.value c.args.keys.now) starts c.args.answers.now c.requires.ranges
-          (omega (arith, c.requires.few, length_networks g.A.Address.value c.args.keys.now)) c.requires.wide c.args.steps c.args.block c.args.range count
-          (omega (arith, size, c.loop-count.invariant.within)) some (omega (arith, c.loop-count.invariant.few)) c.requires.block c.requires.upto c.requires.next
+          (omega (arith, c.requires.few, length_networks g.A.Address.value c.args.keys.now)) c.args.steps c.args.block c.args.range count
+          (omega (arith, size, c.loop-count.invariant.within)) some (omega (arith, c.loop-count.invariant.few)) (omega (arith, c.if-steps-gt-MOST_LIST_STEPS.false)) c.requires.block c.requires.upto c.requires.next
           c.loop-count.invariant.each (λ l. whole (omega (arith, size, l))),
     )

@@ -1,7 +1,7 @@
 use Rattle.std.proofs.Common.{refl, sym, ap, ◌∙◌, arith, ℕ, ◌+◌, ◌++◌, get_or, map}
 use Rattle.std.proofs.lemmas.List.{append-nil}
 use Rattle.cidr_lookup.specs.Ranges.{changes_from}
-use Rattle.cidr_lookup.proofs.Lists.{all_left, answers_left, next_answer, no_changes_left, not_put, one_put}
+use Rattle.cidr_lookup.proofs.Lists.{all_left, next_word, no_changes_left, not_put, one_put, words_left}
 use Rattle.cidr_lookup.proofs.Nodes.{on_err}
 use Rattle.cidr_lookup.proofs.list.put_answers.Goals as goal
 
@@ -21,8 +21,8 @@ returns-in_err-push-clause-stopped g c =
     let answers = c.args.answers.now in
     let put = g.S.Sink.put c.loop-at.sink in
     let all = g.S.Sink.put c.args.sink.now ++ map (λ (change : ℕ × ℕ). change.1) (changes_from g.A.Address.padding starts answers c.args.from c.args.count) in
-    let next = next_answer g.A.Address.padding starts answers c.args.from c.args.count c.loop-at.at c.loop-at-test.true in
-    on_err c.from_residual.result (not_put put (answers_left g.A.Address.padding starts answers c.args.from c.args.count (c.loop-at.at + 1)) all (get_or answers (c.args.from + c.loop-at.at) 0)
+    let next = next_word (λ (change : ℕ × ℕ). change.1) g.A.Address.padding starts answers c.args.from c.args.count c.loop-at.at c.loop-at-test.true in
+    on_err c.from_residual.result (not_put put (words_left (λ (change : ℕ × ℕ). change.1) g.A.Address.padding starts answers c.args.from c.args.count (c.loop-at.at + 1)) all (get_or answers (c.args.from + c.loop-at.at) 0)
     (g.S.Sink.put c.push.new.self) (g.S.Sink.refuses c.push.new.self) (ap (λ x. put ++ x) (sym next) ∙ c.loop-at.invariant.put) c.in_err-push.ensures.refused.0 c.in_err-push.ensures.refused.1)
 
 pub loop-at-preserved : goal.loop-at-preserved
@@ -33,8 +33,8 @@ loop-at-preserved g c = record {
       let answers = c.args.answers.now in
       let put = g.S.Sink.put c.loop-at.sink in
       let all = g.S.Sink.put c.args.sink.now ++ map (λ (change : ℕ × ℕ). change.1) (changes_from g.A.Address.padding starts answers c.args.from c.args.count) in
-      let next = next_answer g.A.Address.padding starts answers c.args.from c.args.count c.loop-at.at c.loop-at-test.true in
-      one_put put (answers_left g.A.Address.padding starts answers c.args.from c.args.count (c.loop-at.at + 1)) all (get_or answers (c.args.from + c.loop-at.at) 0)
+      let next = next_word (λ (change : ℕ × ℕ). change.1) g.A.Address.padding starts answers c.args.from c.args.count c.loop-at.at c.loop-at-test.true in
+      one_put put (words_left (λ (change : ℕ × ℕ). change.1) g.A.Address.padding starts answers c.args.from c.args.count (c.loop-at.at + 1)) all (get_or answers (c.args.from + c.loop-at.at) 0)
       (g.S.Sink.put c.push.new.self) (ap (λ x. put ++ x) (sym next) ∙ c.loop-at.invariant.put) c.in_ok-push.ensures.put;
 }
 

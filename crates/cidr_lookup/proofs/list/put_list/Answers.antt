@@ -1,6 +1,6 @@
-use Rattle.std.proofs.Common.{◌≡◌, refl, sym, ap, subst, ◌∙◌, ℕ, ◌+◌, List, [], ◌∷◌, ◌++◌, flat_map, length, map, get_or}
+use Rattle.std.proofs.Common.{◌≡◌, refl, sym, ap, subst, ◌∙◌, ℕ, ◌+◌, List, [], ◌∷◌, ◌++◌, length, map, get_or}
 use Rattle.std.proofs.lemmas.Result.{on_err_weaker, on_ok_weaker}
-use Rattle.cidr_lookup.specs.Nodes.{change_words, list}
+use Rattle.cidr_lookup.specs.Nodes.{change_word, list}
 use Rattle.cidr_lookup.specs.Putting.{StopsBefore}
 use Rattle.cidr_lookup.specs.Ranges.{changes_from}
 use Rattle.cidr_lookup.proofs.Entries.{stops_more}
@@ -10,8 +10,8 @@ use Rattle.cidr_lookup.proofs.list.put_list.Goals as goal
 
 -- the words, with the count as it is put
 counted : (front : List ℕ) (count value : ℕ) (changes : List (ℕ × ℕ)) → length changes ≡ count
-    → front ++ (count ∷ (flat_map change_words changes ++ (value ∷ map (λ (change : ℕ × ℕ). change.1) changes))) ≡ front ++ list value changes
-counted front count value changes size = ap (λ n. front ++ (n ∷ (flat_map change_words changes ++ (value ∷ map (λ (change : ℕ × ℕ). change.1) changes)))) (sym size)
+    → front ++ (count ∷ (map change_word changes ++ (value ∷ map (λ (change : ℕ × ℕ). change.1) changes))) ≡ front ++ list value changes
+counted front count value changes size = ap (λ n. front ++ (n ∷ (map change_word changes ++ (value ∷ map (λ (change : ℕ × ℕ). change.1) changes)))) (sym size)
 
 module _ (padding : ℕ) (starts answers : List ℕ) (range count : ℕ) (front : List ℕ) where
   abbrev changes : List (ℕ × ℕ)
@@ -23,28 +23,28 @@ module _ (padding : ℕ) (starts answers : List ℕ) (range count : ℕ) (front 
   abbrev rest : List ℕ
   rest = map (λ (change : ℕ × ℕ). change.1) changes
 
-  whole : front ++ (count ∷ (flat_map change_words changes ++ (get_or answers range 0 ∷ rest))) ≡ all
+  whole : front ++ (count ∷ (map change_word changes ++ (get_or answers range 0 ∷ rest))) ≡ all
   whole = counted front count (get_or answers range 0) changes (changes_long padding starts answers (range + 1) count)
 
   module _ (Refuses : ℕ → Type 0) (new : List ℕ) where
     stops_count : new ≡ front → Refuses count → StopsBefore new Refuses all
-    stops_count same refused = not_put front (flat_map change_words changes ++ (get_or answers range 0 ∷ rest)) all count new Refuses whole same refused
+    stops_count same refused = not_put front (map change_word changes ++ (get_or answers range 0 ∷ rest)) all count new Refuses whole same refused
 
     module _ (one : List ℕ) (first : one ≡ front ++ count ∷ []) where
-      stops_starts : StopsBefore new Refuses (one ++ flat_map change_words changes) → StopsBefore new Refuses all
+      stops_starts : StopsBefore new Refuses (one ++ map change_word changes) → StopsBefore new Refuses all
       stops_starts stopped =
-          let starts = flat_map change_words changes in
+          let starts = map change_word changes in
           stops_more new Refuses (one ++ starts) all (get_or answers range 0 ∷ rest)
           (sym (starts_put front one (one ++ starts) [] count (get_or answers range 0) starts rest first refl ∙ whole)) stopped
 
-      module _ (two : List ℕ) (second : two ≡ one ++ flat_map change_words changes) where
+      module _ (two : List ℕ) (second : two ≡ one ++ map change_word changes) where
         stops_value : new ≡ two → Refuses (get_or answers range 0) → StopsBefore new Refuses all
         stops_value same refused =
             not_put two rest all (get_or answers range 0) new Refuses
-            (starts_put front one two [] count (get_or answers range 0) (flat_map change_words changes) rest first second ∙ whole) same refused
+            (starts_put front one two [] count (get_or answers range 0) (map change_word changes) rest first second ∙ whole) same refused
 
         all_put : (three : List ℕ) → three ≡ two ++ get_or answers range 0 ∷ [] → three ++ rest ≡ all
-        all_put three third = list_put front one two three count (get_or answers range 0) (flat_map change_words changes) rest first second third ∙ whole
+        all_put three third = list_put front one two three count (get_or answers range 0) (map change_word changes) rest first second third ∙ whole
 
 pub returns-in_err-push-clause-stopped : goal.returns-in_err-push-clause-stopped
 returns-in_err-push-clause-stopped g c =

@@ -64,8 +64,8 @@ returns-then-entry-eq1 g c = λ networks table.
     let h = c.loop-entry.invariant.leads networks table in
     let block = number / 2 ^ (6 * h.0) in
     let at = list_of Has words h.0 block c.loop-entry.entry ((c.loop-entry.entry - 2 ^ 31) / 2) h.2 c.loop-entry-test.true c.if-entry-eq1.true refl in
-    let found = c.listed.ensures at.0 at.1 at.3 at.2.1 (ordered Has (block * 2 ^ (6 * h.0)) ((block + 1) * 2 ^ (6 * h.0)) at.0 at.1 at.2.2) in
-    list_has Has h.0 number at.0 at.1 c.listed.result at.2 (subst (λ u. IsValueAt at.0 at.1 u c.listed.result) c.upper.ensures found)
+    let found = c.listed.ensures at.0 at.1 at.3 at.2.1 (ordered Has h.0 block at.0 at.1 at.2) in
+    list_has Has h.0 number at.0 at.1 c.listed.result at.2 (subst (λ u. IsValueAt at.0 at.1 u c.listed.result) c.list_word.ensures found)
 
 pub returns-then-place-len : goal.returns-then-place-len
 returns-then-place-len g c = λ networks table.

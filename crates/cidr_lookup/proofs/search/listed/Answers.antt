@@ -1,4 +1,4 @@
-use Rattle.std.proofs.Common.{◌≡◌, refl, ap, ◌∙◌, arith, ◌+◌, ◌*◌, ◌≤◌, length, get_or}
+use Rattle.std.proofs.Common.{◌≡◌, refl, ap, ◌∙◌, arith, ◌+◌, ◌≤◌, length, get_or}
 use Rattle.cidr_lookup.proofs.Lists.{ascend_at, read}
 use Rattle.cidr_lookup.proofs.search.listed.Goals as goal
 
@@ -18,7 +18,7 @@ returns g c = λ value changes at few order.
     record {
       count = found;
       within = within;
-      is = c.word.ensures ∙ (ap (λ n. get_or words (c.args.place + 1 + 2 * n + found) 0) all ∙ here.is found within);
-      before = λ i l. omega (arith, here.change i (omega (arith, within)), c.upto.ensures.before ascending i l);
-      behind = λ l. omega (arith, here.change found l, c.upto.ensures.behind ascending found (omega arith) (omega (arith, all, l)));
+      is = c.word.ensures ∙ (ap (λ n. get_or words (c.args.place + 1 + n + found) 0) all ∙ here.is found within);
+      before = λ i l. omega (arith, here.word i (omega (arith, within)), c.upto.ensures.before ascending i l);
+      behind = λ l. omega (arith, here.word found l, c.upto.ensures.behind ascending found (omega arith) (omega (arith, all, l)));
     }

@@ -1,29 +1,26 @@
 use Rattle.std.proofs.Common.{arith}
 use Rattle.cidr_lookup.proofs.Searching.{further, no_further, started}
 use Rattle.cidr_lookup.proofs.search.upto.Goals as goal
-use Rattle.cidr_lookup.proofs.search.upto.Goals.{then-change-number, else-change-number}
+use Rattle.cidr_lookup.proofs.search.upto.Goals.{then-change-word, else-change-word}
 
 pub loop-left-init : goal.loop-left-init
-loop-left-init g c = started (g.T.Words.words c.args.words.now) c.args.starts c.args.count c.args.number
+loop-left-init g c = started (g.T.Words.words c.args.words.now) c.args.starts c.args.count c.args.word
 
 pub overflow_add-found : goal.overflow_add-found
 overflow_add-found g c = omega (arith, c.loop-left.invariant.within, c.requires.few)
 
-pub change-requires-clause-words : goal.change-requires-clause-words
-change-requires-clause-words g c = omega (arith, c.loop-left.invariant.within, c.requires.words, c.loop-left-test.true)
+pub word-change-requires : goal.word-change-requires
+word-change-requires g c = omega (arith, c.loop-left.invariant.within, c.requires.words, c.loop-left-test.true)
 
-pub change-requires-clause-few : goal.change-requires-clause-few
-change-requires-clause-few g c = omega (arith, c.loop-left.invariant.within, c.requires.few, c.requires.starts)
-
-pub overflow_add-found-then-change-number : goal.overflow_add-found-then-change-number
-overflow_add-found-then-change-number g c = omega (arith, c.loop-left.invariant.within, c.requires.few)
+pub overflow_add-found-then-change-word : goal.overflow_add-found-then-change-word
+overflow_add-found-then-change-word g c = omega (arith, c.loop-left.invariant.within, c.requires.few)
 
 pub loop-left-preserved : goal.loop-left-preserved
-loop-left-preserved g c = elim c.if-change-number.branch [
-  | then-change-number w ↦ further (g.T.Words.words c.args.words.now) c.args.starts c.args.count c.args.number c.loop-left.found c.loop-left.left c.loop-left.invariant c.loop-left-test.true
-      c.if-change-number.found (omega (arith, c.change.ensures, w.if-change-number.true)) w.found-is
-  | else-change-number w ↦ no_further (g.T.Words.words c.args.words.now) c.args.starts c.args.count c.args.number c.loop-left.found c.loop-left.left c.loop-left.invariant c.loop-left-test.true
-      c.if-change-number.found (omega (arith, c.change.ensures, w.if-change-number.false)) w.found-is
+loop-left-preserved g c = elim c.if-change-word.branch [
+  | then-change-word w ↦ further (g.T.Words.words c.args.words.now) c.args.starts c.args.count c.args.word c.loop-left.found c.loop-left.left c.loop-left.invariant c.loop-left-test.true
+      c.if-change-word.found (omega (arith, c.word-change.ensures, w.if-change-word.true)) w.found-is
+  | else-change-word w ↦ no_further (g.T.Words.words c.args.words.now) c.args.starts c.args.count c.args.word c.loop-left.found c.loop-left.left c.loop-left.invariant c.loop-left-test.true
+      c.if-change-word.found (omega (arith, c.word-change.ensures, w.if-change-word.false)) w.found-is
 ]
 
 pub returns-clause-within : goal.returns-clause-within
