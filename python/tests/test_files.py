@@ -130,13 +130,14 @@ class Tables(InFolder):
 
     def test_bytes_made_by_hand(self):
         """A file as the page of `cidr_files` describes it to the byte."""
-        header = struct.pack("<4sI8x6I6I", b"\x89CID", 4, 1, 64, 5, 5, 3, 0, 1, 1024, 8, 20, 3, 0)
+        header = struct.pack("<4sI8x6I6I", b"\x89CID", 5, 1, 64, 5, 5, 3, 0, 1, 1024, 11, 20, 3, 0)
         first = (0, 0, 1 << 31, *[0] * 61)  # that of 8.0.0.0/6 is a node, and 10.0.0.0/8 its parts 32 to 47
         node = (1 << 31 | 1 << 15, 1 << 31, 0, 1, 0)
         ipv4 = struct.pack("<64I5I4xI4xB7x2I3s5x", *first, *node, 10 << 24, 8, 0, 3, b"ten")
-        first = (*[0] * 128, (1 << 31) + 1, *[0] * 895)  # that of 2000::/10 is a list, which changes at 2001:db8:: and 2001:db9::
-        listed = (2, 0, 0x20010DB8, 0, 0x20010DB9, 0, 1, 0)
-        ipv6 = struct.pack("<1024I8I2QB7x2I3s5x", *first, *listed, 0x20010DB8 << 32, 0, 32, 0, 3, b"doc")
+        first = (*[0] * 128, (1 << 31) + 2 * 6, *[0] * 895)  # that of 2000::/10 is a node, whose part 1 is a list
+        listed = (2, 0x0DB80000, 0x0DB90000, 0, 1, 0)  # the list of 2001::/16, which changes at 2001:db8:: and 2001:db9::
+        node = (0, 7 << 29, 0, (1 << 31) + 1, 0)
+        ipv6 = struct.pack("<1024I6I5I4x2QB7x2I3s5x", *first, *listed, *node, 0x20010DB8 << 32, 0, 32, 0, 3, b"doc")
         stored = self.opened(header + ipv4 + ipv6)
         self.assertEqual(dict(stored), {Network("10.0.0.0/8"): b"ten", Network("2001:db8::/32"): b"doc"})
         asked = ["9.255.255.255", "10.0.0.0", "10.255.255.255", "11.0.0.0", "::", "2001:db7:ffff::", "2001:db8::1", "2001:db9::"]
@@ -222,7 +223,7 @@ class Wrong(InFolder):
         self.assertGreater(refused, len(places))
 
     def test_what_is_wrong_is_said(self):
-        versions = [b"\x89CID" + bytes([version, 0, 0, 0]) + bytes(56) for version in (1, 2, 3, 5)]
+        versions = [b"\x89CID" + bytes([version, 0, 0, 0]) + bytes(56) for version in (1, 2, 3, 4, 6)]
         for content in (b"", b"10.0.0.0/8 value\n", *versions, self.content[:-1], self.content + b"\0"):
             self.path.write_bytes(content)
             for kind in (Table, NetworkSet):

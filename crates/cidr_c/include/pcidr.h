@@ -94,7 +94,7 @@ enum {
     PCIDR_TOO_MANY = 15,       /* there are more than 2,147,483,647 networks, or 1,073,741,823 words of their table */
     PCIDR_NO_TABLE = 17,       /* the arrays are not those of the networks */
     PCIDR_NO_FILE = 18,        /* the bytes are no file of look-up tables */
-    PCIDR_OTHER_VERSION = 19,  /* the file is of another version than 4, as of an older release: write it anew */
+    PCIDR_OTHER_VERSION = 19,  /* the file is of another version than 5, as of an older release: write it anew */
     PCIDR_SHORT = 20,          /* the file is shorter than its header says */
     PCIDR_LONG = 21,           /* the file is longer than its header says */
     PCIDR_VALUES = 22,         /* the values of rows don't lie one behind the other, or have 2^32 bytes or more */

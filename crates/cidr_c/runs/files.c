@@ -16,7 +16,7 @@ static int failures;
         }                                                       \
     } while (0)
 
-enum { MOST = 300, AROUND = 4 * MOST + 4, ROOM = 1 << 19, SIZE = 4648 };
+enum { MOST = 300, AROUND = 4 * MOST + 4, ROOM = 1 << 19, SIZE = 4664 };
 
 static pcidr_value networks[MOST], asked[AROUND];
 static uint32_t offsets[MOST + 1];
@@ -113,12 +113,13 @@ static void write_worked(void) {
 }
 
 static void worked(void) {
-    static const uint8_t head[] = {0x89, 0x43, 0x49, 0x44, 4, 0, 0, 0};
+    static const uint8_t head[] = {0x89, 0x43, 0x49, 0x44, 5, 0, 0, 0};
     /* The node of 10.0.0.0/12, whose runs are the values 1, 2 and 1 from the parts 0, 4 and 8 on, and that of 8.0.0.0/6, which
      * has 0, the first node, 1 and 0 from the parts 0, 32, 33 and 48 on. */
     static const uint32_t nodes[] = {0, 0x88800000u, 1, 2, 1, 0xc0008000u, 0x80000000u, 0, 1u << 31, 1, 0};
-    /* The list of 2000::/10: two changes, at 2001:db8:: and 2001:db9::, each by its first 64 bits, and the values 0, 1 and 0. */
-    static const uint32_t list[] = {2, 0, 0x20010db8u, 0, 0x20010db9u, 0, 1, 0};
+    /* The list of 2001::/16: two changes, at 2001:db8:: and 2001:db9::, each by its bits 17 to 48, and the values 0, 1 and 0; and
+     * the node of 2000::/10, which has 0, the list and 0 from the parts 0, 1 and 2 on. */
+    static const uint32_t list[] = {2, 0x0db80000u, 0x0db90000u, 0, 1, 0, 0, 0xe0000000u, 0, (1u << 31) + 1, 0};
     static const struct {
         const char *address;
         uint32_t row;
@@ -139,9 +140,9 @@ static void worked(void) {
     WANT(file.ipv4.first == 64 && file.ipv4.words == 320 && file.ipv4.addresses == 416);
     WANT(file.ipv4.lengths == 432 && file.ipv4.offsets == 440 && file.ipv4.values == 456 && file.ipv4.values_len == 14);
     WANT(file.ipv4.rows == 3 && file.ipv4.entries == 64 && file.ipv4.words_len == 24 && file.ipv4.steps == 5);
-    WANT(file.ipv6.first == 472 && file.ipv6.words == 4568 && file.ipv6.addresses == 4600);
-    WANT(file.ipv6.lengths == 4616 && file.ipv6.offsets == 4624 && file.ipv6.values == 4632 && file.ipv6.values_len == 13);
-    WANT(file.ipv6.rows == 1 && file.ipv6.entries == 1024 && file.ipv6.words_len == 8 && file.ipv6.steps == 20);
+    WANT(file.ipv6.first == 472 && file.ipv6.words == 4568 && file.ipv6.addresses == 4616);
+    WANT(file.ipv6.lengths == 4632 && file.ipv6.offsets == 4640 && file.ipv6.values == 4648 && file.ipv6.values_len == 13);
+    WANT(file.ipv6.rows == 1 && file.ipv6.entries == 1024 && file.ipv6.words_len == 11 && file.ipv6.steps == 20);
     for (size_t i = 0; i < sizeof wanted / sizeof *wanted; i++) {
         pcidr_value address = value_of(wanted[i].address);
         pcidr_found found;
@@ -208,10 +209,10 @@ static void changed(void) {
             bytes[i] ^= changes[k];
         }
     free(bytes);
-    /* In the header 16 bytes are not read, 21 are free behind parts, and 27 are of values. An offset of 5 may be 4, and one of
+    /* In the header 16 bytes are not read, 25 are free behind parts, and 27 are of values. An offset of 5 may be 4, and one of
      * 10 may be 11. */
-    WANT(accepted == 3 * (16 + 21 + 27) + 2);
-    for (room[4] = 0; room[4] < 6; room[4] += room[4] == 3 ? 2 : 1)
+    WANT(accepted == 3 * (16 + 25 + 27) + 2);
+    for (room[4] = 0; room[4] < 7; room[4] += room[4] == 4 ? 2 : 1)
         WANT(pcidr_file_open(room, SIZE, &whole) == PCIDR_OTHER_VERSION && pcidr_file_check(room, SIZE) == PCIDR_OTHER_VERSION);
 }
 

@@ -52,7 +52,7 @@ abbrev pub magic : ℕ
 magic = 0x44494389
 
 abbrev pub version : ℕ
-version = 4
+version = 5
 
 -- those of the files of earlier releases
 abbrev pub IsOldVersion : ℕ → Type 0

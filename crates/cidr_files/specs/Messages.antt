@@ -15,7 +15,7 @@ table_message Offsets = codes "values not one behind the other"
 abbrev pub fault_message : FileFault → List ℕ
 fault_message Magic = codes "no file of tables"
 fault_message Old = codes "of an older version, which an older netset compile made: compile the table anew"
-fault_message (Version other) = codes "of another version than 4: " ++ decimal other
+fault_message (Version other) = codes "of another version than 5: " ++ decimal other
 fault_message Short = codes "shorter than its header says"
 fault_message Long = codes "longer than its header says"
 fault_message (Ipv4 fault) = codes "no table of IPv4: " ++ table_message fault

@@ -1580,9 +1580,9 @@ kept() {
 rows_of_compiled_tables() {
     local none row same=$': the same file as TABLE\n'
     # no row: entries of 64 blocks of IPv4 and 1,024 of IPv6, and the one offset of each family
-    none=$(le 0x44494389 4 0 0 0 64 0 5 0 0 0 1024 0 20 0 0)$(zeros 66)$(zeros 1026)
+    none=$(le 0x44494389 5 0 0 0 64 0 5 0 0 0 1024 0 20 0 0)$(zeros 66)$(zeros 1026)
     # 10.0.0.0/8 with the value x: the block of 8.0.0.0/6 has a node, whose parts 32 to 47 of 64 have the first row
-    row=$(le 0x44494389 4 0 0 1 64 5 5 1 0 0 1024 0 20 0 0)$(le 0 0 0x80000000)$(zeros 61)$(le 0x80008000 0x80000000 0 1 0 0)
+    row=$(le 0x44494389 5 0 0 1 64 5 5 1 0 0 1024 0 20 0 0)$(le 0 0 0x80000000)$(zeros 61)$(le 0x80008000 0x80000000 0 1 0 0)
     row+=$(le 0x0a000000 0)$(le 8 0)$(le 0 1)$(le 0x78 0)$(zeros 1026)
     run 0 '' '' '' compile nothing compiled
     saved compiled "$none"
@@ -1808,12 +1808,12 @@ rows_of_stored_tables() {
     run 2 '' "-$other" '\x89PNG\r\n' look - address
     { cat "$room/compiled" && printf '\0\0\0\0\0\0\0\0'; } >"$room/part"
     run 2 '' $'part: a file of look-ups with bytes behind its end\n' '' look part
-    for at in 1 2 3; do
+    for at in 1 2 3 4; do
         with_byte 4 "$at"
         run 2 '' "part$old" '' look part
         run 2 '' "part$old" '' match part
     done
-    with_byte 4 5
+    with_byte 4 6
     run 2 '' $'part: a file of look-ups of another version\n' '' look part
     with_byte 64 1
     run 2 '' $'part: a file of look-ups that was changed\n' '' look part
