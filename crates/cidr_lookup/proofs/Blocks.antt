@@ -1,10 +1,10 @@
 -- Blocks of 64 ^ steps numbers, and the 64 parts of one.
 use Rattle.std.proofs.Common.{◌≡◌, sym, ap, ◌∙◌, arith, inl, inr, ℕ, zero, suc, ◌+◌, ◌-◌, ◌*◌, ◌/◌, ◌%◌, ◌^◌, ◌<◌, ◌≤◌, List, get_or, length, map}
-use Rattle.std.proofs.Math.Nat.{mul_assoc}
+use Rattle.std.proofs.Math.Nat.{mul_assoc, mul_right_comm}
 use Rattle.std.proofs.Math.Pow.{pow_mono}
 use Rattle.std.proofs.lemmas.Bool.{cases_lt}
 use Rattle.std.proofs.lemmas.List.{get_or-map}
-use Rattle.std.proofs.lemmas.Nat.{pow_pos, pow-add, mod_below, mul-le, one_shl, shl-shr, shr-shr, shr_below, shr_split, le-div, div_below, div-add-mod', div-mul-add, mod-mul-add}
+use Rattle.std.proofs.lemmas.Nat.{pow_pos, pow-add, mod_below, mod-pow-add, mul-le, mul-mod_first, one_shl, shl-shr, shr-shr, shr_below, shr_high, shr_split, le-div, div_below, div-add-mod', div-mul-add, mod-mul-add}
 
 -- a number of a block is between its ends
 pub in_block : (number block s : ℕ) → 0 < s → number / s ≡ block → (block * s ≤ number) × (number < (block + 1) * s)
@@ -86,6 +86,26 @@ scaled x p s le =
     let e : p + (s - p) ≡ s = omega arith in
     ap (λ j. x * 2 ^ p / 2 ^ j) (sym e) ∙ (sym (shr-shr (x * 2 ^ p) p (s - p)) ∙ ap (λ y. y / 2 ^ (s - p)) (shl-shr x p))
 
+-- ---- the bits behind the first k of an address of w bits with p zeros behind it
+high_of : (x j k : ℕ) → x % 2 ^ (j + k) / 2 ^ k ≡ x / 2 ^ k % 2 ^ j
+high_of x j k = ap (λ n. n / 2 ^ k) (mod-pow-add x j k) ∙ shr_high (x / 2 ^ k % 2 ^ j) k (x % 2 ^ k) (mod_below x (2 ^ k) (pow_pos k))
+
+-- the first six of them are those before the last s of the number with zeros
+pub first_six : (v w p k s : ℕ) → 6 ≤ w → k + s + 6 ≡ w + p → v * 2 ^ k % 2 ^ w / 2 ^ (w - 6) ≡ v * 2 ^ p / 2 ^ s % 64
+first_six v w p k s wide is =
+    let e : 6 + (w - 6) ≡ w = omega arith in
+    let d : k + s - p ≡ w - 6 = omega arith in
+    let c : k + s - k ≡ s = omega arith in
+    let turned : v * 2 ^ k * 2 ^ p / 2 ^ (k + s) ≡ v * 2 ^ p * 2 ^ k / 2 ^ (k + s) = ap (λ n. n / 2 ^ (k + s)) (mul_right_comm v (2 ^ k) (2 ^ p)) in
+    let one : v * 2 ^ k / 2 ^ (w - 6) ≡ v * 2 ^ k * 2 ^ p / 2 ^ (k + s) = sym (scaled (v * 2 ^ k) p (k + s) (omega arith) ∙ ap (λ j. v * 2 ^ k / 2 ^ j) d) in
+    let two : v * 2 ^ p * 2 ^ k / 2 ^ (k + s) ≡ v * 2 ^ p / 2 ^ s = scaled (v * 2 ^ p) k (k + s) (omega arith) ∙ ap (λ j. v * 2 ^ p / 2 ^ j) c in
+    ap (λ j. v * 2 ^ k % 2 ^ j / 2 ^ (w - 6)) (sym e) ∙ (high_of (v * 2 ^ k) 6 (w - 6) ∙ ap (λ n. n % 64) (one ∙ (turned ∙ two)))
+
+-- and what is behind j more
+pub behind_more : (v w k j k' : ℕ) → k' ≡ k + j → v * 2 ^ k % 2 ^ w * 2 ^ j % 2 ^ w ≡ v * 2 ^ k' % 2 ^ w
+behind_more v w k j k' is =
+    mul-mod_first (v * 2 ^ k) (2 ^ j) (2 ^ w) ∙ ap (λ n. n % 2 ^ w) (mul_assoc v (2 ^ k) (2 ^ j) ∙ ap (λ n. v * n) (sym (pow-add 2 k j) ∙ ap (λ i. 2 ^ i) (sym is)))
+
 -- the number of one of them
 pub start_at : {W : Type 0} (value : W → ℕ) (starts : List W) (j : ℕ) (one : W) → one ≡ get_or starts j one → j < length starts → get_or (map value starts) j 0 ≡ value one
 start_at value starts j one is l = get_or-map value starts j one 0 l ∙ ap value (sym is)
@@ -133,6 +153,34 @@ rest x p q =
     let whole : x * 2 ^ p ≡ x / 2 ^ q * 2 ^ (q + p) + r * 2 ^ p =
     ap (λ n. n * 2 ^ p) (sym (div-add-mod' x (2 ^ q))) ∙ (omega arith ∙ ap (λ n. n + r * 2 ^ p) (mul_assoc (x / 2 ^ q) (2 ^ q) (2 ^ p) ∙ ap (λ n. x / 2 ^ q * n) (sym (pow-add 2 q p)))) in
     sym (ap (λ n. n % 2 ^ (q + p)) whole ∙ mod-mul-add (x / 2 ^ q) (2 ^ (q + p)) (r * 2 ^ p) below)
+
+-- the halves of what is behind the first bits of two halves
+module _ (high low count : ℕ) (few : count ≤ 64) (fits : low < 2 ^ 64) where
+  abbrev over : ℕ
+  over = low / 2 ^ (64 - count)
+
+  -- the higher one has room for what comes from the lower one
+  pub room_behind : high * 2 ^ count % 2 ^ 64 + over < 2 ^ 64
+  room_behind =
+      let d = 64 - count in
+      let r = high % 2 ^ d in
+      let e : d + count ≡ 64 = omega arith in
+      let e' : count + d ≡ 64 = omega arith in
+      let is : r * 2 ^ count ≡ high * 2 ^ count % 2 ^ 64 = rest high count d ∙ ap (λ j. high * 2 ^ count % 2 ^ j) e in
+      let up : (r + 1) * 2 ^ count ≤ 2 ^ d * 2 ^ count = mul-le (r + 1) (2 ^ count) (2 ^ d) (2 ^ count) (omega (arith, mod_below high (2 ^ d) (pow_pos d))) (omega arith) in
+      let all : 2 ^ d * 2 ^ count ≡ 2 ^ 64 = sym (pow-add 2 d count) ∙ ap (λ j. 2 ^ j) e in
+      let less : over < 2 ^ count = shr_below low count d (omega (arith, fits, ap (λ j. 2 ^ j) e')) in
+      omega (arith, is, up, all, less)
+
+  pub halves_behind : (high * 2 ^ count % 2 ^ 64 + over) * 2 ^ 64 + low * 2 ^ count % 2 ^ 64 ≡ (high * 2 ^ 64 + low) * 2 ^ count % 2 ^ 128
+  halves_behind =
+      let q = high * 2 ^ count / 2 ^ 64 in
+      let both = (high * 2 ^ count % 2 ^ 64 + over) * 2 ^ 64 + low * 2 ^ count % 2 ^ 64 in
+      let apart : (high * 2 ^ 64 + low) * 2 ^ count ≡ high * 2 ^ count * 2 ^ 64 + low * 2 ^ count = omega arith in
+      let whole : (high * 2 ^ 64 + low) * 2 ^ count ≡ q * 2 ^ 128 + both =
+      omega (arith, apart, shr_split (high * 2 ^ count) 64, shr_split (low * 2 ^ count) 64, scaled low count 64 few) in
+      let less : both < 2 ^ 128 = omega (arith, room_behind, mod_below (low * 2 ^ count) (2 ^ 64) (pow_pos 64)) in
+      sym (ap (λ n. n % 2 ^ 128) whole ∙ mod-mul-add q (2 ^ 128) both less)
 
 -- the address of the first number of a part
 module _ (steps block part padding : ℕ) (some : 0 < steps) (less : part < 64) (zeros : padding ≤ 6) where

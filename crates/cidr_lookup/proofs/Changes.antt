@@ -1,7 +1,8 @@
 -- The changes of a block: its numbers have the values that a search finds, and it has no other list.
 use Rattle.std.proofs.Common.{◌≡◌, refl, sym, ap, ap₂, subst, ◌∙◌, arith, inl, inr, ℕ, zero, suc, ◌+◌, ◌*◌, ◌-◌, ◌/◌, ◌%◌, ◌^◌, ◌<◌, ◌≤◌, List, [], ◌∷◌, length, map, get_or}
+use Rattle.std.proofs.Math.Nat.{mul_assoc}
 use Rattle.std.proofs.lemmas.Bool.{cases_eq, cases_lt}
-use Rattle.std.proofs.lemmas.Nat.{mod_below, pow_pos, shl-shr, shr-shr, shr_split}
+use Rattle.std.proofs.lemmas.Nat.{mod_below, mul-le, pow-add, pow_pos, shl-shr, shr-shr, shr_split}
 use Rattle.cidr_lookup.specs.Nodes.{AllHave, AreChanges, HasList, HaveBefore}
 use Rattle.cidr_lookup.specs.Searching.{AreOrdered, IsValueAt}
 use Rattle.cidr_lookup.proofs.Blocks.{in_block, of_block}
@@ -63,6 +64,23 @@ module _ (Has : (number value : ℕ) → Type 0) where
       shr_split (get_or changes i (0, 0)).0 32,
       shr_split (get_or changes k (0, 0)).0 32,
     )
+
+  -- a change lies between multiples of its block, so that it is none of theirs
+  pub list_long : (steps block value : ℕ) (changes : List (ℕ × ℕ)) → HasList Has steps block value changes → 82 < 6 * steps
+  unfolding AreChanges
+  list_long steps block value [] known = absurd (omega (arith, known.0))
+  list_long steps block value (change ∷ changes) known = elim (cases_lt 82 (6 * steps)) [
+    | inl lt ↦ lt
+    | inr le ↦
+        let s = 2 ^ (6 * steps) in
+        let m = change.0 * 2 ^ (82 - 6 * steps) in
+        let e : 82 - 6 * steps + 6 * steps ≡ 82 = omega (arith, le) in
+        let is : m * s ≡ change.0 * 2 ^ 82 = mul_assoc change.0 (2 ^ (82 - 6 * steps)) s ∙ ap (λ n. change.0 * n) (sym (pow-add 2 (82 - 6 * steps) (6 * steps)) ∙ ap (λ j. 2 ^ j) e) in
+        elim (cases_lt block m) [
+          | inl more ↦ absurd (omega (arith, mul-le (block + 1) s m s (omega (arith, more)) (omega arith), is, known.2.1))
+          | inr upto ↦ absurd (omega (arith, mul-le m s block s (omega (arith, upto)) (omega arith), is, known.2.0))
+        ]
+  ]
 
   -- a number has the value of the last change up to it
   found_has : (from end value : ℕ) (changes : List (ℕ × ℕ)) (number result : ℕ) → AreChanges Has from end value changes → from ≤ number → number < end

@@ -6,7 +6,7 @@ use Rattle.std.proofs.lemmas.Nat.{shl-shr, shr-shr, shr_split}
 use Rattle.cidr_lookup.specs.Nodes.{AreEntries, AllHave, HasList, IsNode, IsEntry, list, node, marks, runs}
 use Rattle.cidr_lookup.specs.Putting.{StopsBefore}
 use Rattle.cidr_lookup.specs.Searching.{IsListAt}
-use Rattle.cidr_lookup.proofs.Changes.{list_no_value, one_list}
+use Rattle.cidr_lookup.proofs.Changes.{list_long, list_no_value, one_list}
 use Rattle.cidr_lookup.proofs.Nodes.{run_of, same_node}
 
 -- ---- entries of several blocks
@@ -146,7 +146,7 @@ module _ (middle entries more : List ℕ) where
       omega (arith, low, high, shr_split (marks entries 64) 32)
 
   -- has the parts' entries
-  pub part_is : (part : ℕ) → part < 64 → (length middle + 1 < part_at whole (length middle) part) × (part_at whole (length middle) part < length whole)
+  pub part_is : (part : ℕ) → part < 64 → (part_at whole (length middle) part < length whole)
       × (get_or whole (part_at whole (length middle) part) 0 ≡ get_or entries part 0)
   part_is part l =
       let ones = count_ones (marks entries 64 / 2 ^ (63 - part)) in
@@ -159,7 +159,6 @@ module _ (middle entries more : List ℕ) where
       let upto : ones ≤ length (runs entries 64) = omega (arith, same, found.1) in
       let place : length middle + 1 + ones ≡ length middle + suc (suc c) = omega arith in
       let c_is : count_ones (marks entries 64 / 2 ^ (64 - 1 - part)) - 1 ≡ c = ap (λ n. n - 1) same in (
-        omega (arith, at),
         omega (arith, at, long),
         ap (λ i. get_or whole i 0) (at ∙ place) ∙ (behind (suc (suc c)) ∙ (get_or_append_left (runs entries 64) more 0 c (omega arith)
             ∙ (ap (λ i. get_or (runs entries 64) i 0) (sym c_is) ∙ found.2))),
@@ -170,17 +169,17 @@ module _ (Has : (number value : ℕ) → Type 0) where
   -- the parts of a node in these words lead on
   abbrev pub AreParts : (words : List ℕ) (IsOne : (block entry : ℕ) → Type 0) (block place : ℕ) → Type 0
   AreParts words IsOne block place = (part : ℕ) → part < 64
-      → (place + 1 < length words) × (part_at words place part < length words) × IsOne (block * 64 + part) (get_or words (part_at words place part) 0)
+      → (part_at words place part < length words) × IsOne (block * 64 + part) (get_or words (part_at words place part) 0)
 
   -- a list of the block stands in these words
   abbrev pub IsListed : (words : List ℕ) (steps block place : ℕ) → Type 0
   IsListed words steps block place = (value : ℕ) × (changes : List (ℕ × ℕ)) × HasList Has steps block value changes × IsListAt words place value changes
 
-  -- each number of the block is led to its value
-  unfoldable pub Leads : (words : List ℕ) (steps block entry : ℕ) → Type 0
-  Leads words zero block entry = AllHave Has zero block entry
-  Leads words (suc steps) block entry = AllHave Has (suc steps) block entry ⊎ ((place : ℕ) × (entry ≡ 2 ^ 31 + 2 * place + 1) × IsListed words (suc steps) block place)
-      ⊎ ((place : ℕ) × (entry ≡ 2 ^ 31 + 2 * place) × AreParts words (Leads words steps) block place)
+  -- each number of the block is led to its value, by nodes whose places are before the end and fall
+  unfoldable pub Leads : (words : List ℕ) (end steps block entry : ℕ) → Type 0
+  Leads words end zero block entry = AllHave Has zero block entry
+  Leads words end (suc steps) block entry = AllHave Has (suc steps) block entry ⊎ ((place : ℕ) × (entry ≡ 2 ^ 31 + 2 * place + 1) × IsListed words (suc steps) block place)
+      ⊎ ((place : ℕ) × (entry ≡ 2 ^ 31 + 2 * place) × (place < end) × AreParts words (Leads words place steps) block place)
 
   -- no list is that of the block
   abbrev pub HasNoList : (steps block : ℕ) → Type 0
@@ -245,69 +244,65 @@ module _ (Has : (number value : ℕ) → Type 0) where
       let front = all_grow (IsEntry Has steps) (grows steps) (block * 64) 64 before entries middle parts in
       (front.0 ++ node entries, all ∙ (ap (λ x. x ++ node entries) front.1 ∙ append_assoc before front.0 (node entries)))
 
-  pub leads : (words : List ℕ) (steps block : ℕ) (before : List ℕ) (entry : ℕ) (after more : List ℕ) → IsEntry Has steps block before entry after → words ≡ after ++ more
-      → Leads words steps block entry
+  pub leads : (words : List ℕ) (end steps block : ℕ) (before : List ℕ) (entry : ℕ) (after more : List ℕ) → IsEntry Has steps block before entry after → words ≡ after ++ more
+      → length after ≤ end + 1 → Leads words end steps block entry
   unfolding IsEntry Leads
-  leads words zero block before entry after more known all = known.0
-  leads words (suc steps) block before entry after more (inl known) all = inl known.0
-  leads words (suc steps) block before entry after more (inr (inl known)) all =
+  leads words end zero block before entry after more known all upto = known.0
+  leads words end (suc steps) block before entry after more (inl known) all upto = inl known.0
+  leads words end (suc steps) block before entry after more (inr (inl known)) all upto =
       inr (inl (length before, known.3, (known.0, known.1, known.2, record { front = before; back = more; all = all ∙ ap (λ x. x ++ more) known.4; here = refl })))
-  leads words (suc steps) block before entry after more (inr (inr (none, no_list, (entries, middle, parts, is, put)))) all =
+  leads words end (suc steps) block before entry after more (inr (inr (none, no_list, (entries, middle, parts, is, put)))) all upto =
       let whole_is : words ≡ middle ++ node entries ++ more = all ∙ ap (λ x. x ++ more) put in
-      let known : AreParts words (Leads words steps) block (length middle) = λ part l.
+      let known : AreParts words (Leads words (length middle) steps) block (length middle) = λ part l.
       let one = each (IsEntry Has steps) (grows steps) (block * 64) 64 before entries middle parts part l in
       let rest = one.2 ++ (node entries ++ more) in
       let to : words ≡ one.1 ++ rest = whole_is ∙ (append_assoc middle (node entries) more ∙ (ap (λ x. x ++ (node entries ++ more)) one.4 ∙ append_assoc one.1 one.2 (node entries ++ more))) in
-      let lead = leads words steps (block * 64 + part) one.0 (get_or entries part 0) one.1 rest one.3 to in
+      let lead = leads words (length middle) steps (block * 64 + part) one.0 (get_or entries part 0) one.1 rest one.3 to (omega (arith, ap length one.4, length-append one.1 one.2)) in
       let found = part_is middle entries more part l in
-      let W : List ℕ → Type 0 = λ ws. (length middle + 1 < length ws) × (part_at ws (length middle) part < length ws) × (get_or ws (part_at ws (length middle) part) 0 ≡ get_or entries part 0) in
-      let in_words = subst W (sym whole_is) (omega (arith, found.0, found.1), found.1, found.2) in
-      (in_words.0, in_words.1, subst (λ e. Leads words steps (block * 64 + part) e) (sym in_words.2) lead) in
-      inr (inr (length middle, is, known))
+      let W : List ℕ → Type 0 = λ ws. (part_at ws (length middle) part < length ws) × (get_or ws (part_at ws (length middle) part) 0 ≡ get_or entries part 0) in
+      let in_words = subst W (sym whole_is) found in
+      (in_words.0, subst (λ e. Leads words (length middle) steps (block * 64 + part) e) (sym in_words.1) lead) in
+      inr (inr (length middle, is, omega (arith, upto, ap length put, length-append middle (node entries)), known))
 
   -- a value is that of a number of the block
-  pub led : (words : List ℕ) (steps number entry : ℕ) → Leads words steps (number / 2 ^ (6 * steps)) entry → entry < 2 ^ 31 → Has number entry
+  pub led : (words : List ℕ) (end steps number entry : ℕ) → Leads words end steps (number / 2 ^ (6 * steps)) entry → entry < 2 ^ 31 → Has number entry
   unfolding Leads
-  led words zero number entry known low = known.1 number refl
-  led words (suc steps) number entry (inl known) low = known.1 number refl
-  led words (suc steps) number entry (inr (inl known)) low = absurd (omega (arith, known.1))
-  led words (suc steps) number entry (inr (inr known)) low = absurd (omega (arith, known.1))
+  led words end zero number entry known low = known.1 number refl
+  led words end (suc steps) number entry (inl known) low = known.1 number refl
+  led words end (suc steps) number entry (inr (inl known)) low = absurd (omega (arith, known.1))
+  led words end (suc steps) number entry (inr (inr known)) low = absurd (omega (arith, known.1))
 
   -- an odd entry leads to a list
-  pub list_of : (words : List ℕ) (steps block entry place : ℕ) → Leads words steps block entry → 2 ^ 31 ≤ entry → entry % 2 ≡ 1 → place ≡ (entry - 2 ^ 31) / 2 → IsListed words steps block place
+  pub list_of : (words : List ℕ) (end steps block entry place : ℕ) → Leads words end steps block entry → 2 ^ 31 ≤ entry → entry % 2 ≡ 1 → place ≡ (entry - 2 ^ 31) / 2 → IsListed words steps block place
   unfolding Leads
-  list_of words zero block entry place known high odd is = absurd (omega (arith, known.0))
-  list_of words (suc steps) block entry place (inl known) high odd is = absurd (omega (arith, known.0))
-  list_of words (suc steps) block entry place (inr (inl known)) high odd is =
+  list_of words end zero block entry place known high odd is = absurd (omega (arith, known.0))
+  list_of words end (suc steps) block entry place (inl known) high odd is = absurd (omega (arith, known.0))
+  list_of words end (suc steps) block entry place (inr (inl known)) high odd is =
       let e : known.0 ≡ place = omega (arith, known.1) in
       subst (λ p. IsListed words (suc steps) block p) e known.2
-  list_of words (suc steps) block entry place (inr (inr known)) high odd is = absurd (omega (arith, known.1))
+  list_of words end (suc steps) block entry place (inr (inr known)) high odd is = absurd (omega (arith, known.1))
 
-  -- a node leads on by the next six bits
-  abbrev pub NextOf : (words : List ℕ) (number place rest : ℕ) → Type 0
-  NextOf words number place rest = (place + 1 < length words) × (part_at words place (number / 2 ^ (6 * rest) % 64) < length words)
-      × Leads words rest (number / 2 ^ (6 * rest)) (get_or words (part_at words place (number / 2 ^ (6 * rest) % 64)) 0)
+  -- a node leads on by the next six bits, as an odd entry does nowhere where no list is
+  abbrev pub NextOf : (words : List ℕ) (end number place rest : ℕ) → Type 0
+  NextOf words end number place rest = (place < end) × (part_at words place (number / 2 ^ (6 * rest) % 64) < length words)
+      × Leads words place rest (number / 2 ^ (6 * rest)) (get_or words (part_at words place (number / 2 ^ (6 * rest) % 64)) 0)
 
-  pub some_left : (words : List ℕ) (steps number entry : ℕ) → Leads words steps (number / 2 ^ (6 * steps)) entry → 2 ^ 31 ≤ entry → 0 < steps
+  pub next : (words : List ℕ) (end steps number entry place : ℕ) → Leads words end steps (number / 2 ^ (6 * steps)) entry → 2 ^ 31 ≤ entry → (entry % 2 ≡ 1 → 6 * steps ≤ 82) → place ≡ (entry - 2 ^ 31) / 2
+      → (rest : ℕ) × (steps ≡ rest + 1) × NextOf words end number place rest
   unfolding Leads
-  some_left words zero number entry known high = absurd (omega (arith, known.0))
-  some_left words (suc steps) number entry known high = omega arith
-
-  pub next : (words : List ℕ) (steps number entry place : ℕ) → Leads words steps (number / 2 ^ (6 * steps)) entry → 2 ^ 31 ≤ entry → (entry % 2 ≡ 1 → ⊥) → place ≡ (entry - 2 ^ 31) / 2
-      → (rest : ℕ) × (steps ≡ rest + 1) × NextOf words number place rest
-  unfolding Leads
-  next words zero number entry place known high even at = absurd (omega (arith, known.0))
-  next words (suc steps) number entry place (inl known) high even at = absurd (omega (arith, known.0))
-  next words (suc steps) number entry place (inr (inl known)) high even at = absurd (even (omega (arith, known.1)))
-  next words (suc steps) number entry place (inr (inr known)) high even at =
+  next words end zero number entry place known high short at = absurd (omega (arith, known.0))
+  next words end (suc steps) number entry place (inl known) high short at = absurd (omega (arith, known.0))
+  next words end (suc steps) number entry place (inr (inl (at, is, (value, changes, known, here)))) high short e =
+      absurd (omega (arith, short (omega (arith, is)), list_long Has (suc steps) (number / 2 ^ (6 * suc steps)) value changes known))
+  next words end (suc steps) number entry place (inr (inr known)) high short at =
       let q = number / 2 ^ (6 * steps) in
       let six : 6 * steps + 6 ≡ 6 * suc steps = omega arith in
       let up : number / 2 ^ (6 * suc steps) ≡ q / 2 ^ 6 = ap (λ j. number / 2 ^ j) (sym six) ∙ sym (shr-shr number (6 * steps) 6) in
       let is : number / 2 ^ (6 * suc steps) * 64 + q % 64 ≡ q = omega (arith, up, shr_split q 6) in
       let e : known.0 ≡ place = omega (arith, known.1) in
-      let parts = subst (λ p. AreParts words (Leads words steps) (number / 2 ^ (6 * suc steps)) p) e known.2 in
+      let parts = subst (λ p. AreParts words (Leads words p steps) (number / 2 ^ (6 * suc steps)) p) e known.3 in
       let here = parts (q % 64) (omega arith) in
-      (steps, omega arith, (here.0, here.1, subst (λ b. Leads words steps b (get_or words (part_at words place (q % 64)) 0)) is here.2))
+      (steps, omega arith, (omega (arith, e, known.2), here.0, subst (λ b. Leads words place steps b (get_or words (part_at words place (q % 64)) 0)) is here.1))
 
   -- ---- the words are unique
   module _ (one_value : (number value value' : ℕ) → Has number value → Has number value' → value ≡ value') where

@@ -1,5 +1,5 @@
 //! Addresses by their numbers.
-ghost use Rattle.std.specs.Prelude.{◌≡◌, ℕ, ◌+◌, ◌*◌, ◌/◌, ◌%◌, ◌^◌, ◌<◌, ◌≤◌};
+ghost use Rattle.std.specs.Prelude.{◌≡◌, ◌≢◌, ℕ, ◌+◌, ◌-◌, ◌*◌, ◌/◌, ◌%◌, ◌^◌, ◌<◌, ◌≤◌};
 ghost use Rattle.cidr_lookup.specs.Tables.{ipv4_steps};
 
 /// The number of an address, as it lies in an array: a `u32` of IPv4 or [`Ipv6Halves`](crate::Ipv6Halves) of IPv6, and the bytes
@@ -41,11 +41,12 @@ pub trait Address: Copy {
         ensures value { result ≡ padding }
         ensures few { result ≤ 6 };
 
-    /// How many bits it has with its zeros: 36 or 130.
+    /// How many bits it has with its zeros: 36 or 130, so that the first ones, before steps of six bits, are never just 32.
     fn padded_width() -> u32
         ensures value { result ≡ width + padding }
         ensures long { 32 < result }
-        ensures fits { result ≤ 130 };
+        ensures fits { result ≤ 130 }
+        ensures parts { result % 6 ≢ 2 };
 
     /// How many steps of six bits the table of so many networks has: those that are best, of at most 2^20 entries.
     fn steps_for(networks: usize) -> u32
@@ -53,16 +54,23 @@ pub trait Address: Copy {
         ensures some { 6 * result < width + padding }
         ensures few { width + padding ≤ 6 * result + 20 };
 
-    /// The number of the bits before the last `shift`, of which there are at most 64.
+    /// The number of the bits before the last `shift`, of which there are at most 32.
     fn block(self, shift: u32) -> usize
         requires some { shift < width + padding }
-        requires few { width + padding ≤ shift + 64 }
+        requires few { width + padding ≤ shift + 32 }
         ensures { result ≡ value self * 2 ^ padding / 2 ^ shift };
 
-    /// The number of the six bits before the last `shift`.
-    fn digit(self, shift: u32) -> u32
-        requires { shift < width + padding }
-        ensures { result ≡ value self * 2 ^ padding / 2 ^ shift % 64 };
+    /// The address that has the bits behind the first ones, of which there are 1 to 31, and zeros behind them.
+    fn behind(self, count: u32) -> Self
+        requires some { 0 < count }
+        requires few { count < 32 }
+        ensures { value result ≡ value self * 2 ^ count % 2 ^ width };
+
+    /// The number of the first six bits.
+    fn part(self) -> u32
+        ensures value { result ≡ value self / 2 ^ (width - 6) }
+        ensures fits { result < 64 }
+        ensures wide { 6 ≤ width };
 
     /// The number of the 32 bits before the last 82, by which lists tell addresses: the bits 17 to 48 in IPv6, and 0 in IPv4.
     fn list_word(self) -> u32
@@ -112,26 +120,21 @@ impl Address for u32 {
 
     #[inline(always)]
     fn block(self, shift: u32) -> usize {
-        (padded(self) >> shift) as usize
+        (self >> (shift - 4)) as usize
     }
 
     #[inline(always)]
-    fn digit(self, shift: u32) -> u32 {
-        ((padded(self) >> shift) % 64) as u32
+    fn behind(self, count: u32) -> u32 {
+        self << count
+    }
+
+    #[inline(always)]
+    fn part(self) -> u32 {
+        self >> 26
     }
 
     #[inline(always)]
     fn list_word(self) -> u32 {
-        padded(self);
         0
     }
-}
-
-/// The number of an IPv4 address with its zeros.
-#[inline(always)]
-fn padded(address: u32) -> u64
-    ensures value { result ≡ address * 2 ^ 4 }
-    ensures fits { result < 2 ^ 36 }
-{
-    u64::from(address) * 16
 }

@@ -314,7 +314,23 @@ fn part_of_next<A: Address>(starts: &[A], range: usize, steps: u32, block: u128)
     if is_whole(starts, range, steps, block) {
         return PARTS;
     }
-    starts[range + 1].digit(6 * (steps - 1)) as usize
+    part_of(starts, range + 1, steps)
+}
+
+/// The part of its block in which a range begins.
+#[inline(always)]
+fn part_of<A: Address>(starts: &[A], range: usize, steps: u32) -> usize
+    requires range { range < length starts.now }
+    requires some { 0 < steps }
+    requires wide { A.width + A.padding ≤ 130 }
+    requires steps { 6 * steps < A.width + A.padding }
+    ensures { result ≡ slice_index_or (map A.value starts.now) range 0 * 2 ^ A.padding / 2 ^ (6 * (steps - 1)) % 64 }
+{
+    let number = starts[range].number();
+    if steps == 1 {
+        return (((number % 64) << A::padding()) % 64) as usize;
+    }
+    ((number >> (6 * (steps - 1) - A::padding())) % 64) as usize
 }
 
 /// The last range that begins at most with the first number of a part of a block, from one on that does.

@@ -61,8 +61,13 @@ impl Address for Ipv6Halves {
     }
 
     #[inline(always)]
-    fn digit(self, shift: u32) -> u32 {
-        digit(self.number(), shift)
+    fn behind(self, count: u32) -> Ipv6Halves {
+        behind(self.high, self.low, count)
+    }
+
+    #[inline(always)]
+    fn part(self) -> u32 {
+        first_part(self.high, self.low)
     }
 
     #[inline(always)]
@@ -81,25 +86,32 @@ fn first_bits(high: u64, _low: u64, shift: u32) -> u64
     high >> (shift - 66)
 }
 
+/// The bits behind the first ones, and zeros behind them.
+#[inline(always)]
+fn behind(high: u64, low: u64, count: u32) -> Ipv6Halves
+    requires some { 0 < count }
+    requires few { count < 32 }
+    ensures { result.high * 2 ^ 64 + result.low ≡ (high * 2 ^ 64 + low) * 2 ^ count % 2 ^ 128 }
+{
+    Ipv6Halves {
+        high: (high << count) + (low >> (64 - count)),
+        low: low << count,
+    }
+}
+
+/// The first six bits.
+#[inline(always)]
+fn first_part(high: u64, _low: u64) -> u32
+    ensures value { result ≡ (high * 2 ^ 64 + _low) / 2 ^ 122 }
+    ensures fits { result < 64 }
+{
+    (high >> 58) as u32
+}
+
 /// The 32 bits before the last 82, which has the lower half and 16 bits of the higher one.
 #[inline(always)]
 fn list_bits(high: u64, _low: u64) -> u32
     ensures { result ≡ (high * 2 ^ 64 + _low) * 2 ^ 2 / 2 ^ 82 % 2 ^ 32 }
 {
     ((high >> 16) % (1 << 32)) as u32
-}
-
-/// The six bits before the last `shift` of a number with two zeros behind it.
-#[inline(always)]
-fn digit(number: u128, shift: u32) -> u32
-    requires { shift < 130 }
-    ensures { result ≡ number * 2 ^ 2 / 2 ^ shift % 64 }
-{
-    if shift == 0 {
-        return (number % 16) as u32 * 4;
-    }
-    if shift == 1 {
-        return (number % 32) as u32 * 2;
-    }
-    ((number >> (shift - 2)) % 64) as u32
 }

@@ -16,6 +16,9 @@ pub(crate) const PLACE: u32 = 1 << 31;
 /// How many steps an address of 128 bits may take.
 const MOST_STEPS: u32 = 21;
 
+/// How many of the last bits of a number are zeros where a change of a list is. Shorter numbers have no lists.
+const LISTS: u32 = 82;
+
 /// The index of the longest of the keys that have an address, or `None` where none has it: the longest match of a
 /// forwarding table (RFC 1812, 5.2.4.3). The keys are not read.
 ///
@@ -63,7 +66,7 @@ fn found_value<A: Address, T: Words>(first: &T, words: &T, steps: u32, address: 
     if shift >= width {
         return 0;
     }
-    if width - shift > 64 {
+    if width - shift > 31 {
         return 0;
     }
     let at = address.block(shift);
@@ -71,26 +74,25 @@ fn found_value<A: Address, T: Words>(first: &T, words: &T, steps: u32, address: 
         return 0;
     }
     let mut entry = first.word(at);
-    let mut left = shift;
+    let mut rest = address.behind(width - shift);
+    let mut end = words.len().saturating_sub(1);
     while entry >= PLACE {
-        if left < 6 {
-            return 0;
-        }
-        left -= 6;
         let place = ((entry - PLACE) / 2) as usize;
-        if entry % 2 == 1 {
+        if width > LISTS && entry % 2 == 1 {
             return listed(words, place, address.list_word());
         }
-        if place + 1 >= words.len() {
+        if place >= end {
             return 0;
         }
+        end = place;
         let marks = u64::from(words.word(place + 1)) * (1 << 32) + u64::from(words.word(place));
-        let upto = marks >> (63 - address.digit(left));
+        let upto = marks >> (63 - rest.part());
         let next = place + 1 + upto.count_ones() as usize;
         if next >= words.len() {
             return 0;
         }
         entry = words.word(next);
+        rest = rest.behind(6);
     }
     entry
 }
