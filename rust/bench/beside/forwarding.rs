@@ -425,8 +425,8 @@ fn plain<A: Address, W: Way<A>>(way: &W, asked: &[A]) -> u32 {
     asked.iter().fold(0, |sum, it| mixed(sum, way.find(*it)))
 }
 
-/// The same, compiled for a processor that counts bits in one instruction.
-#[target_feature(enable = "popcnt,bmi1,bmi2")]
+/// The same, compiled for processors that count bits by one instruction, as what it is compared with is.
+#[target_feature(enable = "popcnt")]
 unsafe fn counting<A: Address, W: Way<A>>(way: &W, asked: &[A]) -> u32 {
     let mut sum = 0;
     for it in asked {
@@ -455,7 +455,7 @@ fn time<A: Address, W: Way<A>>(name: &str, rows: &[Network], kinds: &[(&str, Vec
         assert!(asked.iter().zip(wanted).all(|(it, value)| way.find(*it) == *value), "{name}, {kind}: a value differs");
         let (time, sum) = least(asked, |asked| plain(&way, asked));
         println!("{name}\t{kind}\t{time:.1}\t{sum}");
-        if counts && std::arch::is_x86_feature_detected!("popcnt") && std::arch::is_x86_feature_detected!("bmi2") {
+        if counts && std::arch::is_x86_feature_detected!("popcnt") {
             let (time, sum) = least(asked, |asked| unsafe { counting(&way, asked) });
             println!("{name} with popcnt\t{kind}\t{time:.1}\t{sum}");
         }
