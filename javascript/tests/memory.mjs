@@ -69,32 +69,17 @@ function run(pages) {
     }
     return refused;
 }
-/** What happens with so many pages more: how many calls are refused, and how large the memory is then. */
-const seen = new Map();
-function at(pages) {
-    if (!seen.has(pages)) {
-        let here = 1;
-        try {
-            here = run(pages);
-        } catch (error) {
-            if (!(error instanceof errors.NoMemoryError) || pages > 8) throw error; // not even what is small has room
-        }
-        seen.set(pages, { here, told: `${here} ${memory.buffer.byteLength}` });
+// Where the memory has fewer pages in the end than it may have, all happens the same way with any number between: what is refused wanted
+// more than it may have. So the next number to try is one less than it has.
+let growths = 0, refused = 0;
+for (let more = 1 << 12; more >= 0; more = memory.buffer.byteLength / 65536 - least - 1, growths++) {
+    try {
+        refused += run(more);
+    } catch (error) {
+        if (!(error instanceof errors.NoMemoryError) || more > 8) throw error; // not even what is small has room
+        refused++;
     }
-    return seen.get(pages);
+    if (growths === 0 && refused) throw new Error("something is refused where there is room");
 }
-// where one page more changes nothing, the same growth is refused: from each number of pages on to the next that does
-let changes = 0;
-for (let pages = 0; at(pages).here > 0; changes++) {
-    let step = 1;
-    while (at(pages + step).told === at(pages).told) step *= 2;
-    let low = pages + (step >> 1), high = pages + step;
-    while (high - low > 1) {
-        const middle = (low + high) >> 1;
-        if (at(middle).told === at(pages).told) low = middle;
-        else high = middle;
-    }
-    pages = high;
-}
-const refused = [...seen.values()].reduce((sum, { here }) => sum + here, 0);
-console.log(`memory refused at each of ${changes} growths, in ${seen.size} instances: ${refused} calls, and right answers behind each`);
+if (growths < 20 || refused < 100) throw new Error(`refused at ${growths} growths, ${refused} calls`);
+console.log(`memory refused at each of ${growths - 1} growths: ${refused} calls, and right answers behind each`);
