@@ -30,7 +30,7 @@ PLAIN = re.compile(rf"@[\w.]+ = private (?:unnamed_addr )?constant \[\d+ x i8\] 
 
 
 def retargeted(line):
-    """One line of the module."""
+    """One line of the module, or None where its form is not known."""
     if line.startswith("target datalayout"):
         return f'target datalayout = "{LAYOUT}"'
     if line.startswith("target triple"):
@@ -66,4 +66,5 @@ def main():
             out.write(made + "\n")
 
 
-main()
+if __name__ == "__main__":
+    main()

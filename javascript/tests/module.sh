@@ -15,21 +15,26 @@ ln -s "$clang" "$room/wasm-ld"
     --export={malloc,free,rattle_alloc,rattle_realloc,rattle_dealloc,__ashlti3,__lshrti3,__multi3}
 node "$(dirname "$here")/tests/module.mjs" "$room/parts.wasm"
 
-# refused LINE: whether retarget.py ends at a line of a module.
-refused() {
-    printf 'target triple = "x86_64-unknown-linux-gnu"\n%s\n' "$1" >"$room/in.ll"
-    ! python3 "$here/retarget.py" "$room/in.ll" "$room/out.ll" 2>/dev/null || { echo "retarget.py takes: $1"; exit 1; }
-}
-refused '  %r1 = alloca { i8, ptr }, align 8'
-refused '  %r1 = alloca [2 x ptr], align 8'
-refused '  %r1 = load { ptr, ptr }, ptr %r0, align 8'
-refused '  %r1 = load { i8, ptr }, ptr %r0, align 4'
-refused '  %r1 = load [2 x ptr], ptr %r0, align 8'
-refused '  store { i8, ptr } %r1, ptr %r0, align 8'
-refused '  store { ptr, i32 } %r1, ptr %r0, align 8'
-refused '  %r1 = getelementptr { i8, ptr }, ptr %r0, i64 1'
-refused '  %r1 = getelementptr ptr, ptr %r0, i64 1'
-refused '  %r1 = inttoptr i64 %r0 to ptr'
-refused '  %r1 = call i64 asm "nop", ""()'
-refused '@static.1 = private constant { i8, ptr } { i8 1, ptr @static.0 }'
-refused '@static.1 = private constant [2 x ptr] [ptr @static.0, ptr @static.0]'
+# The forms of lines at which retarget.py ends.
+cat >"$room/refused" <<'LINES'
+  %r1 = alloca { i8, ptr }, align 8
+  %r1 = alloca [2 x ptr], align 8
+  %r1 = load { ptr, ptr }, ptr %r0, align 8
+  %r1 = load { i8, ptr }, ptr %r0, align 4
+  %r1 = load [2 x ptr], ptr %r0, align 8
+  store { i8, ptr } %r1, ptr %r0, align 8
+  store { ptr, i32 } %r1, ptr %r0, align 8
+  %r1 = getelementptr { i8, ptr }, ptr %r0, i64 1
+  %r1 = getelementptr ptr, ptr %r0, i64 1
+  %r1 = inttoptr i64 %r0 to ptr
+  %r1 = call i64 asm "nop", ""()
+@static.1 = private constant { i8, ptr } { i8 1, ptr @static.0 }
+@static.1 = private constant [2 x ptr] [ptr @static.0, ptr @static.0]
+LINES
+head -n 1 "$room/refused" >"$room/in.ll"
+! python3 "$here/retarget.py" "$room/in.ll" "$room/out.ll" 2>/dev/null || { echo "retarget.py goes on behind a line that it does not know"; exit 1; }
+PYTHONPATH=$here python3 -c '
+import sys
+from retarget import retargeted
+taken = [line for line in map(str.rstrip, sys.stdin) if retargeted(line) is not None]
+sys.exit("".join(f"retarget.py takes: {line}\n" for line in taken) or 0)' <"$room/refused"

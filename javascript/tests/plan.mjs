@@ -4,6 +4,7 @@ import { pathToFileURL } from "node:url";
 import { boxes, hilbert, placed, placedLike, upToLength } from "../plan/curve.js";
 import { Reader, applied, isTable, lastUpTo, lineChange, linesOf, plainText, within } from "../plan/compute.js";
 
+Error.stackTraceLimit = 0; // 40,000 lines are refused
 const { load } = await import(`${pathToFileURL(process.argv[2])}/pcidr.js`);
 const pcidr = await load();
 const { Network, NetworkList } = pcidr, wordsOf = (list) => new Uint32Array(list.toValues().buffer);

@@ -19,26 +19,22 @@ function numbers(seed) {
         return ((t ^ (t >>> 14)) >>> 0) % below;
     };
 }
-const quarter = (n) => [24n, 16n, 8n, 0n].map((shift) => (n >> shift) & 255n).join(".");
+const quarter = (high, low) => `${high >> 8}.${high & 255}.${low >> 8}.${low & 255}`;
 function string(next) {
-    const width = next(2) === 0 ? 32 : 128;
-    let n = 0n;
-    for (let i = 0; i < width / 16; i++) {
-        const kinds = [0, next(65536), next(65536) & next(65536), next(16)];
-        n = (n << 16n) | BigInt(kinds[next(4)]);
-    }
-    const length = next(width + 1), behind = BigInt(width - length);
-    if (next(100) < 85) n = (n >> behind) << behind;
+    const width = next(2) === 0 ? 32 : 128, groups = [];
+    for (let i = 0; i < width / 16; i++) groups.push([0, next(65536), next(65536) & next(65536), next(16)][next(4)]);
+    const length = next(width + 1);
+    if (next(100) < 85) groups.forEach((group, i) => { groups[i] = group & ~(0xffff >> Math.max(0, Math.min(16, length - 16 * i))); });
     let s;
     if (width === 32) {
-        s = quarter(n);
+        s = quarter(...groups);
     } else {
-        const kind = next(5), groups = Array.from({ length: 8 }, (_, i) => (n >> BigInt(112 - 16 * i)) & 0xffffn);
+        const kind = next(5);
         const shown = groups.map((group) => (kind === 0 ? group.toString(16).padStart(4, "0") : kind === 1 ? group.toString(16).toUpperCase() : group.toString(16)));
-        if (next(8) === 0) shown.splice(6, 2, quarter(n));
+        if (next(8) === 0) shown.splice(6, 2, quarter(groups[6], groups[7]));
         const begin = next(8);
         let end = begin;
-        while (end < 8 && groups[end] === 0n && end < shown.length) end++;
+        while (end < 8 && groups[end] === 0 && end < shown.length) end++;
         s = end > begin && kind && (shown.length === 8 || end <= 6) ? `${shown.slice(0, begin).join(":")}::${shown.slice(end).join(":")}` : shown.join(":");
     }
     if (next(100) < 85) s += `/${next(50) === 0 && length < 100 ? "0" : ""}${length}`;
