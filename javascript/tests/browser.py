@@ -1,10 +1,11 @@
 #!/usr/bin/env python3
 """browser.py OUT: the package in Chromium: without a policy, under one that allows WebAssembly and one that does not, and in a
-Worker. Without Chromium or its driver it says so."""
+Worker; and then the page. Without Chromium it says so."""
 import pathlib
 import sys
 
 import driver
+import page
 
 POLICIES = {"/none": None, "/strict": "script-src 'self'", "/wasm": "default-src 'self'; script-src 'self' 'wasm-unsafe-eval'; worker-src 'self'"}
 LOAD = """const { load } = await import('/pcidr/pcidr.js');
@@ -22,30 +23,37 @@ return await new Promise((done, wrong) => {
 });"""
 
 
+def tried(browser, folder):
+    """The package in that folder; how many policies it does not meet."""
+    (folder / "worker.js").write_text(WORK)
+    base, wrong = driver.served(str(folder), POLICIES), 0
+    for path in POLICIES:
+        browser.go(base + path)
+        loaded, worked = browser.wait(LOAD), None
+        if path == "/strict":
+            good = "unsafe-eval" in loaded.get("error", "")
+        else:
+            worked = browser.wait(ASK)
+            good = loaded == {"ok": "10.0.0.0/8 2001:db8::/32"} and worked == {"ok": "10.0.0.0/8"}
+        if not good:
+            wrong += 1
+            print(f"{path}: not as wanted: {loaded}, {worked}")
+    (folder / "worker.js").unlink()
+    print(f"the package in Chromium {browser.version}: {wrong} of {len(POLICIES)} policies not as wanted")
+    return wrong
+
+
 def main():
     folder = pathlib.Path(sys.argv[1]).resolve()
-    if not (driver.CHROMIUM and driver.DRIVER):
-        print("javascript: there is no chromium with chromedriver: the package was not tried in a browser")
+    if not driver.CHROMIUM:
+        print("javascript: there is no chromium: package and page were not tried in a browser")
         return 0
-    (folder / "worker.js").write_text(WORK)
-    base = driver.served(str(folder), POLICIES)
-    browser, wrong = driver.Browser(), 0
+    browser = driver.Browser(1000, 640)  # a larger window costs more of each picture
     try:
-        for path in POLICIES:
-            browser.go(base + path)
-            loaded, worked = browser.wait(LOAD), None
-            if path == "/strict":
-                good = "unsafe-eval" in loaded.get("error", "")
-            else:
-                worked = browser.wait(ASK)
-                good = loaded == {"ok": "10.0.0.0/8 2001:db8::/32"} and worked == {"ok": "10.0.0.0/8"}
-            if not good:
-                wrong += 1
-                print(f"{path}: not as wanted: {loaded}, {worked}")
-        print(f"the package in Chromium {browser.version}: {wrong} of {len(POLICIES)} policies not as wanted")
+        wrong = tried(browser, folder) + page.tried(browser, (folder / "plan.html").as_uri())
+        print(f"Chromium took {browser.seconds():.0f} s of processor time")
     finally:
         browser.close()
-        (folder / "worker.js").unlink()
     return wrong > 0
 
 

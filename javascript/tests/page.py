@@ -1,12 +1,7 @@
-#!/usr/bin/env python3
-"""page.py PLAN.html: the page in Chromium, by clicks and keys. Without Chromium or its driver it says so."""
+"""page.py: the page in Chromium, by clicks and keys, for browser.py."""
 import base64
 import itertools
 import pathlib
-import random
-import sys
-
-import driver
 
 wrong = 0
 
@@ -39,13 +34,13 @@ class Page:
         """The text of a plan that the box shows whole."""
         return self.browser.run("return document.getElementById('text').value")
 
-    def write(self, text):
-        """A new text, as pasted into the box after all of it was chosen."""
+    def write(self, text=None, script="arguments[0]"):
+        """A new text, or what a script has, as pasted into the box after all of it was chosen."""
         self.push("#new")
-        self.browser.run("""const box = document.getElementById('text'), data = new DataTransfer(); box.focus();
-            data.setData('text/plain', arguments[0]);
+        self.browser.run(f"const text = {script};" + """const box = document.getElementById('text'), data = new DataTransfer(); box.focus();
+            data.setData('text/plain', text);
             if (box.dispatchEvent(new ClipboardEvent('paste', { clipboardData: data, cancelable: true }))) {
-                box.value = arguments[0];
+                box.value = text;
                 box.dispatchEvent(new Event('input'));
             }""", text)
         self.ready()
@@ -212,45 +207,24 @@ def wrong_lines(page):
     is_so(refused == "large.txt has 100 MiB; the page reads files of at most 16", refused)
 
 
+LINES = """let state = 1;
+    const below = (n) => (state = (state * 48271) % 2147483647) % n;
+    window.lines = Array.from({ length: 100000 }, (_, i) => {
+        const name = `site-${below(40)} lan ${i}`;
+        if (below(4) === 0) return `2001:db8:${below(65536).toString(16)}:${below(65536).toString(16)}::/64 ${name}`;
+        const length = [20, 22, 23, 24, 24, 24, 25, 26, 28, 29, 30, 32][below(12)], n = below(1 << 24) >> (32 - length) << (32 - length);
+        return `10.${n >> 16}.${n >> 8 & 255}.${n & 255}/${length} ${name}`;
+    })"""
+
+
 def large_plan(page):
-    seed, lines = random.Random(1), []
-    for i in range(100000):
-        if seed.random() < 0.75:
-            length = seed.choice((20, 22, 23, 24, 24, 24, 25, 26, 28, 29, 30, 32))
-            n = (10 << 24 | seed.randrange(1 << 24)) >> (32 - length) << (32 - length)
-            lines.append(f"{n >> 24}.{n >> 16 & 255}.{n >> 8 & 255}.{n & 255}/{length} site-{seed.randrange(40)} lan {i}")
-        else:
-            lines.append(f"2001:db8:{seed.randrange(65536):x}:{seed.randrange(65536):x}::/64 site-{seed.randrange(40)} lan {i}")
-    # while a Worker reads, the page tells how far it is, by its bar and in words, and goes on
+    browser = page.browser
+    browser.run(LINES)
+    # cancel, while a Worker has read some lines of a text: nothing comes of it, and the map, the lists and look-ups are of the text before
     page.push("#new")
-    page.browser.run("""const $ = (id) => document.getElementById(id);
-        window.seen = [];
-        window.ticks = 0;
-        window.ticking = setInterval(() => { if (!$('work').hidden) window.ticks++; }, 5);
-        new MutationObserver(() => window.seen.push([$('work').hidden, $('progress').value, $('status').textContent])).observe($('status'), { childList: true })""")
-    page.write("\n".join(lines))
-    is_so(page.text("#status").startswith("100,000 networks"), page.text("#status"))
-    seen, ticks = page.browser.run("clearInterval(window.ticking); return [window.seen.filter(([isHidden]) => !isHidden), window.ticks]")
-    bars, words = [bar for _, bar, _ in seen], [word for _, _, word in seen]
-    read = [int(word.split()[1].replace(",", "")) for word in words if word.startswith("reading: ")]
-    is_so(len(read) > 5 and read == sorted(set(read)) and 0 < read[0] and read[-1] < 100000, f"the lines that a Worker tells it has read: {read}")
-    is_so(len(bars) > 5 and bars == sorted(set(bars)) and 0 < bars[0] and bars[-1] < 1, f"the bar of a Worker: {bars}")
-    is_so(words[:1] == [f"reading: {read[0] if read else 0:,} of 100,000 lines"] and words[-1:] == ["sorting the rows of 100,000 lines"], f"what is told while a Worker reads: {words[:1]} {words[-1:]}")
-    is_so(ticks > 3, f"the page goes on while a Worker reads: {ticks} ticks of a clock")
-    changes = []
-    for count in ("100,001", "100,002", "100,003"):
-        before = page.browser.seconds()
-        page.press("f")
-        changes.append(page.browser.seconds() - before)
-        is_so(page.text("#status").startswith(f"{count} networks"), page.text("#status"))
+    page.push("#example")
     looked = page.ask("10.20.17.9")
-    took = page.browser.run("""document.getElementById('asked').value = '10.20.17.9';
-        const begin = performance.now(); document.getElementById('find').requestSubmit(); return performance.now() - begin""")
-    colours, share = page.picture()
-    is_so(colours > 8 and share < 0.9, f"the map of 100,000 rows: {colours} colours, {share:.2f} of one")
-    print(f"the page with 100,000 rows: a change {changes[0]:.1f} s of processor time at first, then {min(changes):.2f}; a look-up with all that is shown {took:.0f} ms")
-    # cancel, while a Worker has read some lines of another text: nothing comes of it, and the map, the lists and look-ups are of the text before
-    answer = page.browser.wait("""const $ = (id) => document.getElementById(id), box = $('text'), data = new DataTransfer(), seen = [];
+    answer = browser.wait("""const $ = (id) => document.getElementById(id), box = $('text'), data = new DataTransfer(), seen = [];
         const cancelled = new Promise((done) => {
             const watch = new MutationObserver(() => {
                 seen.push($('status').textContent);
@@ -261,24 +235,52 @@ def large_plan(page):
             });
             watch.observe($('status'), { childList: true });
         });
-        data.setData('text/plain', args[0]);
+        data.setData('text/plain', window.lines.join('\\n'));
         box.focus();
         box.select();
         box.dispatchEvent(new ClipboardEvent('paste', { clipboardData: data, cancelable: true }));
         await cancelled;
         await new Promise((done) => setTimeout(done, 700));
-        return [seen, $('work').hidden, $('status').textContent, document.documentElement.dataset.state, $('tab-plan').textContent]""", "\n".join(reversed(lines)))["ok"]
+        return [seen, $('work').hidden, $('status').textContent, document.documentElement.dataset.state, $('tab-plan').textContent]""")["ok"]
     is_so(all(word.startswith("reading: ") for word in answer[0][:3]) and answer[0][3:5] == [False, True], f"what is told before it is cancelled: {answer[0]}")
-    is_so(answer[1:] == [True, "cancelled: the map is of the text before", "ready", "Plan 100,003"], answer[1:])
+    is_so(answer[1:] == [True, "cancelled: the map is of the text before", "ready", "Plan 22"], answer[1:])
     is_so(page.ask("10.20.17.9") == looked, f"a look-up after it is cancelled: {page.text('#status')}")
     page.press("u")
-    is_so(page.text("#status").startswith("100,003 networks"), f"undone after it was cancelled: {page.text('#status')}")
+    is_so(page.text("#status").startswith("22 networks"), f"undone after it was cancelled: {page.text('#status')}")
+    # while a Worker reads, the page tells how far it is, by its bar and in words, and goes on
+    page.push("#new")
+    browser.run("""const $ = (id) => document.getElementById(id);
+        window.seen = [];
+        window.ticks = 0;
+        window.ticking = setInterval(() => { if (!$('work').hidden) window.ticks++; }, 5);
+        new MutationObserver(() => window.seen.push([$('work').hidden, $('progress').value, $('status').textContent])).observe($('status'), { childList: true })""")
+    page.write(script="window.lines.join('\\n')")
+    is_so(page.text("#status").startswith("100,000 networks"), page.text("#status"))
+    seen, ticks = browser.run("clearInterval(window.ticking); return [window.seen.filter(([isHidden]) => !isHidden), window.ticks]")
+    bars, words = [bar for _, bar, _ in seen], [word for _, _, word in seen]
+    read = [int(word.split()[1].replace(",", "")) for word in words if word.startswith("reading: ")]
+    is_so(len(read) > 5 and read == sorted(set(read)) and 0 < read[0] and read[-1] < 100000, f"the lines that a Worker tells it has read: {read}")
+    is_so(len(bars) > 5 and bars == sorted(set(bars)) and 0 < bars[0] and bars[-1] < 1, f"the bar of a Worker: {bars}")
+    is_so(words[:1] == [f"reading: {read[0] if read else 0:,} of 100,000 lines"] and words[-1:] == ["sorting the rows of 100,000 lines"], f"what is told while a Worker reads: {words[:1]} {words[-1:]}")
+    is_so(ticks > 3, f"the page goes on while a Worker reads: {ticks} ticks of a clock")
+    changes = []
+    for count in ("100,001", "100,002"):
+        before = browser.seconds()
+        page.press("f")
+        changes.append(browser.seconds() - before)
+        is_so(page.text("#status").startswith(f"{count} networks"), page.text("#status"))
+    page.ask("10.20.17.9")
+    took = browser.run("""document.getElementById('asked').value = '10.20.17.9';
+        const begin = performance.now(); document.getElementById('find').requestSubmit(); return performance.now() - begin""")
+    colours, share = page.picture()
+    is_so(colours > 8 and share < 0.9, f"the map of 100,000 rows: {colours} colours, {share:.2f} of one")
+    print(f"the page with 100,000 rows: a change {changes[0]:.1f} s of processor time at first, then {changes[1]:.2f}; a look-up with all that is shown {took:.0f} ms")
 
 
 def spoken(page):
     """What a screen reader has of the page: each thing with a role, as its role, its name and what it is."""
     found = []
-    for node in page.browser.ask_tools("Accessibility.getFullAXTree")["nodes"]:
+    for node in page.browser.ask("Accessibility.getFullAXTree")["nodes"]:
         if not node["ignored"]:
             what = {it["name"]: it["value"].get("value") for it in node.get("properties", ())}
             found.append((node["role"]["value"], node.get("name", {}).get("value", ""), what))
@@ -366,14 +368,14 @@ def colours(page):
     browser.go("about:blank")
     browser.run("document.body.style.margin = 0; document.body.innerHTML = arguments[0].map((shade) => `<div style='height:20px;background:${shade}'></div>`).join('')", shades)
     for kind in ("none", "protanopia", "deuteranopia", "tritanopia"):
-        browser.ask_tools("Emulation.setEmulatedVisionDeficiency", type=kind)
+        browser.ask("Emulation.setEmulatedVisionDeficiency", type=kind)
         seen = browser.wait("""const image = await createImageBitmap(await (await fetch('data:image/png;base64,' + args[0])).blob());
             const pen = new OffscreenCanvas(image.width, image.height).getContext('2d', { willReadFrequently: true });
             pen.drawImage(image, 0, 0);
             return Array.from({ length: args[1] }, (_, i) => [...pen.getImageData(9, 20 * i + 9, 1, 1).data].slice(0, 3));""", base64.b64encode(browser.picture()).decode(), len(shades))["ok"]
         nearest = min((sum((p - q) ** 2 for p, q in zip(lab(seen[i]), lab(seen[k]))) ** 0.5, shades[i], shades[k]) for i, k in itertools.combinations(range(len(shades)), 2))
         is_so(nearest[0] > 15, f"colours that look alike: {kind} {nearest}")
-    browser.ask_tools("Emulation.setEmulatedVisionDeficiency", type="none")
+    browser.ask("Emulation.setEmulatedVisionDeficiency", type="none")
 
 
 def narrow_page(browser, address):
@@ -381,8 +383,8 @@ def narrow_page(browser, address):
     for theme in ("dark", "light"):
         browser.run("localStorage.clear()")
         browser.go("about:blank")
-        browser.ask_tools("Emulation.setDeviceMetricsOverride", width=360, height=740, deviceScaleFactor=2, mobile=True)
-        browser.ask_tools("Emulation.setEmulatedMedia", features=[{"name": "prefers-color-scheme", "value": theme}])
+        browser.ask("Emulation.setDeviceMetricsOverride", width=360, height=740, deviceScaleFactor=2, mobile=True)
+        browser.ask("Emulation.setEmulatedMedia", features=[{"name": "prefers-color-scheme", "value": theme}])
         page = Page(browser, address)
         is_so(browser.run("return document.documentElement.dataset.theme") == theme, f"a page for a {theme} system")
         page.push("#example")  # (the page before may have stored its plan once more when the storage was cleared)
@@ -395,33 +397,22 @@ def narrow_page(browser, address):
         is_so(page.ask("10.20.17.9").startswith("10.20.17.9 is in") and page.chosen() == "10.20.16.0/22", "a look-up on a narrow page")
         page.push("#detail button")
         is_so("10.20.16.0/23 wifi staff\n" in page.plan(), "a button splits on a narrow page")
-    browser.ask_tools("Emulation.clearDeviceMetricsOverride")
+    browser.ask("Emulation.clearDeviceMetricsOverride")
 
 
-def main():
-    if not (driver.CHROMIUM and driver.DRIVER):
-        print("javascript: there is no chromium with chromedriver: the page was not tried")
-        return 0
-    address = pathlib.Path(sys.argv[1]).resolve().as_uri()
-    browser = driver.Browser(1000, 640) # a larger window costs more of each picture
-    try:
-        page = Page(browser, address)
-        small_plan(page)
-        wrong_lines(page)
-        browser.size(1400, 850)
-        large_plan(page)
-        browser.size(1000, 640)
-        screen_reader(page)
-        colours(page)
-        browser.go(address)
-        narrow_page(browser, address)
-        log = [line for line in browser.log() if "alert" not in line]
-        is_so(log == [], f"the browser says {log}")
-        print(f"the page in Chromium {browser.version}: {wrong} not as wanted; {browser.seconds():.0f} s of processor time")
-    finally:
-        browser.close()
-    return wrong > 0
-
-
-if __name__ == "__main__":
-    sys.exit(main())
+def tried(browser, address):
+    """The page at that address; how much of it is not as wanted."""
+    browser.log()
+    page = Page(browser, address)
+    small_plan(page)
+    wrong_lines(page)
+    browser.size(1400, 850)
+    large_plan(page)
+    browser.size(1000, 640)
+    screen_reader(page)
+    narrow_page(browser, address)
+    colours(page)
+    log = [line for line in browser.log() if "alert" not in line]
+    is_so(log == [], f"the browser says {log}")
+    print(f"the page in Chromium {browser.version}: {wrong} not as wanted")
+    return wrong
