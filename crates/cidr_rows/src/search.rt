@@ -154,17 +154,21 @@ fn place_between<C: Ord + Copy, K: Keys<C>>(
     if found { Ok(low) } else { Err(low) }
 }
 
-/// The index of a key among the first `end`, which are all, or else most likely end not far behind it.
+/// The index of a key among the first `end`: which are all; or else it comes before all, or most likely not far from the end.
 fn seek<C: Ord + Copy, K: Keys<C>>(rows: &K, key: &C, end: usize) -> Result<usize, usize>
-    requires { end ≤ length (K.keys rows.now) }
+    requires some { 0 < end }
+    requires end { end ≤ length (K.keys rows.now) }
     ensures within { MatchResult result (λ i. i < end) (λ i. i ≤ end) }
     ensures index { IsStrictlySortedBy C.cmp (K.keys rows.now) → IsPlace C.cmp (K.keys rows.now) key.now end result }
 {
     if end == rows.len() {
-        place_of(rows, key, end)
-    } else {
-        place_back(rows, key, end)
+        return place_of(rows, key, end);
     }
+    let order = rows.key(0).cmp(key);
+    if order.is_lt() {
+        return place_back(rows, key, end);
+    }
+    if order.is_eq() { Ok(0) } else { Err(0) }
 }
 
 /// The index of the longest key that begins the look-up key, or `None` where none does.
