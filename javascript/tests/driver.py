@@ -29,7 +29,8 @@ class Browser:
         given = [fcntl.fcntl(end, fcntl.F_DUPFD, 10) for end in (read, write)]
         arguments = ["--headless=new", "--no-sandbox", "--disable-gpu", "--disable-dev-shm-usage", "--hide-scrollbars", "--force-device-scale-factor=1",
                      "--no-first-run", "--disable-background-networking", "--disable-component-update", "--disable-default-apps", "--disable-extensions",
-                     "--disable-sync", "--disable-breakpad", "--remote-debugging-pipe", f"--window-size={width},{height}", f"--user-data-dir={self.folder.name}", "about:blank"]
+                     "--disable-sync", "--disable-breakpad", "--disable-background-timer-throttling", "--disable-backgrounding-occluded-windows",
+                     "--disable-renderer-backgrounding", "--remote-debugging-pipe", f"--window-size={width},{height}", f"--user-data-dir={self.folder.name}", "about:blank"]
         self.process = subprocess.Popen(["bash", "-c", f'exec "$@" 3<&{given[0]} 4>&{given[1]}', "", CHROMIUM, *arguments], pass_fds=given, stdin=subprocess.DEVNULL,
                                         stdout=subprocess.DEVNULL, stderr=subprocess.DEVNULL)
         for end in (read, write, *given):
