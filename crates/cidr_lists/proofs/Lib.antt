@@ -9,6 +9,7 @@ pub mod Hosts
 pub mod JsonStrings
 pub mod KeptNear
 pub mod LineFeeds
+pub mod LinesPassed
 pub mod LookObjects
 pub mod MaskedTexts
 pub mod Merged
@@ -16,7 +17,9 @@ pub mod Nested
 pub mod NumberedRows
 pub mod OpenNetworks
 pub mod Passing
+pub mod PayloadTexts
 pub mod PlainTexts
+pub mod PrefixTexts
 pub mod PrintedLines
 pub mod PrintedTexts
 pub mod RangeRows

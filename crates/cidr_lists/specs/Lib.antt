@@ -1,5 +1,5 @@
--- What has to be believed: what a line, a list and a table say, what is made of them, and what is printed. `Nearness` is
--- what private functions promise.
+-- What has to be believed: what a line, a list and a table say, what is made of them, and what is printed. `Nearness` and
+-- `PayloadReading` are what private functions promise.
 pub mod Printing
 pub mod Masks
 pub mod Wrong
@@ -23,6 +23,10 @@ pub mod Formats
 pub mod Json
 pub mod ReadBack
 pub mod Rules
+pub mod RouteErrors
+pub mod PayloadFiles
+pub mod PayloadReading
+pub mod PrefixLists
 pub mod Classes
 pub mod Descriptions
 pub mod Entries

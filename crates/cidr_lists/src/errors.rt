@@ -77,7 +77,7 @@ fn not_text_words(shown: &[u8]) -> &'static str
 }
 
 /// A string as it is shown, and what is wrong with it.
-fn message_of(shown: &ArrayString<42>, words: &str) -> ArrayString<MOST_MESSAGE>
+pub(crate) fn message_of(shown: &ArrayString<42>, words: &str) -> ArrayString<MOST_MESSAGE>
     requires { length words.now ≤ 99 }
     ensures { result.bytes ≡ shown.now.bytes ++ codes ": " ++ words.now }
 {

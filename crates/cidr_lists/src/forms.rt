@@ -129,7 +129,7 @@ fn begins_quoted(field: &[u8]) -> bool
 }
 
 /// The network that a field is.
-fn cell_network(host_bits: HostBits, first: &[u8]) -> Result<IpCidr, LineError>
+pub(crate) fn cell_network(host_bits: HostBits, first: &[u8]) -> Result<IpCidr, LineError>
     ensures { MatchResult result (IsNetworkBy host_bits first.now) (IsBadCell host_bits first.now) }
 {
     if first.is_empty() {

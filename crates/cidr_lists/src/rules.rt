@@ -43,7 +43,7 @@ pub struct Rules {
 }
 
 /// The action that a word is.
-fn action_of(word: &[u8]) -> Option<Action>
+pub(crate) fn action_of(word: &[u8]) -> Option<Action>
     ensures { MatchOption result (¬ (IsActionText word.now)) (λ action. word.now ≡ action_text action) }
 {
     if word == b"permit".as_slice() {
