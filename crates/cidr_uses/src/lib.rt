@@ -27,6 +27,7 @@ pub mod network_type;
 pub mod next_hops;
 pub mod over_traits;
 pub mod prefix_bytes;
+pub mod prefix_lists;
 pub mod prefix_tree;
 pub mod ranges_and_back;
 pub mod read_back;
