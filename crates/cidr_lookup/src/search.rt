@@ -36,7 +36,7 @@ pub fn find<A: Address, T: Words>(first: &T, words: &T, steps: u32, address: A) 
         → IsLookupTable A.width A.padding steps networks (T.words first.now) (T.words words.now)
         → IsLongestMatch (prefix_bits A.width) (bits A.width (A.value address)) networks result }
 {
-    row(found_value(first, words, steps, address))
+    row(value_by_steps(first, words, steps, address))
 }
 
 /// The index that a value says.
@@ -50,7 +50,23 @@ fn row(value: u32) -> Option<usize>
     Some((value - 1) as usize)
 }
 
-/// The value that an address is led to.
+/// The value that an address is led to. IPv4 has a code of its own for each number of steps that is in use, since a shift by a
+/// constant is quicker.
+#[inline(always)]
+fn value_by_steps<A: Address, T: Words>(first: &T, words: &T, steps: u32, address: A) -> u32
+    ensures { (networks : List (ℕ × ℕ))
+        → IsLookupTable A.width A.padding steps networks (T.words first.now) (T.words words.now)
+        → IsAnswer A.width A.padding networks (A.value address * 2 ^ A.padding) result }
+{
+    match steps {
+        3 => found_value(first, words, 3, address),
+        4 => found_value(first, words, 4, address),
+        5 => found_value(first, words, 5, address),
+        _ => found_value(first, words, steps, address),
+    }
+}
+
+/// The value that an address is led to by so many steps.
 #[inline(always)]
 fn found_value<A: Address, T: Words>(first: &T, words: &T, steps: u32, address: A) -> u32
     ensures { (networks : List (ℕ × ℕ))

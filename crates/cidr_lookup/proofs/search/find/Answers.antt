@@ -9,6 +9,6 @@ pub returns : goal.returns
 returns g c = λ networks table.
     let w = g.A.Address.width in
     let value = g.A.Address.value c.args.address in
-    let known = c.found_value.ensures networks table in
+    let known = c.value_by_steps.ensures networks table in
     subst (λ r. IsLongestMatch (prefix_bits w) (bits w value) networks r) (sym c.row.ensures)
-    (subst (λ a. IsLongestMatch (prefix_bits w) (bits w a) networks (row_behind c.found_value.result)) (shl-shr value g.A.Address.padding) known)
+    (subst (λ a. IsLongestMatch (prefix_bits w) (bits w a) networks (row_behind c.value_by_steps.result)) (shl-shr value g.A.Address.padding) known)
