@@ -118,11 +118,11 @@ stops_more put Refuses some all rest is (inr (full, (more, whole))) =
 -- ---- a node's place
 -- the marks of the node at a place
 abbrev pub marks_at : List ℕ → ℕ → ℕ
-marks_at words place = get_or words (place + 1) 0 * 2 ^ 32 + get_or words place 0
+marks_at words index = get_or words (index + 1) 0 * 2 ^ 32 + get_or words index 0
 
 -- where the entry of a part is
 abbrev pub part_at : List ℕ → ℕ → ℕ → ℕ
-part_at words place part = place + 1 + count_ones (marks_at words place / 2 ^ (63 - part))
+part_at words index part = index + 1 + count_ones (marks_at words index / 2 ^ (63 - part))
 
 -- the node behind other words
 module _ (middle entries more : List ℕ) where
@@ -157,29 +157,29 @@ module _ (middle entries more : List ℕ) where
       let c = ones - 1 in
       let some : 0 < ones = omega (arith, same, found.0) in
       let upto : ones ≤ length (runs entries 64) = omega (arith, same, found.1) in
-      let place : length middle + 1 + ones ≡ length middle + suc (suc c) = omega arith in
+      let index : length middle + 1 + ones ≡ length middle + suc (suc c) = omega arith in
       let c_is : count_ones (marks entries 64 / 2 ^ (64 - 1 - part)) - 1 ≡ c = ap (λ n. n - 1) same in (
         omega (arith, at, long),
-        ap (λ i. get_or whole i 0) (at ∙ place) ∙ (behind (suc (suc c)) ∙ (get_or_append_left (runs entries 64) more 0 c (omega arith)
+        ap (λ i. get_or whole i 0) (at ∙ index) ∙ (behind (suc (suc c)) ∙ (get_or_append_left (runs entries 64) more 0 c (omega arith)
             ∙ (ap (λ i. get_or (runs entries 64) i 0) (sym c_is) ∙ found.2))),
       )
 
 -- ---- what an entry leads to
 module _ (Has : (number value : ℕ) → Type 0) where
   -- the parts of a node in these words lead on
-  abbrev pub AreParts : (words : List ℕ) (IsOne : (block entry : ℕ) → Type 0) (block place : ℕ) → Type 0
-  AreParts words IsOne block place = (part : ℕ) → part < 64
-      → (part_at words place part < length words) × IsOne (block * 64 + part) (get_or words (part_at words place part) 0)
+  abbrev pub AreParts : (words : List ℕ) (IsOne : (block entry : ℕ) → Type 0) (block index : ℕ) → Type 0
+  AreParts words IsOne block index = (part : ℕ) → part < 64
+      → (part_at words index part < length words) × IsOne (block * 64 + part) (get_or words (part_at words index part) 0)
 
   -- a list of the block stands in these words
-  abbrev pub IsListed : (words : List ℕ) (steps block place : ℕ) → Type 0
-  IsListed words steps block place = (value : ℕ) × (changes : List (ℕ × ℕ)) × HasList Has steps block value changes × IsListAt words place value changes
+  abbrev pub IsListed : (words : List ℕ) (steps block index : ℕ) → Type 0
+  IsListed words steps block index = (value : ℕ) × (changes : List (ℕ × ℕ)) × HasList Has steps block value changes × IsListAt words index value changes
 
   -- each number of the block is led to its value, by nodes whose places are before the end and fall
   unfoldable pub Leads : (words : List ℕ) (end steps block entry : ℕ) → Type 0
   Leads words end zero block entry = AllHave Has zero block entry
-  Leads words end (suc steps) block entry = AllHave Has (suc steps) block entry ⊎ ((place : ℕ) × (entry ≡ 2 ^ 31 + 2 * place + 1) × IsListed words (suc steps) block place)
-      ⊎ ((place : ℕ) × (entry ≡ 2 ^ 31 + 2 * place) × (place < end) × AreParts words (Leads words place steps) block place)
+  Leads words end (suc steps) block entry = AllHave Has (suc steps) block entry ⊎ ((index : ℕ) × (entry ≡ 2 ^ 31 + 2 * index + 1) × IsListed words (suc steps) block index)
+      ⊎ ((index : ℕ) × (entry ≡ 2 ^ 31 + 2 * index) × (index < end) × AreParts words (Leads words index steps) block index)
 
   -- no list is that of the block
   abbrev pub HasNoList : (steps block : ℕ) → Type 0
@@ -273,36 +273,36 @@ module _ (Has : (number value : ℕ) → Type 0) where
   led words end (suc steps) number entry (inr (inr known)) low = absurd (omega (arith, known.1))
 
   -- an odd entry leads to a list
-  pub list_of : (words : List ℕ) (end steps block entry place : ℕ) → Leads words end steps block entry → 2 ^ 31 ≤ entry → entry % 2 ≡ 1 → place ≡ (entry - 2 ^ 31) / 2 → IsListed words steps block place
+  pub list_of : (words : List ℕ) (end steps block entry index : ℕ) → Leads words end steps block entry → 2 ^ 31 ≤ entry → entry % 2 ≡ 1 → index ≡ (entry - 2 ^ 31) / 2 → IsListed words steps block index
   unfolding Leads
-  list_of words end zero block entry place known high odd is = absurd (omega (arith, known.0))
-  list_of words end (suc steps) block entry place (inl known) high odd is = absurd (omega (arith, known.0))
-  list_of words end (suc steps) block entry place (inr (inl known)) high odd is =
-      let e : known.0 ≡ place = omega (arith, known.1) in
+  list_of words end zero block entry index known high odd is = absurd (omega (arith, known.0))
+  list_of words end (suc steps) block entry index (inl known) high odd is = absurd (omega (arith, known.0))
+  list_of words end (suc steps) block entry index (inr (inl known)) high odd is =
+      let e : known.0 ≡ index = omega (arith, known.1) in
       subst (λ p. IsListed words (suc steps) block p) e known.2
-  list_of words end (suc steps) block entry place (inr (inr known)) high odd is = absurd (omega (arith, known.1))
+  list_of words end (suc steps) block entry index (inr (inr known)) high odd is = absurd (omega (arith, known.1))
 
   -- a node leads on by the next six bits, as an odd entry does nowhere where no list is
-  abbrev pub NextOf : (words : List ℕ) (end number place rest : ℕ) → Type 0
-  NextOf words end number place rest = (place < end) × (part_at words place (number / 2 ^ (6 * rest) % 64) < length words)
-      × Leads words place rest (number / 2 ^ (6 * rest)) (get_or words (part_at words place (number / 2 ^ (6 * rest) % 64)) 0)
+  abbrev pub NextOf : (words : List ℕ) (end number index rest : ℕ) → Type 0
+  NextOf words end number index rest = (index < end) × (part_at words index (number / 2 ^ (6 * rest) % 64) < length words)
+      × Leads words index rest (number / 2 ^ (6 * rest)) (get_or words (part_at words index (number / 2 ^ (6 * rest) % 64)) 0)
 
-  pub next : (words : List ℕ) (end steps number entry place : ℕ) → Leads words end steps (number / 2 ^ (6 * steps)) entry → 2 ^ 31 ≤ entry → (entry % 2 ≡ 1 → 6 * steps ≤ 82) → place ≡ (entry - 2 ^ 31) / 2
-      → (rest : ℕ) × (steps ≡ rest + 1) × NextOf words end number place rest
+  pub next : (words : List ℕ) (end steps number entry index : ℕ) → Leads words end steps (number / 2 ^ (6 * steps)) entry → 2 ^ 31 ≤ entry → (entry % 2 ≡ 1 → 6 * steps ≤ 82) → index ≡ (entry - 2 ^ 31) / 2
+      → (rest : ℕ) × (steps ≡ rest + 1) × NextOf words end number index rest
   unfolding Leads
-  next words end zero number entry place known high short at = absurd (omega (arith, known.0))
-  next words end (suc steps) number entry place (inl known) high short at = absurd (omega (arith, known.0))
-  next words end (suc steps) number entry place (inr (inl (at, is, (value, changes, known, here)))) high short e =
+  next words end zero number entry index known high short at = absurd (omega (arith, known.0))
+  next words end (suc steps) number entry index (inl known) high short at = absurd (omega (arith, known.0))
+  next words end (suc steps) number entry index (inr (inl (at, is, (value, changes, known, here)))) high short e =
       absurd (omega (arith, short (omega (arith, is)), list_long Has (suc steps) (number / 2 ^ (6 * suc steps)) value changes known))
-  next words end (suc steps) number entry place (inr (inr known)) high short at =
+  next words end (suc steps) number entry index (inr (inr known)) high short at =
       let q = number / 2 ^ (6 * steps) in
       let six : 6 * steps + 6 ≡ 6 * suc steps = omega arith in
       let up : number / 2 ^ (6 * suc steps) ≡ q / 2 ^ 6 = ap (λ j. number / 2 ^ j) (sym six) ∙ sym (shr-shr number (6 * steps) 6) in
       let is : number / 2 ^ (6 * suc steps) * 64 + q % 64 ≡ q = omega (arith, up, shr_split q 6) in
-      let e : known.0 ≡ place = omega (arith, known.1) in
+      let e : known.0 ≡ index = omega (arith, known.1) in
       let parts = subst (λ p. AreParts words (Leads words p steps) (number / 2 ^ (6 * suc steps)) p) e known.3 in
       let here = parts (q % 64) (omega arith) in
-      (steps, omega arith, (omega (arith, e, known.2), here.0, subst (λ b. Leads words place steps b (get_or words (part_at words place (q % 64)) 0)) is here.1))
+      (steps, omega arith, (omega (arith, e, known.2), here.0, subst (λ b. Leads words index steps b (get_or words (part_at words index (q % 64)) 0)) is here.1))
 
   -- ---- the words are unique
   module _ (one_value : (number value value' : ℕ) → Has number value → Has number value' → value ≡ value') where

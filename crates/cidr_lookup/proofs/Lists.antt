@@ -53,25 +53,25 @@ module _ (front back : List ℕ) (value : ℕ) (changes : List (ℕ × ℕ)) whe
       ∙ (get_or-append_right starts values (length starts) (length starts + i) 0 refl (omega arith) ∙ ap (λ j. get_or values j 0) k)))
 
 -- at a place
-pub record IsRead (words : List ℕ) (place value : ℕ) (changes : List (ℕ × ℕ)) : Type 0 where
-  pub long : place + (2 * length changes + 2) ≤ length words
-  pub count : get_or words place 0 ≡ length changes
-  pub word : (i : ℕ) → i < length changes → get_or words (place + 1 + i) 0 ≡ change_word (get_or changes i (0, 0))
-  pub is : (i : ℕ) → i ≤ length changes → get_or words (place + 1 + length changes + i) 0 ≡ get_or (value ∷ map (λ (change : ℕ × ℕ). change.1) changes) i 0
+pub record IsRead (words : List ℕ) (index value : ℕ) (changes : List (ℕ × ℕ)) : Type 0 where
+  pub long : index + (2 * length changes + 2) ≤ length words
+  pub count : get_or words index 0 ≡ length changes
+  pub word : (i : ℕ) → i < length changes → get_or words (index + 1 + i) 0 ≡ change_word (get_or changes i (0, 0))
+  pub is : (i : ℕ) → i ≤ length changes → get_or words (index + 1 + length changes + i) 0 ≡ get_or (value ∷ map (λ (change : ℕ × ℕ). change.1) changes) i 0
 
-pub read : (words : List ℕ) (place value : ℕ) (changes : List (ℕ × ℕ)) → IsListAt words place value changes → IsRead words place value changes
-read words place value changes at =
+pub read : (words : List ℕ) (index value : ℕ) (changes : List (ℕ × ℕ)) → IsListAt words index value changes → IsRead words index value changes
+read words index value changes at =
     let here : IsRead (at.front ++ list value changes ++ at.back) (length at.front) value changes = record {
       long = long at.front at.back value changes;
       count = count_is at.front at.back value changes;
       word = word_is at.front at.back value changes;
       is = value_is at.front at.back value changes;
     } in
-    subst (λ ws. IsRead ws place value changes) (sym at.all) (subst (λ p. IsRead (at.front ++ list value changes ++ at.back) p value changes) (sym at.here) here)
+    subst (λ ws. IsRead ws index value changes) (sym at.all) (subst (λ p. IsRead (at.front ++ list value changes ++ at.back) p value changes) (sym at.here) here)
 
-pub ascend_at : (words : List ℕ) (place value : ℕ) (changes : List (ℕ × ℕ)) (starts count : ℕ) → IsRead words place value changes → AreOrdered changes → starts ≡ place + 1
+pub ascend_at : (words : List ℕ) (index value : ℕ) (changes : List (ℕ × ℕ)) (starts count : ℕ) → IsRead words index value changes → AreOrdered changes → starts ≡ index + 1
     → count ≡ length changes → AscendAt words starts count
-ascend_at words place value changes starts count at order is all = subst (λ s. AscendAt words s count) (sym is) (λ i k lt l.
+ascend_at words index value changes starts count at order is all = subst (λ s. AscendAt words s count) (sym is) (λ i k lt l.
     omega (arith, at.word i (omega arith), at.word k (omega arith), order i k lt (omega arith)))
 
 -- ---- the changes to ranges

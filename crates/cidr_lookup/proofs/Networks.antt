@@ -116,9 +116,9 @@ module _ {C : Type 0} (w : ℕ) (f : C → List Bool) where
   -- that among keys is that among their networks
   pub found : (a : List Bool) (ks : List C) (r : Option ℕ) → AreAscendingNetworks w (map keyed ks)
       → IsLongestMatch (prefix_bits w) a (map keyed ks) r → IsLongestMatch f a ks r
-  found a ks (Some place) are h =
-      let (c, at, same) = key_at ks place h.key h.here in
-      let there : Contains ks c = (place, slice_get_within ks place c at, get_or_from_slice_get ks place c c at) in
+  found a ks (Some index) are h =
+      let (c, at, same) = key_at ks index h.key h.here in
+      let there : Contains ks c = (index, slice_get_within ks index c at, get_or_from_slice_get ks index c c at) in
       let own : prefix_bits w h.key ≡ f c = ap (prefix_bits w) (sym same) ∙ own_bits w (f c) (fits ks c are there) in
       record {
         key = c;
@@ -140,9 +140,9 @@ module _ {C : Type 0} (w : ℕ) (f : C → List Bool) where
   nothing k ks h = λ c there begins. h c there (begins_begins (first_of w k) k (f c) (first_begins k) begins)
 
   -- and one that is no longer than the network is its own
-  pub no_longer : (k : List Bool) (ks : List C) (place : ℕ) (c : C) → IsLongestAt f (first_of w k) ks place → slice_get ks place ≡ Some c
-      → length (f c) ≤ length k → IsLongestAt f k ks place
-  no_longer k ks place c h at short =
+  pub no_longer : (k : List Bool) (ks : List C) (index : ℕ) (c : C) → IsLongestAt f (first_of w k) ks index → slice_get ks index ≡ Some c
+      → length (f c) ≤ length k → IsLongestAt f k ks index
+  no_longer k ks index c h at short =
       let same : h.key ≡ c = same_Some h.key c (sym h.here ∙ at) in
       record {
         key = h.key;
@@ -152,10 +152,10 @@ module _ {C : Type 0} (w : ℕ) (f : C → List Bool) where
       }
 
   -- of an address any match is its own
-  pub host_match : (k : List Bool) (ks : List C) (place : ℕ) → length k ≡ w → IsLongestAt f (first_of w k) ks place → IsLongestAt f k ks place
-  host_match k ks place whole h =
+  pub host_match : (k : List Bool) (ks : List C) (index : ℕ) → length k ≡ w → IsLongestAt f (first_of w k) ks index → IsLongestAt f k ks index
+  host_match k ks index whole h =
       let fit : length k ≤ w = omega arith in
-      no_longer k ks place h.key h h.here (omega (arith, begins_length (first_of w k) (f h.key) h.begins, length-first_of w k fit))
+      no_longer k ks index h.key h h.here (omega (arith, begins_length (first_of w k) (f h.key) h.begins, length-first_of w k fit))
 
 -- ---- rows
 module _ {C V : Type 0} (w : ℕ) (f : C → List Bool) where
@@ -198,23 +198,23 @@ module _ {C V : Type 0} (w : ℕ) (f : C → List Bool) where
   pub row_found : (asked : List Bool) (rows : List (C × V)) (r : Option ℕ) → IsLongestMatch f asked (keys_of rows) r
       → IsLookedUp f asked rows (option_and_then (λ i. slice_get rows i) r)
   row_found asked rows None h = λ row there begins. h row.0 (contains_key rows row there) begins
-  row_found asked rows (Some place) h = at_place (slice_get rows place) refl
+  row_found asked rows (Some index) h = at_place (slice_get rows index) refl
     where
-      at_place : (o : Option (C × V)) → slice_get rows place ≡ o → IsLookedUp f asked rows o
-      at_place None e = absurd (none-some h.key (sym (slice_get-map (λ (row : C × V). row.0) rows place ∙ ap (λ o. option_map (λ (row : C × V). row.0) o) e) ∙ h.here))
+      at_place : (o : Option (C × V)) → slice_get rows index ≡ o → IsLookedUp f asked rows o
+      at_place None e = absurd (none-some h.key (sym (slice_get-map (λ (row : C × V). row.0) rows index ∙ ap (λ o. option_map (λ (row : C × V). row.0) o) e) ∙ h.here))
       at_place (Some row) e =
-          let same : row.0 ≡ h.key = same_Some row.0 h.key (sym (slice_get-map (λ (row : C × V). row.0) rows place ∙ ap (λ o. option_map (λ (row : C × V). row.0) o) e) ∙ h.here) in
+          let same : row.0 ≡ h.key = same_Some row.0 h.key (sym (slice_get-map (λ (row : C × V). row.0) rows index ∙ ap (λ o. option_map (λ (row : C × V). row.0) o) e) ∙ h.here) in
           record {
-            here = (place, slice_get_within rows place row e, get_or_from_slice_get rows place row row e);
+            here = (index, slice_get_within rows index row e, get_or_from_slice_get rows index row row e);
             begins = subst (λ c. BeginsWith asked (f c)) (sym same) h.begins;
             longest = λ other there begins. omega (arith, h.longest other.0 (contains_key rows other there) begins, ap (λ c. length (f c)) same);
           }
 
-  pub row_no_longer : (k : List Bool) (rows : List (C × V)) (place : ℕ) (row : C × V) → IsLongestAt f (first_of w k) (keys_of rows) place
-      → slice_get rows place ≡ Some row → length (f row.0) ≤ length k → IsLongestAt f k (keys_of rows) place
-  row_no_longer k rows place row h at short =
-      no_longer w f k (keys_of rows) place row.0 h
-      (slice_get-map (λ (r : C × V). r.0) rows place ∙ ap (λ (o : Option (C × V)). option_map (λ (r : C × V). r.0) o) at) short
+  pub row_no_longer : (k : List Bool) (rows : List (C × V)) (index : ℕ) (row : C × V) → IsLongestAt f (first_of w k) (keys_of rows) index
+      → slice_get rows index ≡ Some row → length (f row.0) ≤ length k → IsLongestAt f k (keys_of rows) index
+  row_no_longer k rows index row h at short =
+      no_longer w f k (keys_of rows) index row.0 h
+      (slice_get-map (λ (r : C × V). r.0) rows index ∙ ap (λ (o : Option (C × V)). option_map (λ (r : C × V). r.0) o) at) short
 
   -- the longest match that the words of rows give
   pub first_match : (padding steps : ℕ) (first words first' words' : List ℕ) (value : ℕ) (k : List Bool) (rows rows' : List (C × V)) (r : Option ℕ)
@@ -238,14 +238,14 @@ pub large_result : {T : Type 0} (w padding : ℕ) (steps : ℕ → ℕ) (m n : �
     → IfErr result (IsTableRefused w padding (steps m) networks) → IfErr result (λ error. error ≡ TooLarge → HasTooManyWords w padding (steps n) numbers)
 large_result w padding steps m n networks numbers (Ok table) same is h = tt
 large_result w padding steps m n networks numbers (Err TooMany) same is h = λ e. cc e
-large_result w padding steps m n networks numbers (Err (Refused place)) same is h = λ e. cc e
+large_result w padding steps m n networks numbers (Err (Refused index)) same is h = λ e. cc e
 large_result w padding steps m n networks numbers (Err TooLarge) same is h = λ e. rw (sym same, sym is) h.2
 large_result w padding steps m n networks numbers (Err NoMemory) same is h = λ e. cc e
 
 pub refused : (w padding steps count : ℕ) (networks : List (ℕ × ℕ)) (error : TableError) → length networks ≡ count → count < 2 ^ 31 → AreAscendingNetworks w networks
     → IsTableRefused w padding steps networks error → IsCountRefused count error
 refused w padding steps count networks TooMany same few are many = absurd (omega (arith, same, few, many))
-refused w padding steps count networks (Refused place) same few are (n, (within, before, wrong)) = wrong (record {
+refused w padding steps count networks (Refused index) same few are (n, (within, before, wrong)) = wrong (record {
   each = λ i l. are.each i (omega (arith, l, within));
   ascending = λ i k less l. are.ascending i k less (omega (arith, l, within));
 })

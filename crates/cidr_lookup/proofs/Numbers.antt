@@ -140,10 +140,10 @@ module _ (w : ℕ) (networks : List (ℕ × ℕ)) where
       subst (AreNetworksUpTo w networks) (add-one n)
       (networks_more w networks n (all_next n (λ i low less. each i low (omega arith))) last.network last.behind)
 
-  pub first_refused_is : (count : ℕ) → count ≡ length networks → (place : Option ℕ)
-      → MatchOption place ((i : ℕ) → 0 ≤ i → i < count → IsNext w networks i)
+  pub first_refused_is : (count : ℕ) → count ≡ length networks → (index : Option ℕ)
+      → MatchOption index ((i : ℕ) → 0 ≤ i → i < count → IsNext w networks i)
       (λ n. (0 ≤ n) × (n < count) × (¬ (IsNext w networks n)) × ((i : ℕ) → 0 ≤ i → i < n → IsNext w networks i))
-      → IsFirstRefused w networks place
+      → IsFirstRefused w networks index
   first_refused_is count same None all = subst (AreNetworksUpTo w networks) same (all_next count all)
   first_refused_is count same (Some n) (low, within, other, before) = (
     omega arith,

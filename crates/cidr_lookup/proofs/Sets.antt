@@ -31,8 +31,8 @@ module _ {C : Type 0} (f : C → List Bool) where
 
   -- a longest match tells whether there is one
   pub tells : (ks : List C) (a : List Bool) (r : Option ℕ) → IsLongestMatch f a ks r → Decides (is_some r) (Covers (map f ks) a)
-  tells ks a (Some place) h = (
-    λ t. covers_to ks h.key a (place, slice_get_within ks place h.key h.here, get_or_from_slice_get ks place h.key h.key h.here) h.begins,
+  tells ks a (Some index) h = (
+    λ t. covers_to ks h.key a (index, slice_get_within ks index h.key h.here, get_or_from_slice_get ks index h.key h.key h.here) h.begins,
     λ c. refl,
   )
   tells ks a None h = (λ t. absurd (false≢true t), λ c. let k = covers_by ks a c in absurd (h k.0 k.1 k.2))

@@ -191,7 +191,7 @@ module _ (w : ℕ) (networks : List (ℕ × ℕ)) (good : AreAscendingNetworks w
   pub changed : (address end end' : ℕ) → 0 < address → IsEdge w networks address → IsLastWithNumber w networks (length networks) (address - 1) end
       → IsLastWithNumber w networks (length networks) address end' → end ≢ end'
   changed address end end' some edge before here = λ same.
-      let j = edge.place in
+      let j = edge.index in
       let before_at = subst (λ e. IsLastWithNumber w networks (length networks) (address - 1) e) same before in
       elim edge.edge [
         | inl first ↦
@@ -224,4 +224,4 @@ module _ (w : ℕ) (networks : List (ℕ × ℕ)) (good : AreAscendingNetworks w
       → 2 ≤ depth → last ≡ get_or lasts (depth - 1) 0 → IsEdge w networks (last + 1)
   closed_edge b start last lasts ends depth g two is_last =
       let o = g.opened (depth - 1) (omega arith) (omega arith) in
-      record { place = get_or ends (depth - 1) 0 - 1; within = omega (arith, o.some, o.upto, g.places); edge = inr (omega (arith, o.last_is)) }
+      record { index = get_or ends (depth - 1) 0 - 1; within = omega (arith, o.some, o.upto, g.places); edge = inr (omega (arith, o.last_is)) }

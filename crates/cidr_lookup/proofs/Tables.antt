@@ -32,25 +32,25 @@ many_words put all Refuses many (inl (word, rest, whole, refused)) = omega (arit
 many_words put all Refuses many (inr (full, (rest, whole))) = omega (arith, full, ap length whole, length-append put rest)
 
 -- as many of the words as were put
-pub put_front : (words : List ℕ) (place : ℕ) → take (length (take place words)) words ≡ take place words
-put_front words place =
-    ap (take (length (take place words))) (sym (take-append-drop place words)) ∙ take-append_seam (take place words) (drop place words)
+pub put_front : (words : List ℕ) (index : ℕ) → take (length (take index words)) words ≡ take index words
+put_front words index =
+    ap (take (length (take index words))) (sym (take-append-drop index words)) ∙ take-append_seam (take index words) (drop index words)
 
 -- a word that is not taken is the first other one
-pub first_other : (words all : List ℕ) (place : ℕ) → length words < 2 ^ 30
-    → StopsBefore (take place words) (λ word. slice_get words (length (take place words)) ≢ Some word) all → IsFirstOther words all (length (take place words))
-first_other words all place few (inr (full, more)) = absurd (omega (arith, ap length (take-append-drop place words), length-append (take place words) (drop place words)))
-first_other words all place few (inl (word, rest, whole, refused)) =
-    let front = take place words in
+pub first_other : (words all : List ℕ) (index : ℕ) → length words < 2 ^ 30
+    → StopsBefore (take index words) (λ word. slice_get words (length (take index words)) ≢ Some word) all → IsFirstOther words all (length (take index words))
+first_other words all index few (inr (full, more)) = absurd (omega (arith, ap length (take-append-drop index words), length-append (take index words) (drop index words)))
+first_other words all index few (inl (word, rest, whole, refused)) =
+    let front = take index words in
     let n = length front in
     let here : slice_get all n ≡ Some word = slice_get-get_or all n 0 (omega (arith, ap length whole, length-append front (word ∷ rest)))
     ∙ ap Some (ap (λ x. get_or x n 0) whole ∙ get_or_at front word rest 0 n refl) in
-    (put_front words place ∙ sym (ap (take n) whole ∙ take-append_seam front (word ∷ rest)), λ same. refused (same ∙ here))
+    (put_front words index ∙ sym (ap (take n) whole ∙ take-append_seam front (word ∷ rest)), λ same. refused (same ∙ here))
 
 -- and so is one behind the last
-pub longer : (words all : List ℕ) (place : ℕ) → place < length words → all ≡ take place words → IsFirstOther words all place
-longer words all place l is =
-    let size : length (take place words) ≡ place = length-take-le place words (omega arith) in (
-      sym (ap (take place) is ∙ take_all place (take place words) (omega arith)),
-      λ same. none-some (get_or words place 0) (sym (slice_get_past all place (omega (arith, size, ap length is))) ∙ (sym same ∙ slice_get-get_or words place 0 l)),
+pub longer : (words all : List ℕ) (index : ℕ) → index < length words → all ≡ take index words → IsFirstOther words all index
+longer words all index l is =
+    let size : length (take index words) ≡ index = length-take-le index words (omega arith) in (
+      sym (ap (take index) is ∙ take_all index (take index words) (omega arith)),
+      λ same. none-some (get_or words index 0) (sym (slice_get_past all index (omega (arith, size, ap length is))) ∙ (sym same ∙ slice_get-get_or words index 0 l)),
     )

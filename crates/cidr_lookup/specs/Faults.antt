@@ -7,7 +7,7 @@ use Rattle.cidr_lookup.specs.declared.checking.WordsFault.TheVariants.{Steps, To
 
 -- the first word that is another, or that one of the two has alone
 abbrev pub IsFirstOther : (words all : List ℕ) → ℕ → Type 0
-IsFirstOther words all place = (take place words ≡ take place all) × (slice_get words place ≢ slice_get all place)
+IsFirstOther words all index = (take index words ≡ take index all) × (slice_get words index ≢ slice_get all index)
 
 -- so many steps leave first bits, and at most 32
 abbrev pub AreSteps : (w padding steps : ℕ) → Type 0
@@ -22,7 +22,7 @@ abbrev pub IsFault : (w padding steps : ℕ) → List (ℕ × ℕ) → (first wo
 IsFault w padding steps networks first words Steps = ¬ (AreSteps w padding steps)
 IsFault w padding steps networks first words TooLong = AreSteps w padding steps × ((2 ^ 30 ≤ length first) ⊎ (2 ^ 30 ≤ length words))
 IsFault w padding steps networks first words (Keys error) = AreSizes w padding steps first words × AreKeysRefused w networks error
-IsFault w padding steps networks first words (First place) = AreSizes w padding steps first words × AreAscendingNetworks w networks
-    × ((all_first all_words : List ℕ) → IsLookupTable w padding steps networks all_first all_words → IsFirstOther first all_first place)
-IsFault w padding steps networks first words (Word place) = AreSizes w padding steps first words × AreAscendingNetworks w networks
-    × ((all_first all_words : List ℕ) → IsLookupTable w padding steps networks all_first all_words → IsFirstOther words all_words place)
+IsFault w padding steps networks first words (First index) = AreSizes w padding steps first words × AreAscendingNetworks w networks
+    × ((all_first all_words : List ℕ) → IsLookupTable w padding steps networks all_first all_words → IsFirstOther first all_first index)
+IsFault w padding steps networks first words (Word index) = AreSizes w padding steps first words × AreAscendingNetworks w networks
+    × ((all_first all_words : List ℕ) → IsLookupTable w padding steps networks all_first all_words → IsFirstOther words all_words index)

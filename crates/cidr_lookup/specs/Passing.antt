@@ -22,9 +22,9 @@ module _ (w : ℕ) (networks : List (ℕ × ℕ)) where
 
   -- a network begins with the address, or has ended with the one before it
   pub record IsEdge (address : ℕ) : Type 0 where
-    pub place : ℕ
-    pub within : place < length networks
-    pub edge : (address ≡ (at place).0) ⊎ (address ≡ last_number_in w (at place) + 1)
+    pub index : ℕ
+    pub within : index < length networks
+    pub edge : (address ≡ (at index).0) ⊎ (address ≡ last_number_in w (at index) + 1)
 
   -- the network before `end` is open at place p
   pub record IsOpen (bound p last end : ℕ) : Type 0 where
@@ -59,7 +59,7 @@ module _ (w : ℕ) (networks : List (ℕ × ℕ)) where
         → ((i : ℕ) → k < i → i < count → address < slice_index_or starts i 0) → IsLastWithNumber (length networks) address (slice_index_or answers k 0)
 
 -- the list has the value in place of one, and else what it had
-pub record IsPut (old new : List ℕ) (place value : ℕ) : Type 0 where
-  pub put : slice_index_or new place 0 ≡ value
-  pub others : (k : ℕ) → k ≢ place → slice_index_or new k 0 ≡ slice_index_or old k 0
+pub record IsPut (old new : List ℕ) (index value : ℕ) : Type 0 where
+  pub put : slice_index_or new index 0 ≡ value
+  pub others : (k : ℕ) → k ≢ index → slice_index_or new k 0 ≡ slice_index_or old k 0
   pub same : length new ≡ length old

@@ -16,7 +16,7 @@ numbered_rows {C} {V} bits w rows = map (λ (row : C × V). numbered w (bits row
 -- why so many networks are not made ready: too many; or else too many words, or that an allocation failed
 abbrev pub IsCountRefused : ℕ → TableError → Type 0
 IsCountRefused count TooMany = 2 ^ 31 ≤ count
-IsCountRefused count (Refused place) = ⊥
+IsCountRefused count (Refused index) = ⊥
 IsCountRefused count TooLarge = count < 2 ^ 31
 IsCountRefused count NoMemory = count < 2 ^ 31
 

@@ -10,11 +10,11 @@ abbrev pub AreOrdered : (changes : List (ℕ × ℕ)) → Type 0
 AreOrdered changes = (i k : ℕ) → i < k → k < length changes → change_word (slice_index_or changes i (0, 0)) < change_word (slice_index_or changes k (0, 0))
 
 -- a list stands at a place
-pub record IsListAt (words : List ℕ) (place value : ℕ) (changes : List (ℕ × ℕ)) : Type 0 where
+pub record IsListAt (words : List ℕ) (index value : ℕ) (changes : List (ℕ × ℕ)) : Type 0 where
   pub front : List ℕ
   pub back : List ℕ
   pub all : words ≡ front ++ list value changes ++ back
-  pub here : place ≡ length front
+  pub here : index ≡ length front
 
 -- the value of the last change whose word is up to another, or the first value
 pub record IsValueAt (value : ℕ) (changes : List (ℕ × ℕ)) (word result : ℕ) : Type 0 where

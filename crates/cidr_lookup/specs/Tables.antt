@@ -29,7 +29,7 @@ ipv6_steps networks = if nat_lt networks 64 then 20 else 19
 -- why keys have no table: too many networks; or else one is refused; or an allocation failed
 abbrev pub AreKeysRefused : ℕ → List (ℕ × ℕ) → TableError → Type 0
 AreKeysRefused w networks TooMany = 2 ^ 31 ≤ length networks
-AreKeysRefused w networks (Refused place) = (length networks < 2 ^ 31) × IsFirstRefused w networks (Some place)
+AreKeysRefused w networks (Refused index) = (length networks < 2 ^ 31) × IsFirstRefused w networks (Some index)
 AreKeysRefused w networks TooLarge = ⊥
 AreKeysRefused w networks NoMemory = length networks < 2 ^ 31
 

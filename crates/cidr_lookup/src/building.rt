@@ -166,12 +166,12 @@ pub(crate) fn entry_of<A: Address, S: Sink>(
         runs.add(part, part + 1, entry);
         part += 1;
     }
-    let place = sink.len();
-    if place >= MOST_WORDS {
+    let index = sink.len();
+    if index >= MOST_WORDS {
         return Err(Stop::TooMany);
     }
     put_node(&runs, sink)?;
-    Ok(PLACE + 2 * place as u32)
+    Ok(PLACE + 2 * index as u32)
 }
 
 /// How many changes the list of a block has, or `None` where it has no list. `range` is the last that begins at most with
@@ -239,12 +239,12 @@ fn put_listed<A: Address, S: Sink>(
     ensures many { IfErr result (λ stop. stop ≡ Stop.TooMany → 2 ^ 30 ≤ length (S.put sink.new)) }
     ensures entry { IfOk result (λ entry. IsEntry (IsAnswer A.width A.padding (key_networks A.value keys.now)) steps block (S.put sink.old) entry (S.put sink.new)) }
 {
-    let place = sink.len();
-    if place >= MOST_WORDS {
+    let index = sink.len();
+    if index >= MOST_WORDS {
         return Err(Stop::TooMany);
     }
     put_list(starts, answers, range, count, sink)?;
-    Ok(PLACE + 2 * place as u32 + 1)
+    Ok(PLACE + 2 * index as u32 + 1)
 }
 
 /// Adds the values of parts from one on, up to the first in which a range begins, which is returned, or the number of parts.

@@ -76,15 +76,15 @@ impl<A: Address> Key<A> {
 pub fn first_refused<A: Address>(keys: &[Key<A>]) -> Option<usize>
     ensures { IsFirstRefused A.width (key_networks A.value keys.now) result }
 {
-    (0..keys.len()).find(|&place| !is_next(keys, place))
+    (0..keys.len()).find(|&index| !is_next(keys, index))
 }
 
 /// Whether a key is a network and comes after the one before it.
-fn is_next<A: Address>(keys: &[Key<A>], place: usize) -> bool
-    requires { place < length keys.now }
-    ensures { IsTrue result ↔ IsNext A.width (key_networks A.value keys.now) place }
+fn is_next<A: Address>(keys: &[Key<A>], index: usize) -> bool
+    requires { index < length keys.now }
+    ensures { IsTrue result ↔ IsNext A.width (key_networks A.value keys.now) index }
 {
-    keys[place].is_network() && (place == 0 || keys[place - 1].precedes(&keys[place]))
+    keys[index].is_network() && (index == 0 || keys[index - 1].precedes(&keys[index]))
 }
 
 /// The number whose last bits, so many, are set and no other.

@@ -15,7 +15,7 @@ pub(crate) struct Pass {
     /// The number that the range begins with.
     pub(crate) start: u128,
     /// How many keys have been opened.
-    pub(crate) place: usize,
+    pub(crate) index: usize,
     /// How many are open, and one more, which stands for no key and comes first.
     pub(crate) depth: usize,
     /// The last number of each open key.
@@ -27,16 +27,16 @@ pub(crate) struct Pass {
 /// The pass before the first key.
 pub(crate) fn started<A: Address>(keys: &[Key<A>]) -> Pass
     requires { AreAscendingNetworks A.width (key_networks A.value keys.now) }
-    ensures passing { IsPassing A.width (key_networks A.value keys.now) result.place result.start result.lasts result.ends result.depth }
+    ensures passing { IsPassing A.width (key_networks A.value keys.now) result.index result.start result.lasts result.ends result.depth }
     ensures start { result.start ≡ 0 }
-    ensures place { result.place ≡ 0 }
+    ensures index { result.index ≡ 0 }
     ensures depth { result.depth ≡ 1 }
 {
     let mut lasts = [0; MOST_OPEN];
     lasts[0] = ones(A::width());
     Pass {
         start: 0,
-        place: 0,
+        index: 0,
         depth: 1,
         lasts,
         ends: [0; MOST_OPEN],
@@ -48,28 +48,28 @@ pub(crate) fn started<A: Address>(keys: &[Key<A>]) -> Pass
 pub(crate) fn goes_on<A: Address>(keys: &[Key<A>], pass: &mut Pass) -> bool
     requires keys { AreAscendingNetworks A.width (key_networks A.value keys.now) }
     requires few { length keys.now < 2 ^ 32 }
-    requires passing { IsPassing A.width (key_networks A.value keys.now) pass.old.place pass.old.start pass.old.lasts pass.old.ends pass.old.depth }
-    ensures passing { result ≡ true → IsPassing A.width (key_networks A.value keys.now) pass.new.place pass.new.start pass.new.lasts pass.new.ends pass.new.depth }
+    requires passing { IsPassing A.width (key_networks A.value keys.now) pass.old.index pass.old.start pass.old.lasts pass.old.ends pass.old.depth }
+    ensures passing { result ≡ true → IsPassing A.width (key_networks A.value keys.now) pass.new.index pass.new.start pass.new.lasts pass.new.ends pass.new.depth }
     ensures edge { result ≡ true → IsEdge A.width (key_networks A.value keys.now) pass.new.start }
     ensures further { result ≡ true → pass.old.start ≤ pass.new.start }
     ensures range { result ≡ true → (address : ℕ) → pass.old.start ≤ address → address < pass.new.start
         → IsLastWithNumber A.width (key_networks A.value keys.now) (length (key_networks A.value keys.now)) address (slice_index_or pass.old.ends (pass.old.depth - 1) 0) }
     ensures rest { result ≡ false → (address : ℕ) → pass.old.start ≤ address → address < 2 ^ A.width
         → IsLastWithNumber A.width (key_networks A.value keys.now) (length (key_networks A.value keys.now)) address (slice_index_or pass.old.ends (pass.old.depth - 1) 0) }
-    ensures steps { result ≡ true → pass.new.depth + 2 * pass.old.place + 1 ≡ pass.old.depth + 2 * pass.new.place }
-    ensures left { result ≡ true → pass.old.place ≤ pass.new.place }
+    ensures steps { result ≡ true → pass.new.depth + 2 * pass.old.index + 1 ≡ pass.old.depth + 2 * pass.new.index }
+    ensures left { result ≡ true → pass.old.index ≤ pass.new.index }
 {
     let last = pass.lasts[pass.depth - 1];
-    if pass.place < keys.len() {
-        let key = keys[pass.place];
+    if pass.index < keys.len() {
+        let key = keys[pass.index];
         let first = key.address.number();
         if first <= last {
             let depth = pass.depth;
             pass.lasts[depth] = key.last();
-            pass.ends[depth] = pass.place as u32 + 1;
+            pass.ends[depth] = pass.index as u32 + 1;
             pass.start = first;
             pass.depth = depth + 1;
-            pass.place += 1;
+            pass.index += 1;
             return true;
         }
     }

@@ -37,8 +37,8 @@ pub(crate) fn ranges_of<A: Address>(alloc: Global, keys: &[Key<A>]) -> Result<Ra
     let Ok(mut answers) = vec![in alloc; 0; most] else {
         return Err(TableError::NoMemory);
     };
-    if let Some(place) = first_refused(keys) {
-        return Err(TableError::Refused(place));
+    if let Some(index) = first_refused(keys) {
+        return Err(TableError::Refused(index));
     }
     let count = written(keys, starts.as_mut_slice(), answers.as_mut_slice());
     starts.truncate(count);
@@ -95,13 +95,13 @@ fn put_range<A: Address>(
 }
 
 /// Writes a range.
-fn put<A: Address>(starts: &mut [A], answers: &mut [u32], place: usize, start: u128, answer: u32)
+fn put<A: Address>(starts: &mut [A], answers: &mut [u32], index: usize, start: u128, answer: u32)
     requires start { start < 2 ^ A.width }
-    requires starts { place < length starts.old }
-    requires answers { place < length answers.old }
-    ensures starts { IsPut (map A.value starts.old) (map A.value starts.new) place start }
-    ensures answers { IsPut answers.old answers.new place answer }
+    requires starts { index < length starts.old }
+    requires answers { index < length answers.old }
+    ensures starts { IsPut (map A.value starts.old) (map A.value starts.new) index start }
+    ensures answers { IsPut answers.old answers.new index answer }
 {
-    starts[place] = A::of(start);
-    answers[place] = answer;
+    starts[index] = A::of(start);
+    answers[index] = answer;
 }

@@ -93,17 +93,17 @@ fn found_value<A: Address, T: Words>(first: &T, words: &T, steps: u32, address: 
     let mut rest = address.behind(width - shift);
     let mut end = words.len().saturating_sub(1);
     while entry >= PLACE {
-        let place = ((entry - PLACE) / 2) as usize;
+        let index = ((entry - PLACE) / 2) as usize;
         if width > LISTS && entry % 2 == 1 {
-            return listed(words, place, address.list_word());
+            return listed(words, index, address.list_word());
         }
-        if place >= end {
+        if index >= end {
             return 0;
         }
-        end = place;
-        let marks = u64::from(words.word(place + 1)) * (1 << 32) + u64::from(words.word(place));
+        end = index;
+        let marks = u64::from(words.word(index + 1)) * (1 << 32) + u64::from(words.word(index));
         let upto = marks >> (63 - rest.part());
-        let next = place + 1 + upto.count_ones() as usize;
+        let next = index + 1 + upto.count_ones() as usize;
         if next >= words.len() {
             return 0;
         }
@@ -115,19 +115,19 @@ fn found_value<A: Address, T: Words>(first: &T, words: &T, steps: u32, address: 
 
 /// The value that the list at a place has for the addresses with this word.
 #[inline(always)]
-fn listed<T: Words>(words: &T, place: usize, address: u32) -> u32
-    requires { place < 2 ^ 31 }
-    ensures { (value : ℕ) (changes : List (ℕ × ℕ)) → IsListAt (T.words words.now) place value changes → length changes < 32
+fn listed<T: Words>(words: &T, index: usize, address: u32) -> u32
+    requires { index < 2 ^ 31 }
+    ensures { (value : ℕ) (changes : List (ℕ × ℕ)) → IsListAt (T.words words.now) index value changes → length changes < 32
         → AreOrdered changes → IsValueAt value changes address result }
 {
-    if place >= words.len() {
+    if index >= words.len() {
         return 0;
     }
-    let count = words.word(place) as usize;
+    let count = words.word(index) as usize;
     if count > MOST_CHANGES {
         return 0;
     }
-    let starts = place + 1;
+    let starts = index + 1;
     let values = starts + count;
     if values + count >= words.len() {
         return 0;

@@ -96,28 +96,28 @@ impl Sink for Vec<u32> {
 pub(crate) struct Compared<'a, T> {
     pub(crate) words: &'a T,
     /// How many were put.
-    pub(crate) place: usize,
+    pub(crate) index: usize,
 }
 
 impl<T: Words> Sink for Compared<'_, T> {
-    ghost put = { λ s. take s.place (T.words s.words.now) };
+    ghost put = { λ s. take s.index (T.words s.words.now) };
 
     ghost given = { λ s. T.words s.words.now };
 
-    ghost refuses = { λ s word. slice_get (T.words s.words.now) (length (take s.place (T.words s.words.now))) ≢ Some word };
+    ghost refuses = { λ s word. slice_get (T.words s.words.now) (length (take s.index (T.words s.words.now))) ≢ Some word };
 
     fn len(&self) -> usize {
-        self.place.min(self.words.len())
+        self.index.min(self.words.len())
     }
 
     fn push(&mut self, word: u32) -> Result<(), Stop> {
-        if self.place >= self.words.len() {
+        if self.index >= self.words.len() {
             return Err(Stop::Refused);
         }
-        if self.words.word(self.place) != word {
+        if self.words.word(self.index) != word {
             return Err(Stop::Refused);
         }
-        self.place += 1;
+        self.index += 1;
         Ok(())
     }
 }

@@ -249,8 +249,8 @@ loop-part-preserved g t c =
       );
     }
 
-pub returns-then-place-ge-MOST_WORDS-clause-upto : goal.returns-then-place-ge-MOST_WORDS-clause-upto
-returns-then-place-ge-MOST_WORDS-clause-upto g t c =
+pub returns-then-index-ge-MOST_WORDS-clause-upto : goal.returns-then-index-ge-MOST_WORDS-clause-upto
+returns-then-index-ge-MOST_WORDS-clause-upto g t c =
     omega (arith, c.add_whole-part.ensures.upto, part_ends c.args.steps c.args.block c.add_whole-part.result c.requires.some c.add_whole-part.ensures.parts)
 
 pub returns-in_err-put_node-clause-upto : goal.returns-in_err-put_node-clause-upto
@@ -288,8 +288,8 @@ returns-in_err-entry-clause-stopped g t c =
     (g.S.Sink.put c.loop-part.sink) part c.requires.some none c.in_default.ensures.none known filled (g.S.Sink.put c.entry_of.new.sink) (g.S.Sink.refuses c.entry_of.new.sink) c.if-part-ge-PARTS.false
     c.in_err-entry.ensures.stopped)
 
-pub returns-then-place-ge-MOST_WORDS-clause-stopped : goal.returns-then-place-ge-MOST_WORDS-clause-stopped
-returns-then-place-ge-MOST_WORDS-clause-stopped g t c =
+pub returns-then-index-ge-MOST_WORDS-clause-stopped : goal.returns-then-index-ge-MOST_WORDS-clause-stopped
+returns-then-index-ge-MOST_WORDS-clause-stopped g t c =
     let w = g.A.Address.width in
     let padding = g.A.Address.padding in
     let steps = c.args.steps in
@@ -313,7 +313,7 @@ returns-then-place-ge-MOST_WORDS-clause-stopped g t c =
     λ entry after known.
     stops_at_place Has (one_answer w padding networks c.requires.keys) steps block (g.S.Sink.put c.args.sink.now) entry after more.0
     (g.S.Sink.put c.loop-part.sink) part c.requires.some none c.in_default.ensures.none known filled (g.S.Sink.put c.loop-part.sink) (g.S.Sink.refuses c.loop-part.sink)
-    (omega (arith, c.add_whole-part.ensures.parts, c.if-part-ge-PARTS.true)) refl (omega (arith, c.len-place.ensures, c.if-place-ge-MOST_WORDS.true))
+    (omega (arith, c.add_whole-part.ensures.parts, c.if-part-ge-PARTS.true)) refl (omega (arith, c.len-index.ensures, c.if-index-ge-MOST_WORDS.true))
 
 pub put_node-requires : goal.put_node-requires
 put_node-requires g t c =
@@ -394,10 +394,10 @@ returns-clause-entry g t c =
     let all : part ≡ 64 = omega (arith, c.add_whole-part.ensures.parts, c.if-part-ge-PARTS.true) in
     let runs = c.add_whole-part.new.runs in
     let words = whole_node more.0 runs.marks runs.entries runs.count (subst (λ n. AreRuns more.0 n runs.marks runs.entries runs.count) all more.1) in
-    node_entry Has steps block (g.S.Sink.put c.args.sink.now) (2 ^ 31 + 2 * c.len-place.result) (g.S.Sink.put c.put_node.new.sink) more.0 (g.S.Sink.put c.loop-part.sink)
+    node_entry Has steps block (g.S.Sink.put c.args.sink.now) (2 ^ 31 + 2 * c.len-index.result) (g.S.Sink.put c.put_node.new.sink) more.0 (g.S.Sink.put c.loop-part.sink)
     c.requires.some none c.in_default.ensures.none
     (subst (λ n. AreEntries (IsEntry Has (steps - 1)) (block * 64) n (g.S.Sink.put c.args.sink.now) more.0 (g.S.Sink.put c.loop-part.sink)) all filled)
-    (ap (λ (n : ℕ). 2 ^ 31 + 2 * n) c.len-place.ensures) (c.in_ok-put_node.ensures.put ∙ ap (λ x. g.S.Sink.put c.loop-part.sink ++ x) (sym words))
+    (ap (λ (n : ℕ). 2 ^ 31 + 2 * n) c.len-index.ensures) (c.in_ok-put_node.ensures.put ∙ ap (λ x. g.S.Sink.put c.loop-part.sink ++ x) (sym words))
 
 pub returns-in-Some-clause-upto : goal.returns-in-Some-clause-upto
 returns-in-Some-clause-upto g t c = omega (arith, c.last_upto.ensures.upto, first_part c.args.steps c.args.block c.requires.some)

@@ -10,15 +10,15 @@ use Rattle.cidr_lookup.proofs.Lists.{changes_long}
 use Rattle.cidr_lookup.proofs.Nodes.{on_err}
 use Rattle.cidr_lookup.proofs.building.put_listed.Goals as goal
 
-pub returns-then-place-ge-MOST_WORDS-clause-stopped : goal.returns-then-place-ge-MOST_WORDS-clause-stopped
-returns-then-place-ge-MOST_WORDS-clause-stopped g c = λ entry after known.
+pub returns-then-index-ge-MOST_WORDS-clause-stopped : goal.returns-then-index-ge-MOST_WORDS-clause-stopped
+returns-then-index-ge-MOST_WORDS-clause-stopped g c = λ entry after known.
     let w = g.A.Address.width in
     let padding = g.A.Address.padding in
     let networks = key_networks g.A.Address.value c.args.keys.now in
     let value = get_or c.args.answers.now c.args.range 0 in
     let changes = changes_from padding (map g.A.Address.value c.args.starts.now) c.args.answers.now (c.args.range + 1) c.args.count in
     inr (
-      omega (arith, c.len-place.ensures, c.if-place-ge-MOST_WORDS.true),
+      omega (arith, c.len-index.ensures, c.if-index-ge-MOST_WORDS.true),
       (
         list value changes,
         own_list (IsAnswer w padding networks) (one_answer w padding networks c.requires.keys) c.args.steps c.args.block
@@ -44,7 +44,7 @@ put_list-requires-clause-few g c =
 pub returns-clause-entry : goal.returns-clause-entry
 returns-clause-entry g c =
     let padding = g.A.Address.padding in
-    list_entry (IsAnswer g.A.Address.width padding (key_networks g.A.Address.value c.args.keys.now)) c.args.steps c.args.block (g.S.Sink.put c.args.sink.now) (2 ^ 31 + 2 * c.len-place.result + 1)
+    list_entry (IsAnswer g.A.Address.width padding (key_networks g.A.Address.value c.args.keys.now)) c.args.steps c.args.block (g.S.Sink.put c.args.sink.now) (2 ^ 31 + 2 * c.len-index.result + 1)
     (g.S.Sink.put c.put_list.new.sink) (get_or c.args.answers.now c.args.range 0)
     (changes_from padding (map g.A.Address.value c.args.starts.now) c.args.answers.now (c.args.range + 1) c.args.count) c.requires.some c.requires.list
-    (ap (λ (n : ℕ). 2 ^ 31 + 2 * n + 1) c.len-place.ensures) c.in_ok-put_list.ensures.put
+    (ap (λ (n : ℕ). 2 ^ 31 + 2 * n + 1) c.len-index.ensures) c.in_ok-put_list.ensures.put

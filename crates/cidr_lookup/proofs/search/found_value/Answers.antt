@@ -52,9 +52,9 @@ loop-entry-init g c = record {
 }
 
 -- where the entry of a part is
-placed : (words : List ℕ) (place part high low digit : ℕ) → high ≡ get_or words (place + 1) 0 → low ≡ get_or words place 0 → digit ≡ part
-    → place + 1 + count_ones ((high * 2 ^ 32 + low) / 2 ^ (63 - digit)) ≡ part_at words place part
-placed words place part high low digit h l d = ap₂ (λ m k. place + 1 + count_ones (m / 2 ^ (63 - k))) (ap₂ (λ x y. x * 2 ^ 32 + y) h l) d
+placed : (words : List ℕ) (index part high low digit : ℕ) → high ≡ get_or words (index + 1) 0 → low ≡ get_or words index 0 → digit ≡ part
+    → index + 1 + count_ones ((high * 2 ^ 32 + low) / 2 ^ (63 - digit)) ≡ part_at words index part
+placed words index part high low digit h l d = ap₂ (λ m k. index + 1 + count_ones (m / 2 ^ (63 - k))) (ap₂ (λ x y. x * 2 ^ 32 + y) h l) d
 
 -- an odd entry is that of a list
 pub returns-then-entry-eq1 : goal.returns-then-entry-eq1
@@ -68,8 +68,8 @@ returns-then-entry-eq1 g c = λ networks table.
     let found = c.listed.ensures at.0 at.1 at.3 at.2.1 (ordered Has h.0 block at.0 at.1 at.2) in
     list_has Has h.0 number at.0 at.1 c.listed.result at.2 (subst (λ u. IsValueAt at.0 at.1 u c.listed.result) c.list_word.ensures found)
 
-pub returns-then-place-end : goal.returns-then-place-end
-returns-then-place-end g c = λ networks table.
+pub returns-then-index-end : goal.returns-then-index-end
+returns-then-index-end g c = λ networks table.
     let number = g.A.Address.value c.args.address * 2 ^ g.A.Address.padding in
     let words = g.T.Words.words c.args.words.now in
     let h = c.loop-entry.invariant.leads networks table in
@@ -78,7 +78,7 @@ returns-then-place-end g c = λ networks table.
       | else-width-gt-LISTS-via-else-width-gt-LISTS w ↦ λ _. omega (arith, h.1, w.if-width-gt-LISTS.false, c.if-shift-width.false)
     ] in
     let on = next (IsAnswer g.A.Address.width g.A.Address.padding networks) words c.loop-entry.end h.0 number c.loop-entry.entry ((c.loop-entry.entry - 2 ^ 31) / 2) h.3 c.loop-entry-test.true short refl in
-    absurd (omega (arith, on.2.0, c.if-place-end.true))
+    absurd (omega (arith, on.2.0, c.if-index-end.true))
 
 pub returns-then-next-len : goal.returns-then-next-len
 returns-then-next-len g c = λ networks table.
@@ -99,7 +99,7 @@ returns-then-next-len g c = λ networks table.
 
 pub loop-entry-preserved : goal.loop-entry-preserved
 loop-entry-preserved g c = record {
-  within = omega (arith, c.loop-entry.invariant.within, c.if-place-end.false);
+  within = omega (arith, c.loop-entry.invariant.within, c.if-index-end.false);
   leads = λ networks table.
       let number = g.A.Address.value c.args.address * 2 ^ g.A.Address.padding in
       let words = g.T.Words.words c.args.words.now in

@@ -9,5 +9,5 @@ returns g c =
     let rows : StoredRows g.row.C.Denot g.row.V.Denot → List (g.row.C.Denot × g.row.V.Denot) = λ t. t.rows in
     let asked = g.C.BitString.bits c.args.asked.now in
     subst (λ (row : Option (g.row.C.Denot × g.row.V.Denot)). IsLookedUp g.C.BitString.bits asked c.args.self.now.rows row)
-    (sym (c.row.ensures.row ∙ ap (λ (xs : List (g.row.C.Denot × g.row.V.Denot)). slice_get xs c.in_ok-place.place) (ap rows c.self.view_is)))
-    (row_found g.C.Number.Address.width g.C.BitString.bits asked c.args.self.now.rows (Some c.in_ok-place.place) c.in_ok-place.ensures)
+    (sym (c.row.ensures.row ∙ ap (λ (xs : List (g.row.C.Denot × g.row.V.Denot)). slice_get xs c.in_ok-index.index) (ap rows c.self.view_is)))
+    (row_found g.C.Number.Address.width g.C.BitString.bits asked c.args.self.now.rows (Some c.in_ok-index.index) c.in_ok-index.ensures)
