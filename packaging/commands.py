@@ -39,11 +39,11 @@ def names_in(path, function):
 
 def values_of(valued):
     """The names that the options of a command take, of those with a value: formats and forms."""
-    formats = names_in(FORMATS, "format_name") if "--prefix" in valued else names_in(ARGUMENTS, "named_line_format")
+    formats = names_in(FORMATS, "format_name") if "--prefix" in valued else names_in(ARGUMENTS, "line_format_in")
     of_table = "--table-separator" in valued
     forms = names_in(ARGUMENTS, "named_layout") if of_table else names_in(ARGUMENTS, "named_list_form")
-    named = {"--format": formats, "--form": [it for it in forms if not it.startswith("-")]}
-    return {option: names for option, names in named.items() if option in valued}
+    named = {"--format": formats, "--form": forms}
+    return {option: [it for it in names if not it.startswith("-")] for option, names in named.items() if option in valued}
 
 
 class Command:

@@ -74,13 +74,10 @@ alone : {X : Type 0} (In : X → Family → List Bool → Type 0) (x : X) (famil
 alone In x family a = (λ h. (h, λ none. none), λ h. h.0)
 
 -- what is inside the networks of a set is inside those of the list
-pub list_split : (contents : List ℕ → Option Text) (style : Option Style) (file len : List ℕ) (n : ℕ) (sets : Sets) (s t : State) (r : Result Verdict CommandError)
-    → IsNumber len n × (n ≤ 128) → ReadsListed contents file (Ok sets) → TellsFree style (networks_of sets) n None s t r → SplitsList contents style file len s t r
-list_split contents style file len n sets s t r number reads (answer, verdict, w, free, written, is) =
+pub list_split : (contents : List ℕ → Option Text) (style : Option Style) (file : List ℕ) (n : ℕ) (sets : Sets) (s t : State) (r : Result Verdict CommandError)
+    → ReadsListed contents file (Ok sets) → TellsFree style (networks_of sets) n None s t r → SplitsList contents style file n s t r
+list_split contents style file n sets s t r reads (answer, verdict, w, free, written, is) =
     inr (
-      n,
-      number.0,
-      number.1,
       answer,
       verdict,
       w,
@@ -94,19 +91,18 @@ list_split contents style file len n sets s t r number reads (answer, verdict, w
       is,
     )
 
-pub split_in_list : (contents : List ℕ → Option Text) (style : Option Style) (operand len : List ℕ) (s t : State) (r : Result Verdict CommandError) → IsNoNetworkText operand
-    → SplitsList contents style operand len s t r → AnswersRequest contents (Split style operand len) s t r
-split_in_list contents style operand len s t r none (inl (same, e, is, why)) =
-    subst (AnswersRequest contents (Split style operand len) s t) (sym is) (inl (same, inr (none, why)))
-split_in_list contents style operand len s t r none (inr (n, number, short, answer, verdict, w, list, written, is)) =
-    inr (answer, verdict, w, (n, number, inr (none, short, list)), written, is)
+pub split_in_list : (contents : List ℕ → Option Text) (style : Option Style) (operand len : List ℕ) (n : ℕ) (s t : State) (r : Result Verdict CommandError)
+    → IsNoNetworkText operand → SplitsList contents style operand n s t r → AnswersRequest contents (Split style operand len n) s t r
+split_in_list contents style operand len n s t r none (inl (same, e, is, why)) =
+    subst (AnswersRequest contents (Split style operand len n) s t) (sym is) (inl (same, inr (none, why)))
+split_in_list contents style operand len n s t r none (inr (answer, verdict, w, list, written, is)) = inr (answer, verdict, w, inr (none, list), written, is)
 
-pub split_in_network : (contents : List ℕ → Option Text) (style : Option Style) (operand len : List ℕ) (network : IpCidr) (s t : State) (r : Result Verdict CommandError)
-    → IsIpNetworkText operand network → SplitsNetwork style network len s t r → AnswersRequest contents (Split style operand len) s t r
-split_in_network contents style operand len network s t r reads (inl (same, e, is, why)) =
-    subst (AnswersRequest contents (Split style operand len) s t) (sym is) (inl (same, inl (network, reads, why)))
-split_in_network contents style operand len network s t r reads (inr (n, number, some, w, written, is)) =
-    inr (split_text style network n, Yes, w, (n, number, inl (network, reads, some, refl, refl)), written, is)
+pub split_in_network : (contents : List ℕ → Option Text) (style : Option Style) (operand len : List ℕ) (n : ℕ) (network : IpCidr) (s t : State) (r : Result Verdict CommandError)
+    → IsIpNetworkText operand network → SplitsNetwork style network len n s t r → AnswersRequest contents (Split style operand len n) s t r
+split_in_network contents style operand len n network s t r reads (inl (same, e, is, why)) =
+    subst (AnswersRequest contents (Split style operand len n) s t) (sym is) (inl (same, inl (network, reads, why)))
+split_in_network contents style operand len n network s t r reads (inr (some, w, written, is)) =
+    inr (split_text style network n, Yes, w, inl (network, reads, some, refl, refl), written, is)
 
 -- the networks inside one are those that there are
 not_less : (a b : ℕ) (less : Bool) → nat_lt a b ≡ less → ¬ (a < b) → b ≤ a
@@ -125,8 +121,8 @@ pub free_cause : (F : List ℕ → Reason → Type 0) (refused : Bool) (style : 
     → TellsFree style sets n most s t r → IfErr r (Cause F refused)
 free_cause F refused style sets n most s t r (answer, verdict, w, free, written, is) = output_cause F refused verdict w r is
 
-pub network_cause : (F : List ℕ → Reason → Type 0) (refused : Bool) (style : Option Style) (network : IpCidr) (len : List ℕ) (s t : State) (r : Result Verdict CommandError)
-    → SplitsNetwork style network len s t r → IfErr r (Cause F refused)
-network_cause F refused style network len s t r (inl (same, e, is, why)) =
+pub network_cause : (F : List ℕ → Reason → Type 0) (refused : Bool) (style : Option Style) (network : IpCidr) (len : List ℕ) (n : ℕ) (s t : State) (r : Result Verdict CommandError)
+    → SplitsNetwork style network len n s t r → IfErr r (Cause F refused)
+network_cause F refused style network len n s t r (inl (same, e, is, why)) =
     subst (λ (k : Result Verdict CommandError). IfErr k (Cause F refused)) (sym is) (argument_cause F refused _ e why)
-network_cause F refused style network len s t r (inr (n, number, some, w, written, is)) = output_cause F refused Yes w r is
+network_cause F refused style network len n s t r (inr (some, w, written, is)) = output_cause F refused Yes w r is

@@ -135,24 +135,12 @@ found_parts words verb parts is = ap (λ (r : Result (Verb × Parts) (List ℕ))
 pub found_none : (words : List (List ℕ)) (line : List ℕ) → line_parts words ≡ Err line → line_request words ≡ Err line
 found_none words line is = ap (λ (r : Result (Verb × Parts) (List ℕ)). and_then r (λ found. read_request found.0 found.1)) is
 
-pub read_none : (verb : Verb) (parts : Parts) (line : List ℕ) → part_request verb parts ≡ Err line → read_request verb parts ≡ Err line
-read_none verb parts line is =
-    ap (λ (r : Result Request (List ℕ)). and_then r (λ request. and_then (target_in verb parts) (λ target. and_then (reading_in verb parts) (λ reading. Ok (reading, (target, request)))))) is
-
-pub read_target : (verb : Verb) (parts : Parts) (request : Request) (found : Result (Option (List ℕ)) (List ℕ)) → part_request verb parts ≡ Ok request → target_in verb parts ≡ found
-    → read_request verb parts ≡ and_then found (λ target. and_then (reading_in verb parts) (λ reading. Ok (reading, (target, request))))
-read_target verb parts request found is to =
-    ap (λ (r : Result Request (List ℕ)). and_then r (λ request. and_then (target_in verb parts) (λ target. and_then (reading_in verb parts) (λ reading. Ok (reading, (target, request)))))) is
-    ∙ ap (λ (r : Result (Option (List ℕ)) (List ℕ)). and_then r (λ target. and_then (reading_in verb parts) (λ reading. Ok (reading, (target, request))))) to
-
-pub read_reading : (verb : Verb) (parts : Parts) (target : Option (List ℕ)) (request : Request) (found : Result Reading (List ℕ)) → part_request verb parts ≡ Ok request
-    → target_in verb parts ≡ Ok target → reading_in verb parts ≡ found → read_request verb parts ≡ and_then found (λ reading. Ok (reading, (target, request)))
-read_reading verb parts target request found is to read =
-    read_target verb parts request (Ok target) is to ∙ ap (λ (r : Result Reading (List ℕ)). and_then r (λ reading. Ok (reading, (target, request)))) read
-
 pub read_one : (verb : Verb) (parts : Parts) (reading : Reading) (target : Option (List ℕ)) (request : Request) → part_request verb parts ≡ Ok request
     → target_in verb parts ≡ Ok target → reading_in verb parts ≡ Ok reading → read_request verb parts ≡ Ok (reading, (target, request))
-read_one verb parts reading target request is to read = read_reading verb parts target request (Ok reading) is to read
+read_one verb parts reading target request is to read =
+    ap (λ (r : Result Request (List ℕ)). and_then r (λ one. and_then (target_in verb parts) (λ name. and_then (reading_in verb parts) (λ way. Ok (way, (name, one)))))) is
+    ∙ (ap (λ (r : Result (Option (List ℕ)) (List ℕ)). and_then r (λ name. and_then (reading_in verb parts) (λ way. Ok (way, (name, request))))) to
+    ∙ ap (λ (r : Result Reading (List ℕ)). and_then r (λ way. Ok (way, (target, request)))) read)
 
 pub run_found : (found other : Result Line (List ℕ)) (contents : List ℕ → Option (List ℕ)) (refused : Refusals) (closed : Bool) (out new s t : State) (status : ℕ)
     → found ≡ other → RunsFound other contents refused closed out new s t status → RunsFound found contents refused closed out new s t status

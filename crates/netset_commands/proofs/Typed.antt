@@ -1,5 +1,5 @@
 -- Requests as they are typed are read as these requests.
-use Rattle.std.proofs.Common.{◌≡◌, ◌⊎◌, refl, sym, ◌∙◌, ap, subst, arith, inl, inr, ℕ, ◌+◌, ◌^◌, ◌<◌, ◌≤◌, decimal, Bool, true, false, if◌then◌else◌, ◌||◌, ◌&&◌, List, [], ◌∷◌, ◌++◌, codes, slice_get, append-nil, Option, Some, None, ok_or, Result, Ok}
+use Rattle.std.proofs.Common.{◌≡◌, ◌⊎◌, refl, sym, ◌∙◌, ap, subst, arith, inl, inr, ℕ, ◌+◌, ◌^◌, ◌<◌, ◌≤◌, decimal, Bool, true, false, if◌then◌else◌, ◌||◌, ◌&&◌, List, [], ◌∷◌, ◌++◌, codes, slice_get, append-nil, Option, Some, None, ok_or, Result, Ok, map}
 use Rattle.std.specs.List.{list_all, list_any}
 use Rattle.std.proofs.lemmas.Bool.{true≢false}
 use Rattle.cidr.specs.declared.family.Family.TheVariants.{Ipv4, Ipv6}
@@ -16,7 +16,7 @@ use Rattle.cidr_lists.specs.declared.forms.RowLayout.{RowLayout}
 use Rattle.cidr_lists.specs.declared.records.ListForm.{ListForm}
 use Rattle.cidr_lists.specs.declared.records.ListForm.TheVariants.{Networks}
 use Rattle.cidr_lists.specs.declared.forms.RowLayout.TheVariants.{Fields, Columns, Pfx2as, Routes}
-use Rattle.netset_commands.specs.Arguments.{Parts, and_then, question_by, asks_help, column_at, column_by, counted_request, extra_operand, field_by, field_in, form_in, is_option, joined_arguments, length_by, line_request, list_form_by, list_form_in, lists_request, look_by, match_by, may_keep, misuse_text, most_by, most_in, named_verb, only_operand, only_options, only_value, operand_or, part_request, parts_from, read_request, reading_in, reads_tables, style_in_values, takes, target_by, value_behind, option_value, verb_request, word_parts}
+use Rattle.netset_commands.specs.Arguments.{Parts, and_then, question_by, asks_help, column_at, column_by, counted_request, extra_operand, field_by, field_in, form_in, is_option, joined_arguments, length_by, line_request, list_form_by, list_form_in, lists_request, match_by, may_keep, misuse_text, most_by, named_verb, only_operand, only_options, only_value, operand_or, part_request, parts_from, read_request, reading_in, reads_tables, style_in_values, takes, target_by, value_behind, option_value, verb_request, word_parts}
 use Rattle.netset_commands.specs.Commands.{Request, Lists, Styled, NotIn, Diff, Same, Free, Acl, Split, Check, Which, Match, MatchEach, Look, Compile, Smallest, Describe, Class, Single, Help, Version, bits_of, input_name, reading_of}
 use Rattle.netset_commands.specs.Free.{IsMost}
 use Rattle.netset_commands.specs.Matching.{has, is_word}
@@ -306,8 +306,9 @@ free_asks : (values : List (List ℕ)) (count : Option (List ℕ)) (most : Optio
     → verb_request verb.Free (parts_with options values (pool ∷ len ∷ used)) ≡ Ok (Free style most pool n used)
 free_asks values count most style options pool len n used number given is told =
     let behind : ℕ → Option ℕ → Result Request (List ℕ) = λ k one. and_then (style_in_values verb.Free values) (λ s. Ok (Free s one pool k used)) in
-    ap (λ (r : Result ℕ (List ℕ)). and_then r (λ k. and_then (most_in (parts_with options values (pool ∷ len ∷ used))) (behind k))) (length_told len n number)
-    ∙ (ap (λ (r : Result (Option (List ℕ)) (List ℕ)). and_then (and_then r (λ c. most_by (has (codes "--all") options) c)) (behind n)) given
+    let counted : ℕ → Option (List ℕ) → Result Request (List ℕ) = λ k c. and_then (most_by (has (codes "--all") options) c) (behind k) in
+    ap (λ (r : Result ℕ (List ℕ)). and_then r (λ k. and_then (option_value verb.Free (codes "--count") values) (counted k))) (length_told len n number)
+    ∙ (ap (λ (r : Result (Option (List ℕ)) (List ℕ)). and_then r (counted n)) given
     ∙ (ap (λ (r : Result (Option ℕ) (List ℕ)). and_then r (behind n)) (most_told (has (codes "--all") options) count most is)
     ∙ ap (λ (r : Result (Option Style) (List ℕ)). and_then r (λ s. Ok (Free s most pool n used))) told))
 
@@ -616,13 +617,14 @@ module _ (words options : List (List ℕ)) where
       → Look (seeking_of options column form) (operand_or operands 0 []) (operand_or operands 1 input_name) ≡ request → Asks request
   look_asks number column form operands request goes keeps numbers (is, all, no_page, none, enough) fits made =
       let values = look_values number column form in
-      let parts = parts_with options values operands in
+      let kept : Option Column → RowForm → Result Request (List ℕ) = λ one f. and_then (may_keep f.values (has (codes "--keep") options))
+      (λ _. Ok (Look (seeking_of options one f) (operand_or operands 0 []) (operand_or operands 1 input_name))) in
       line_asks verb.Look values values operands (is, all, no_page, none, enough)
       (behind_field verb.Look number column (form_values form.layout form.values) operands (refl, refl)
       (behind_layout verb.Look form.layout (style_words (line_style form.values)) operands (refl, refl, refl) (behind_format form.values operands none))) fits
       (look_file number form column, inl refl) request
-      (ap (λ (r : Result (Option Column) (List ℕ)). and_then r (λ one. and_then (form_in verb.Look values) (λ f. look_by one f parts))) (look_field number form column options operands goes)
-      ∙ (ap (λ (r : Result RowForm (List ℕ)). and_then r (λ f. look_by column f parts)) (look_form number form column numbers)
+      (ap (λ (r : Result (Option Column) (List ℕ)). and_then r (λ one. and_then (form_in verb.Look values) (kept one))) (look_field number form column options operands goes)
+      ∙ (ap (λ (r : Result RowForm (List ℕ)). and_then r (kept column)) (look_form number form column numbers)
       ∙ (ap (λ (r : Result (Unit {0}) (List ℕ)). and_then r (λ _. Ok (Look (seeking_of options column form) (operand_or operands 0 []) (operand_or operands 1 input_name))))
       (keeps_told form.values (has (codes "--keep") options) keeps)
       ∙ ap (λ (k : Request). Ok k) made)))
@@ -675,10 +677,11 @@ module _ (words options : List (List ℕ)) where
       (behind_values verb.Acl (codes "--diff") old json_words (file ∷ []) refl
       (behind_value verb.Acl (codes "--format") (codes "json") (file ∷ []) refl none)) refl (refl, inr refl) (Acl (Compared by_line.Json old) file)
       (question_asks false values (Some old) (Compared by_line.Json old) options file of_these refl refl)
-  typed_asks (Split style operand len) (plain, (is, all, no_page, none, enough)) =
+  typed_asks (Split style operand len n) (plain, number, (is, all, no_page, none, enough)) =
       line_asks verb.Split (style_words style) (style_words style) (operand ∷ len ∷ []) (is, all, no_page, none, enough)
-      (behind_style verb.Split style (operand ∷ len ∷ []) refl none) refl (no_file_told verb.Split style) (Split style operand len)
-      (ap (λ (r : Result (Option Style) (List ℕ)). and_then r (λ s. Ok (Split s operand len))) (style_told verb.Split style plain))
+      (behind_style verb.Split style (operand ∷ len ∷ []) refl none) refl (no_file_told verb.Split style) (Split style operand len n)
+      (ap (λ (r : Result (Option Style) (List ℕ)). and_then r (λ s. and_then (length_by len) (λ m. Ok (Split s operand len m)))) (style_told verb.Split style plain)
+      ∙ ap (λ (r : Result ℕ (List ℕ)). and_then r (λ m. Ok (Split style operand len m))) (length_told len n number))
   typed_asks (Check files) typed = plain_asks verb.Check files (Check files) typed refl refl
   typed_asks (Which address files) typed = plain_asks verb.Which (address ∷ files) (Which address files) typed refl refl
   typed_asks (Match picking list file) (number, column, same, goes, inl typed) =

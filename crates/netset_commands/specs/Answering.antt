@@ -18,7 +18,7 @@ use Rattle.netset_commands.specs.Stored.{AreFileBytes, IsNotGiven}
 use Rattle.cidr_io.specs.Writing.{State, Answered}
 use Rattle.cidr_io.specs.declared.sink.OutputFailed.{OutputFailed}
 use Rattle.netset_commands.specs.Describing.{told_of}
-use Rattle.netset_commands.specs.Free.{IsBadLength, IsFreeText}
+use Rattle.netset_commands.specs.Free.{IsFreeText}
 use Rattle.netset_commands.specs.Single.{HasNone, IsNumber}
 use Rattle.netset_commands.specs.Operands.{IsUnlisted, IsUnreadOperand, OfList, OfOperand}
 use Rattle.netset_commands.specs.declared.commands.describe.Description.{Description}
@@ -125,16 +125,14 @@ abbrev pub split_text : Option Style → IpCidr → ℕ → List ℕ
 split_text style network n = printed_walk style (subnets_of (network_family network) (network_prefix network) n)
 
 -- they were told, or the length is none of theirs
-abbrev pub SplitsNetwork : Option Style → IpCidr → List ℕ → State → State → Result Verdict CommandError → Type 0
-SplitsNetwork style network len old new r = ((new ≡ old) × (e : CommandError) × (r ≡ Err e) × IsBadArgument (HasNoSubnets network len) e)
-    ⊎ ((n : ℕ) × IsNumber len n × ¬ (HasNone network n) × (written : Result (Unit {0}) OutputFailed)
-    × Answered old new (split_text style network n) written × (r ≡ by_output Yes written))
+abbrev pub SplitsNetwork : Option Style → IpCidr → List ℕ → ℕ → State → State → Result Verdict CommandError → Type 0
+SplitsNetwork style network len n old new r = ((new ≡ old) × (e : CommandError) × (r ≡ Err e) × IsBadArgument (HasNoSubnets network len n) e)
+    ⊎ (¬ (HasNone network n) × (written : Result (Unit {0}) OutputFailed) × Answered old new (split_text style network n) written × (r ≡ by_output Yes written))
 
--- those inside the networks of a list were told, or the length is none, or the list is not read
-abbrev pub SplitsList : (List ℕ → Option Text) → Option Style → List ℕ → List ℕ → State → State → Result Verdict CommandError → Type 0
-SplitsList contents style file len old new r =
-    ((new ≡ old) × (e : CommandError) × (r ≡ Err e) × (IsBadArgument (IsBadLength len) e ⊎ ((n : ℕ) × IsNumber len n × (n ≤ 128) × IsUnlisted contents file e)))
-    ⊎ ((n : ℕ) × IsNumber len n × (n ≤ 128) × (answer : List ℕ) × (verdict : Verdict) × (written : Result (Unit {0}) OutputFailed)
+-- those inside the networks of a list were told, or the list is not read
+abbrev pub SplitsList : (List ℕ → Option Text) → Option Style → List ℕ → ℕ → State → State → Result Verdict CommandError → Type 0
+SplitsList contents style file n old new r = ((new ≡ old) × (e : CommandError) × (r ≡ Err e) × IsUnlisted contents file e)
+    ⊎ ((answer : List ℕ) × (verdict : Verdict) × (written : Result (Unit {0}) OutputFailed)
     × OfList (contents file) (λ said. IsFree style n None (said ∷ []) answer verdict) × Answered old new answer written × (r ≡ by_output verdict written))
 
 -- what is told of the networks of an operand was written, or it is not read

@@ -237,14 +237,11 @@ style_in_values command values = and_then (option_value command (codes "--format
     (λ prefix. and_then (option_value command (codes "--suffix") values) (λ suffix. chosen_style command name prefix suffix)))
 
 -- how lines are written: as text, unless the option says otherwise
-abbrev pub named_line_format : Verb → List ℕ → Result LineFormat (List ℕ)
-named_line_format command name = if is_word (codes "plain") name then Ok by_line.Plain
-    else if is_word (codes "json") name then Ok by_line.Json
-    else Err (misuse_text name NoLineFormat (name_of command))
-
 abbrev pub chosen_line_format : Verb → Option (List ℕ) → Result LineFormat (List ℕ)
 chosen_line_format command None = Ok by_line.Plain
-chosen_line_format command (Some name) = named_line_format command name
+chosen_line_format command (Some name) = if is_word (codes "plain") name then Ok by_line.Plain
+    else if is_word (codes "json") name then Ok by_line.Json
+    else Err (misuse_text name NoLineFormat (name_of command))
 
 abbrev pub line_format_in : Verb → List (List ℕ) → Result LineFormat (List ℕ)
 line_format_in command values = and_then (option_value command (codes "--format") values) (λ name. chosen_line_format command name)
@@ -281,54 +278,24 @@ most_by true None = Ok None
 most_by false (Some text) = and_then (count_by text) (λ count. Ok (Some count))
 most_by true (Some text) = Err (misuse_text (codes "--all") Extra (codes "free"))
 
-abbrev pub most_in : Parts → Result (Option ℕ) (List ℕ)
-most_in parts = and_then (option_value verb.Free (codes "--count") parts.values) (λ count. most_by (has (codes "--all") parts.options) count)
+-- an option with a value that is not given; else it does not go with another one of acl
+abbrev pub not_given : List ℕ → Misfit → Option (List ℕ) → Result (Unit {0}) (List ℕ)
+not_given option why None = Ok tt
+not_given option why (Some value) = Err (misuse_text option why (codes "acl"))
 
-abbrev pub free_request : Parts → Result Request (List ℕ)
-free_request parts = and_then (length_by (operand_or parts.operands 1 [])) (λ n. and_then (most_in parts) (λ most. and_then (style_in_values verb.Free parts.values)
-    (λ style. Ok (Free style most (operand_or parts.operands 0 []) n (drop 2 parts.operands)))))
+abbrev pub without_value : List ℕ → Misfit → List (List ℕ) → Result (Unit {0}) (List ℕ)
+without_value option why values = and_then (option_value verb.Acl option values) (λ found. not_given option why found)
 
-abbrev pub split_request : Parts → Result Request (List ℕ)
-split_request parts = and_then (style_in_values verb.Split parts.values)
-    (λ style. Ok (Split style (operand_or parts.operands 0 []) (operand_or parts.operands 1 [])))
-
-abbrev pub diff_request : Parts → Result Request (List ℕ)
-diff_request parts = and_then (line_format_in verb.Diff parts.values)
-    (λ format. Ok (Diff format (operand_or parts.operands 0 []) (operand_or parts.operands 1 [])))
-
--- an option with a value that is not given; else it does not go with another one
-abbrev pub not_given : Verb → List ℕ → Misfit → Option (List ℕ) → Result (Unit {0}) (List ℕ)
-not_given command option why None = Ok tt
-not_given command option why (Some value) = Err (misuse_text option why (name_of command))
-
-abbrev pub without_value : Verb → List ℕ → Misfit → List (List ℕ) → Result (Unit {0}) (List ℕ)
-without_value command option why values = and_then (option_value command option values) (λ found. not_given command option why found)
-
--- of an access list which addresses are permitted, in a style
-abbrev pub permitted_in : List (List ℕ) → Result Question (List ℕ)
-permitted_in values = and_then (style_in_values verb.Acl values) (λ style. Ok (Permitted style))
-
--- the rules that no address reaches, which have no style
-abbrev pub shadowed_in : List (List ℕ) → Result Question (List ℕ)
-shadowed_in values = and_then (without_value verb.Acl (codes "--format") WithShadowed values)
-    (λ _. and_then (without_value verb.Acl (codes "--prefix") WithShadowed values)
-    (λ _. and_then (without_value verb.Acl (codes "--suffix") WithShadowed values) (λ _. Ok Shadowed)))
-
--- what it permits and another one does not, whose lines have a format
-abbrev pub compared_in : List ℕ → List (List ℕ) → Result Question (List ℕ)
-compared_in old values = and_then (line_format_in verb.Acl values) (λ format. and_then (without_value verb.Acl (codes "--prefix") WithDiff values)
-    (λ _. and_then (without_value verb.Acl (codes "--suffix") WithDiff values) (λ _. Ok (Compared format old))))
-
--- what is asked, by whether --shadowed is given and by the value of --diff
+-- what is asked of an access list, by whether --shadowed is given and by the value of --diff: which addresses are permitted, in a
+-- style; the rules that no address reaches, which have no style; or what it permits and another one does not, whose lines have a format
 abbrev pub question_by : Bool → Option (List ℕ) → List (List ℕ) → Result Question (List ℕ)
-question_by false None values = permitted_in values
-question_by true None values = shadowed_in values
-question_by false (Some old) values = compared_in old values
+question_by false None values = and_then (style_in_values verb.Acl values) (λ style. Ok (Permitted style))
+question_by true None values = and_then (without_value (codes "--format") WithShadowed values)
+    (λ _. and_then (without_value (codes "--prefix") WithShadowed values)
+    (λ _. and_then (without_value (codes "--suffix") WithShadowed values) (λ _. Ok Shadowed)))
+question_by false (Some old) values = and_then (line_format_in verb.Acl values) (λ format. and_then (without_value (codes "--prefix") WithDiff values)
+    (λ _. and_then (without_value (codes "--suffix") WithDiff values) (λ _. Ok (Compared format old))))
 question_by true (Some old) values = Err (misuse_text (codes "--shadowed") Extra (codes "acl"))
-
-abbrev pub acl_request : Parts → Result Request (List ℕ)
-acl_request parts = and_then (option_value verb.Acl (codes "--diff") parts.values) (λ old. and_then (question_by (has (codes "--shadowed") parts.options) old parts.values)
-    (λ asked. Ok (Acl asked (operand_or parts.operands 0 []))))
 
 -- the command help, of a command or of all
 abbrev pub help_request : List (List ℕ) → Result Request (List ℕ)
@@ -373,9 +340,6 @@ abbrev pub match_by : Picking → List (List ℕ) → Option (List ℕ) → Requ
 match_by picking operands None = Match picking (operand_or operands 0 []) (operand_or operands 1 input_name)
 match_by picking operands (Some third) = MatchEach picking (operand_or operands 0 []) (drop 1 operands)
 
-abbrev pub match_request : Parts → Result Request (List ℕ)
-match_request parts = and_then (field_in verb.Match parts) (λ column. Ok (match_by (picking_of parts.options column) parts.operands (slice_get parts.operands 2)))
-
 -- the layout of a form of this name
 abbrev pub named_layout : Verb → List ℕ → Result RowLayout (List ℕ)
 named_layout command name = if is_word (codes "pfx2as") name then Ok Pfx2as
@@ -404,15 +368,11 @@ layout_by command (Some name) None None = named_layout command name
 layout_by command (Some name) (Some separator) numbers = Err (misuse_text (codes "--table-separator") WithForm (name_of command))
 layout_by command (Some name) None (Some numbers) = Err (misuse_text (codes "--table-fields") WithForm (name_of command))
 
-abbrev pub layout_in : Verb → List (List ℕ) → Result RowLayout (List ℕ)
-layout_in command values = and_then (option_value command (codes "--form") values)
-    (λ name. and_then (option_value command (codes "--table-separator") values)
-    (λ separator. and_then (option_value command (codes "--table-fields") values) (λ numbers. layout_by command name separator numbers)))
-
 -- how they are read, whose values are told in the format that is asked for
 abbrev pub form_in : Verb → List (List ℕ) → Result RowForm (List ℕ)
-form_in command values = and_then (layout_in command values)
-    (λ layout. and_then (line_format_in command values) (λ format. Ok (record { layout = layout; values = format })))
+form_in command values = and_then (option_value command (codes "--form") values) (λ name. and_then (option_value command (codes "--table-separator") values)
+    (λ separator. and_then (option_value command (codes "--table-fields") values) (λ numbers. and_then (layout_by command name separator numbers)
+    (λ layout. and_then (line_format_in command values) (λ format. Ok (record { layout = layout; values = format }))))))
 
 -- lines are kept, if at all, in text alone
 abbrev pub may_keep : LineFormat → Bool → Result (Unit {0}) (List ℕ)
@@ -420,44 +380,37 @@ may_keep by_line.Plain keeps = Ok tt
 may_keep by_line.Json false = Ok tt
 may_keep by_line.Json true = Err (misuse_text (codes "--keep") WithJson (codes "look"))
 
--- the command look, of a table and a file or the standard input
-abbrev pub look_by : Option Column → RowForm → Parts → Result Request (List ℕ)
-look_by column form parts = and_then (may_keep form.values (has (codes "--keep") parts.options))
-    (λ _. Ok (Look (seeking_of parts.options column form) (operand_or parts.operands 0 []) (operand_or parts.operands 1 input_name)))
+-- the first operand, and the second one
+abbrev pub first_of : Parts → List ℕ
+first_of parts = operand_or parts.operands 0 []
 
-abbrev pub look_request : Parts → Result Request (List ℕ)
-look_request parts = and_then (field_in verb.Look parts) (λ column. and_then (form_in verb.Look parts.values) (λ form. look_by column form parts))
-
-abbrev pub compile_request : Parts → Result Request (List ℕ)
-compile_request parts = and_then (form_in verb.Compile parts.values)
-    (λ form. Ok (Compile form (operand_or parts.operands 0 []) (operand_or parts.operands 1 [])))
-
-abbrev pub same_request : Parts → Result Request (List ℕ)
-same_request parts = and_then (form_in verb.Same parts.values)
-    (λ form. Ok (Same form (operand_or parts.operands 0 []) (operand_or parts.operands 1 [])))
-
-abbrev pub smallest_request : Parts → Result Request (List ℕ)
-smallest_request parts = and_then (form_in verb.Smallest parts.values)
-    (λ form. Ok (Smallest (has (codes "--holes") parts.options) form (operand_or parts.operands 0 [])))
+abbrev pub second_of : Parts → List ℕ
+second_of parts = operand_or parts.operands 1 []
 
 -- a command with as many operands as it takes
 abbrev pub verb_request : Verb → Parts → Result Request (List ℕ)
 verb_request (verb.Lists operation) parts = lists_request operation parts.values parts.operands
-verb_request verb.Diff parts = diff_request parts
-verb_request verb.Same parts = same_request parts
-verb_request verb.Free parts = free_request parts
-verb_request verb.Acl parts = acl_request parts
+verb_request verb.Diff parts = and_then (line_format_in verb.Diff parts.values) (λ format. Ok (Diff format (first_of parts) (second_of parts)))
+verb_request verb.Same parts = and_then (form_in verb.Same parts.values) (λ form. Ok (Same form (first_of parts) (second_of parts)))
+verb_request verb.Free parts = and_then (length_by (second_of parts)) (λ n. and_then (option_value verb.Free (codes "--count") parts.values)
+    (λ count. and_then (most_by (has (codes "--all") parts.options) count) (λ most. and_then (style_in_values verb.Free parts.values)
+    (λ style. Ok (Free style most (first_of parts) n (drop 2 parts.operands))))))
+verb_request verb.Acl parts = and_then (option_value verb.Acl (codes "--diff") parts.values) (λ old. and_then (question_by (has (codes "--shadowed") parts.options) old parts.values)
+    (λ asked. Ok (Acl asked (first_of parts))))
 verb_request verb.Check parts = Ok (Check parts.operands)
-verb_request verb.Which parts = Ok (Which (operand_or parts.operands 0 []) (drop 1 parts.operands))
-verb_request verb.Match parts = match_request parts
-verb_request verb.Look parts = look_request parts
-verb_request verb.Compile parts = compile_request parts
-verb_request verb.Smallest parts = smallest_request parts
-verb_request (verb.Describe what) parts = Ok (Describe what (operand_or parts.operands 0 []))
-verb_request verb.Class parts = Ok (Class (operand_or parts.operands 0 []))
-verb_request verb.Show parts = Ok (Single (Show (operand_or parts.operands 0 [])))
-verb_request verb.Split parts = split_request parts
-verb_request verb.Nth parts = Ok (Single (Nth (operand_or parts.operands 0 []) (operand_or parts.operands 1 [])))
+verb_request verb.Which parts = Ok (Which (first_of parts) (drop 1 parts.operands))
+verb_request verb.Match parts = and_then (field_in verb.Match parts) (λ column. Ok (match_by (picking_of parts.options column) parts.operands (slice_get parts.operands 2)))
+verb_request verb.Look parts = and_then (field_in verb.Look parts) (λ column. and_then (form_in verb.Look parts.values)
+    (λ form. and_then (may_keep form.values (has (codes "--keep") parts.options))
+    (λ _. Ok (Look (seeking_of parts.options column form) (first_of parts) (operand_or parts.operands 1 input_name)))))
+verb_request verb.Compile parts = and_then (form_in verb.Compile parts.values) (λ form. Ok (Compile form (first_of parts) (second_of parts)))
+verb_request verb.Smallest parts = and_then (form_in verb.Smallest parts.values) (λ form. Ok (Smallest (has (codes "--holes") parts.options) form (first_of parts)))
+verb_request (verb.Describe what) parts = Ok (Describe what (first_of parts))
+verb_request verb.Class parts = Ok (Class (first_of parts))
+verb_request verb.Show parts = Ok (Single (Show (first_of parts)))
+verb_request verb.Split parts = and_then (style_in_values verb.Split parts.values) (λ style. and_then (length_by (second_of parts))
+    (λ n. Ok (Split style (first_of parts) (second_of parts) n)))
+verb_request verb.Nth parts = Ok (Single (Nth (first_of parts) (second_of parts)))
 verb_request verb.Help parts = help_request parts.operands
 verb_request verb.Version parts = Ok Version
 

@@ -1,12 +1,14 @@
 -- The request that a command of the program is.
-use Rattle.std.specs.Prelude.{◌≡◌, ℕ, Bool, true, List, map, Option, option_map, Result, Ok, Err}
+use Rattle.std.specs.Prelude.{◌≡◌, ℕ, Bool, true, List, map, Option, option_map, Result, Ok, Err, MatchResult}
 use Rattle.cidr_lists.specs.Formats.{style_in}
 use Rattle.cidr_lists.specs.Rules.{Question, Permitted, Shadowed, Compared}
-use Rattle.netset_commands.specs.Arguments.{Parts, joined_arguments, misuse_text}
+use Rattle.netset_commands.specs.Arguments.{Line, Parts, joined_arguments, misuse_text}
 use Rattle.netset_commands.specs.Commands.{Request, Lists, Styled, NotIn, Diff, Same, Free, Acl, Split, Check, Which, Match, MatchEach, Look, Compile, Smallest, Describe, Class, Single as ASingle, Help, Version}
 use Rattle.netset_commands.specs.Table.{texts}
 use Rattle.netset_commands.specs.declared.commands.acl.Question.{Question as GivenQuestion}
 use Rattle.netset_commands.specs.declared.commands.acl.Question.TheVariants as question
+use Rattle.netset_commands.specs.declared.commands.arguments.Given.{Given}
+use Rattle.netset_commands.specs.declared.commands.arguments.Line.{Line as GivenLine}
 use Rattle.netset_commands.specs.declared.commands.arguments.Next.{Next}
 use Rattle.netset_commands.specs.declared.commands.arguments.Parts.{Parts as GivenParts}
 use Rattle.netset_commands.specs.declared.errors.Misuse.{Misuse}
@@ -43,7 +45,7 @@ request_of (command.Diff format old new) = Diff format old.now new.now
 request_of (command.Same form old new) = Same form old.now new.now
 request_of (command.Free style most pool n used) = Free (option_map (λ s. style_in s) style) most pool.now n (map (λ file. file.now) used.now)
 request_of (command.Acl asked file) = Acl (question_of asked) file.now
-request_of (command.Split style operand len) = Split (option_map (λ s. style_in s) style) operand.now len.now
+request_of (command.Split style operand len n) = Split (option_map (λ s. style_in s) style) operand.now len.now n
 request_of (command.Check files) = Check (map (λ file. file.now) files.now)
 request_of (command.Which address files) = Which address.now (map (λ file. file.now) files.now)
 request_of (command.Match picking list file) = Match picking list.now file.now
@@ -58,13 +60,24 @@ request_of (command.Help topic) = Help topic
 request_of command.Version = Version
 
 -- ---- what private functions promise of arguments
+-- the same line with the bytes of its arguments
+abbrev pub line_in : GivenLine → Line
+line_in line = (line.reading, (given line.target, request_of line.command))
+
 -- the parts of words by their bytes
 abbrev pub given_parts : GivenParts → Parts
 given_parts parts = record { options = texts parts.options.items; values = texts parts.values.items; operands = texts parts.operands.items }
 
+abbrev pub parts_in : Given → Parts
+parts_in parts = record { options = texts parts.options.now; values = texts parts.values.now; operands = texts parts.operands.now }
+
 -- the line of a word that is wrong
 abbrev pub misuse_line : Misuse → List ℕ
 misuse_line misuse = misuse_text misuse.word.now misuse.why misuse.command.now
+
+-- this was made of words that mean something, or it is told what is wrong with them
+abbrev pub Means : {A B : Type 0} → Result B (List ℕ) → (A → B) → Result A Misuse → Type 0
+Means meant view r = MatchResult r (λ made. meant ≡ Ok (view made)) (λ misuse. meant ≡ Err (misuse_line misuse))
 
 -- arguments have an error: this line, or an allocation was refused
 abbrev pub IsUsageError : {A : Type 0} → Result A (List ℕ) → Bool → UsageError → Type 0

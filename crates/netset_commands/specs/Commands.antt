@@ -52,7 +52,7 @@ use Rattle.netset_commands.specs.declared.output.answers.Verdict.{Verdict}
 use Rattle.netset_commands.specs.declared.output.answers.Verdict.TheVariants.{Yes}
 use Rattle.cidr_lists.specs.declared.changes.Sign.{Sign}
 
--- a command and its arguments: lists and files by their names
+-- a command and its arguments: lists and files by their names, and a prefix length with the word that it is told in
 pub data Request : Type 0 where
   Lists : Operation → List (List ℕ) → Request
   Styled : Style → Operation → List (List ℕ) → Request
@@ -61,7 +61,7 @@ pub data Request : Type 0 where
   Same : RowForm → List ℕ → List ℕ → Request
   Free : Option Style → Option ℕ → List ℕ → ℕ → List (List ℕ) → Request
   Acl : Question → List ℕ → Request
-  Split : Option Style → List ℕ → List ℕ → Request
+  Split : Option Style → List ℕ → List ℕ → ℕ → Request
   Check : List (List ℕ) → Request
   Which : List ℕ → List (List ℕ) → Request
   Match : Picking → List ℕ → List ℕ → Request
@@ -93,7 +93,7 @@ lists_of (NotIn style net files) = read_files files
 lists_of (Diff format old new) = old ∷ new ∷ []
 lists_of (Same form old new) = old ∷ new ∷ []
 lists_of (Free style most pool n used) = pool ∷ used
-lists_of (Split style operand len) = operand ∷ []
+lists_of (Split style operand len n) = operand ∷ []
 lists_of (Check files) = read_files files
 lists_of (Which address files) = read_files files
 lists_of (Match picking list file) = list ∷ []
@@ -129,7 +129,7 @@ IsNoList Masks operand = ((n : ℕ) × IsNumber operand n × (n ≤ 128)) ⊎ Re
 -- the first of them is no list
 abbrev pub HasNoFirstList : Request → Type 0
 HasNoFirstList (Free style most pool n used) = ReadsAsNetwork pool
-HasNoFirstList (Split style operand len) = ReadsAsNetwork operand
+HasNoFirstList (Split style operand len n) = ReadsAsNetwork operand
 HasNoFirstList (Describe what operand) = IsNoList what operand
 HasNoFirstList request = ⊥
 
@@ -188,7 +188,7 @@ IsFree style n most said answer verdict = (sets : Family → List (List Bool))
 abbrev pub IsSplitInto : (List ℕ → Option Text) → Option Style → List ℕ → ℕ → List ℕ → Verdict → Type 0
 IsSplitInto contents style operand n answer verdict =
     ((network : IpCidr) × IsIpNetworkText operand network × ¬ (HasNone network n) × (answer ≡ printed_walk style (subnets_of (network_family network) (network_prefix network) n)) × (verdict ≡ Yes))
-    ⊎ (IsNoNetworkText operand × (n ≤ 128) × OfList (contents operand) (λ said. IsFree style n None (said ∷ []) answer verdict))
+    ⊎ (IsNoNetworkText operand × OfList (contents operand) (λ said. IsFree style n None (said ∷ []) answer verdict))
 
 -- what is told of each network of the shortest list that has the addresses of lines
 abbrev pub IsTold : (IpCidr → List ℕ) → List (List IpCidr) → List ℕ → Type 0
@@ -221,7 +221,7 @@ IsAnswer contents (Diff format old new) answer verdict = (before after : Text) �
 IsAnswer contents (Same form old new) answer verdict = (before after : Text) → contents old ≡ Some before → contents new ≡ Some after → IsSame form before after answer verdict
 IsAnswer contents (Free style most pool n used) answer verdict = OfOperand contents pool (λ first. (texts : List Text) → AreTold contents used texts → OfLists texts (λ said. IsFree style n most (first ∷ said) answer verdict))
 IsAnswer contents (Acl asked file) answer verdict = IsRulesAnswer contents asked file answer × IsClean (faults_in asked answer) verdict
-IsAnswer contents (Split style operand len) answer verdict = (n : ℕ) × IsNumber len n × IsSplitInto contents style operand n answer verdict
+IsAnswer contents (Split style operand len n) answer verdict = IsSplitInto contents style operand n answer verdict
 IsAnswer contents (Check files) answer verdict =
     (texts : List Text) → AreTold contents (read_files files) texts → IsCheck (read_files files) texts answer verdict
 IsAnswer contents (Which text files) answer verdict = (address : IpAddr) × IsIpText text address

@@ -16,8 +16,6 @@ use Rattle.cidr_lists.specs.Sets.{IsFreeOf}
 use Rattle.netset_commands.specs.Single.{IsNumber}
 use Rattle.netset_commands.specs.declared.output.answers.Verdict.{Verdict}
 use Rattle.netset_commands.specs.declared.output.answers.Verdict.TheVariants.{Yes, No}
-use Rattle.netset_commands.specs.declared.errors.ArgumentError.{ArgumentError}
-use Rattle.netset_commands.specs.declared.errors.ArgumentError.TheVariants as bad
 
 -- the first of a list, at most so many or all for none, and how many more there may be behind them
 abbrev pub taken : {X : Type 0} → Option ℕ → List X → List X
@@ -50,11 +48,6 @@ IsMost false None most = most ≡ Some 1
 IsMost false (Some count) most = (m : ℕ) × IsNumber count m × (m < 2 ^ 64) × (most ≡ Some m)
 IsMost true None most = most ≡ None
 IsMost true (Some count) most = ⊥
-
--- the string is no prefix length
-abbrev pub IsBadLength : List ℕ → List ℕ → ArgumentError → Type 0
-IsBadLength len text bad.Length = (text ≡ len) × ((n : ℕ) → IsNumber len n → 128 < n)
-IsBadLength len text e = ⊥
 
 -- ---- what private functions promise
 -- what stands in front of each of these, behind one before them, if there is one: `before` tells it by the one before

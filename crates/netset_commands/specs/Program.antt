@@ -18,7 +18,6 @@ use Rattle.netset_commands.specs.Causes.{Cause, FileFails, Refusals}
 use Rattle.netset_commands.specs.Class.{IsClassUntil, IsUnclassed}
 use Rattle.netset_commands.specs.Compiled.{IsTooLarge, SaysTable}
 use Rattle.netset_commands.specs.Describing.{IsNoLength}
-use Rattle.netset_commands.specs.Free.{IsBadLength}
 use Rattle.netset_commands.specs.Operands.{IsNoNetworkText, IsUnlisted, IsUnreadOperand, OfOperand}
 use Rattle.cidr_lists.specs.Faults.{AreTellings}
 use Rattle.netset_commands.specs.Keeping.{IsBegun, IsGoodFile, IsSameReason, reasons_beside, IsLoadError, good_files, kind_of, lined, takes_file}
@@ -89,7 +88,6 @@ IsSameFile table name e = (table ≡ name) × IsNotSaved name unsaved.Same e
 -- an argument that is wrong whatever the lists say
 abbrev pub IsWrong : Request → CommandError → Type 0
 IsWrong (NotIn style net files) e = IsBadArgument (λ text bad. (text ≡ net) × IsNoNetwork net bad) e
-IsWrong (Split style operand len) e = IsBadArgument (IsBadLength len) e
 IsWrong (Which text files) e = IsBadArgument (IsNoAddressArgument text) e
 IsWrong (Compile form table name) e = IsSameFile table name e
 IsWrong request e = ⊥
@@ -104,9 +102,9 @@ abbrev pub IsUnreadPool : (List ℕ → Option Text) → List ℕ → List (List
 IsUnreadPool contents pool used e = IsUnreadOperand contents pool e ⊎ (OfOperand contents pool (λ said. Unit {0}) × IsUnread contents used e)
 
 -- the argument is no prefix length of networks inside a network
-abbrev pub HasNoSubnets : IpCidr → List ℕ → List ℕ → ArgumentError → Type 0
-HasNoSubnets network len text bad.Length = (text ≡ len) × ((n : ℕ) → IsNumber len n → HasNone network n)
-HasNoSubnets network len text e = ⊥
+abbrev pub HasNoSubnets : IpCidr → List ℕ → ℕ → List ℕ → ArgumentError → Type 0
+HasNoSubnets network len n text bad.Length = (text ≡ len) × HasNone network n
+HasNoSubnets network len n text e = ⊥
 
 -- why a request is not answered, and nothing is written
 abbrev pub IsRequestRefused : (List ℕ → Option Text) → Request → Result Verdict CommandError → Type 0
@@ -119,9 +117,8 @@ IsRequestRefused contents (Diff format old new) (Err e) = IsUnread contents (old
 IsRequestRefused contents (Same form old new) (Err e) = AreUnreadTables form contents old new e
 IsRequestRefused contents (Free style most pool n used) (Err e) = IsUnreadPool contents pool used e
 IsRequestRefused contents (Acl asked file) (Err e) = IsUnreadAcl contents (compared_with asked ++ file ∷ []) e
-IsRequestRefused contents (Split style operand len) (Err e) =
-    ((network : IpCidr) × IsIpNetworkText operand network × IsBadArgument (HasNoSubnets network len) e)
-    ⊎ (IsNoNetworkText operand × (IsBadArgument (IsBadLength len) e ⊎ ((n : ℕ) × IsNumber len n × (n ≤ 128) × IsUnlisted contents operand e)))
+IsRequestRefused contents (Split style operand len n) (Err e) = ((network : IpCidr) × IsIpNetworkText operand network × IsBadArgument (HasNoSubnets network len n) e)
+    ⊎ (IsNoNetworkText operand × IsUnlisted contents operand e)
 IsRequestRefused contents (Check files) (Err e) = IsUnchecked contents (read_files files) e
 IsRequestRefused contents (Which text files) (Err e) = IsBadArgument (IsNoAddressArgument text) e
     ⊎ ((address : IpAddr) × IsIpText text address × IsUnchecked contents (read_files files) e)

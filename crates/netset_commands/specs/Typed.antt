@@ -83,7 +83,7 @@ IsTyped words options (Free style most pool n used) = IsBare style × (count : O
     × (len : List ℕ) × (IsNumber len n × (n ≤ 128)) × AreTyped verb.Free options (count_words count ++ style_words style) (pool ∷ len ∷ used) words
 IsTyped words options (Acl asked file) = (has (codes "--shadowed") options ≡ is_shadowed asked) × IsBare (style_asked asked)
     × AreTyped verb.Acl options (flat_map (λ old. codes "--diff" ∷ old ∷ []) (compared_with asked) ++ style_words (style_asked asked)) (file ∷ []) words
-IsTyped words options (Split style operand len) = IsBare style × AreTyped verb.Split options (style_words style) (operand ∷ len ∷ []) words
+IsTyped words options (Split style operand len n) = IsBare style × (IsNumber len n × (n ≤ 128)) × AreTyped verb.Split options (style_words style) (operand ∷ len ∷ []) words
 IsTyped words options (Check files) = AreTyped verb.Check options [] files words
 IsTyped words options (Which address files) = AreTyped verb.Which options [] (address ∷ files) words
 IsTyped words options (Match picking list file) = (number : List ℕ) × (column : Option Column) × (picking ≡ picking_of options column) × IsField options number column

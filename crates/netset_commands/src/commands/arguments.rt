@@ -1,8 +1,8 @@
 //! The words of a command line as options and operands, and the command that they are.
 ghost use Rattle.std.specs.Prelude.{◌≡◌, ◌<◌, ◌≤◌, ◌^◌, ℕ, [], Ok, Err, Bool, true, false, length, drop, MatchOption, MatchResult, option_map, slice_get, unwrap_or};
 ghost use Rattle.std.specs.List.{after_first, before_first};
-ghost use Rattle.netset_commands.specs.Arguments.{asks_help, chosen_style, column_by, compile_request, count_by, extra_operand, field_by, field_in, form_in, free_request, fresh, full_name, help_request, is_equals, is_option, is_plain, is_topic, letter_parts, line_parts, length_by, lists_request, long_parts, layout_by, layout_in, separator_by, fields_by, place_by, is_comma, list_form_in, named_list_form, look_by, look_request, made_request, match_by, match_request, missing_operand, misuse_text, may_keep, most_by, most_in, named_format, named_layout, named_verb, no_option, no_parts, operand_or, part_request, parts_from, question_by, reading_in, same_request, short_option, short_parts, smallest_request, some_style, split_request, style_in_values, style_of, taken_value, takes, target_by, target_in, topic_parts, option_value, verb_of, verb_request, word_parts, acl_request, chosen_line_format, compared_in, diff_request, line_format_in, named_line_format, not_given, permitted_in, shadowed_in, without_value};
-ghost use Rattle.netset_commands.specs.Command.{AddsParts, IsUsageError, given, misuse_line, given_parts, question_of, request_of};
+ghost use Rattle.netset_commands.specs.Arguments.{asks_help, column_by, count_by, extra_operand, field_in, fields_by, form_in, fresh, full_name, help_request, is_comma, is_equals, is_option, is_plain, is_topic, layout_by, length_by, letter_parts, line_format_in, line_parts, list_form_in, long_parts, made_request, match_by, may_keep, missing_operand, misuse_text, most_by, named_format, named_layout, named_list_form, named_verb, no_option, no_parts, operand_or, option_value, part_request, parts_from, place_by, question_by, read_request, reading_in, separator_by, short_option, short_parts, some_style, style_in_values, style_of, taken_value, takes, target_in, topic_parts, verb_of, verb_request, without_value, word_parts};
+ghost use Rattle.netset_commands.specs.Command.{AddsParts, IsUsageError, Means, given, given_parts, line_in, misuse_line, parts_in, question_of, request_of};
 ghost use Rattle.netset_commands.specs.Matching.{is_word};
 ghost use Rattle.netset_commands.specs.Single.{IsNumber};
 ghost use Rattle.netset_commands.specs.Table.{name_of, takes_value, texts};
@@ -46,6 +46,22 @@ pub struct Parts<'a> {
     /// The options with a value, each with its value behind it.
     pub values: Vec<&'a str>,
     pub operands: Vec<&'a str>,
+}
+
+/// The same, lent to what reads them.
+#[derive(Clone, Copy, Drop)]
+pub struct Given<'a> {
+    pub options: &'a [&'a str],
+    pub values: &'a [&'a str],
+    pub operands: &'a [&'a str],
+}
+
+/// A line of arguments: how lists are read, the file that the answer is written to, if one is named, and the command.
+#[derive(Clone, Copy)]
+pub struct Line<'a> {
+    pub reading: Reading,
+    pub target: Option<&'a str>,
+    pub command: Command<'a>,
 }
 
 /// Whether a word is an option, and no operand: `-` and something behind it.
@@ -128,6 +144,17 @@ impl<'a> Parts<'a> {
             options: Vec::new(alloc),
             values: Vec::new(alloc),
             operands: Vec::new(alloc),
+        }
+    }
+
+    /// They, lent.
+    pub fn given(&self) -> Given<'_>
+        ensures { parts_in result ≡ given_parts self.now }
+    {
+        Given {
+            options: self.options.as_slice(),
+            values: self.values.as_slice(),
+            operands: self.operands.as_slice(),
         }
     }
 
@@ -309,7 +336,7 @@ fn verb_of(word: &str) -> Option<Verb>
 
 /// The same, or that there is none.
 fn named_verb<'a>(word: &'a str) -> Result<Verb, Misuse<'a>>
-    ensures { MatchResult result (λ command. named_verb word.now ≡ Ok command) (λ misuse. named_verb word.now ≡ Err (misuse_line misuse)) }
+    ensures { Means (named_verb word.now) (λ command. command) result }
 {
     match verb_of(word) {
         Some(command) => Ok(command),
@@ -372,8 +399,7 @@ fn fresh<'a>(
     found: Option<&'a str>,
     value: &'a str,
 ) -> Result<Option<&'a str>, Misuse<'a>>
-    ensures { MatchResult result (λ now. fresh command (given found.entry) value.now ≡ Ok (given now))
-        (λ misuse. fresh command (given found.entry) value.now ≡ Err (misuse_line misuse)) }
+    ensures { Means (fresh command (given found.entry) value.now) (λ now. given now) result }
 {
     match found {
         None => Ok(Some(value)),
@@ -389,8 +415,7 @@ fn taken_value<'a>(
     option: &str,
     value: &'a str,
 ) -> Result<Option<&'a str>, Misuse<'a>>
-    ensures { MatchResult result (λ now. taken_value command name.now (given found.entry) option.now value.now ≡ Ok (given now))
-        (λ misuse. taken_value command name.now (given found.entry) option.now value.now ≡ Err (misuse_line misuse)) }
+    ensures { Means (taken_value command name.now (given found.entry) option.now value.now) (λ now. given now) result }
 {
     if option == name {
         return fresh(command, found, value);
@@ -404,8 +429,7 @@ fn option_value<'a>(
     name: &str,
     values: &[&'a str],
 ) -> Result<Option<&'a str>, Misuse<'a>>
-    ensures { MatchResult result (λ found. option_value command name.now (texts values.now) ≡ Ok (given found))
-        (λ misuse. option_value command name.now (texts values.now) ≡ Err (misuse_line misuse)) }
+    ensures { Means (option_value command name.now (texts values.now)) (λ found. given found) result }
 {
     let mut found = None;
     let mut at = 0;
@@ -418,8 +442,7 @@ fn option_value<'a>(
 
 /// The format of a name.
 fn named_format<'a>(command: Verb, name: &'a str) -> Result<Format, Misuse<'a>>
-    ensures { MatchResult result (λ format. named_format command name.now ≡ Ok format)
-        (λ misuse. named_format command name.now ≡ Err (misuse_line misuse)) }
+    ensures { Means (named_format command name.now) (λ format. format) result }
 {
     match format_of(name) {
         Some(format) => Ok(format),
@@ -451,8 +474,7 @@ fn style_of<'a>(
     prefix: Option<&'a str>,
     suffix: Option<&'a str>,
 ) -> Result<Style<'a>, Misuse<'a>>
-    ensures { MatchResult result (λ style. style_of command format (given prefix.entry) (given suffix.entry) ≡ Ok (style_in style))
-        (λ misuse. style_of command format (given prefix.entry) (given suffix.entry) ≡ Err (misuse_line misuse)) }
+    ensures { Means (style_of command format (given prefix.entry) (given suffix.entry)) (λ style. style_in style) result }
 {
     if is_plain(format) {
         return Ok(Style {
@@ -479,25 +501,19 @@ fn some_style<'a>(
     prefix: Option<&'a str>,
     suffix: Option<&'a str>,
 ) -> Result<Option<Style<'a>>, Misuse<'a>>
-    ensures { MatchResult result
-        (λ style. some_style command format (given prefix.entry) (given suffix.entry) ≡ Ok (option_map (λ s. style_in s) style))
-        (λ misuse. some_style command format (given prefix.entry) (given suffix.entry) ≡ Err (misuse_line misuse)) }
+    ensures { Means (some_style command format (given prefix.entry) (given suffix.entry)) (λ style. option_map (λ s. style_in s) style) result }
 {
     let style = style_of(command, format, prefix, suffix)?;
     Ok(Some(style))
 }
 
-/// How networks are written, if one of the options says it.
-fn chosen_style<'a>(
-    command: Verb,
-    name: Option<&'a str>,
-    prefix: Option<&'a str>,
-    suffix: Option<&'a str>,
-) -> Result<Option<Style<'a>>, Misuse<'a>>
-    ensures { MatchResult result
-        (λ style. chosen_style command (given name.entry) (given prefix.entry) (given suffix.entry) ≡ Ok (option_map (λ s. style_in s) style))
-        (λ misuse. chosen_style command (given name.entry) (given prefix.entry) (given suffix.entry) ≡ Err (misuse_line misuse)) }
+/// How networks are written, if one of the options with a value says it.
+fn style_in_values<'a>(command: Verb, values: &[&'a str]) -> Result<Option<Style<'a>>, Misuse<'a>>
+    ensures { Means (style_in_values command (texts values.now)) (λ style. option_map (λ s. style_in s) style) result }
 {
+    let name = option_value(command, "--format", values)?;
+    let prefix = option_value(command, "--prefix", values)?;
+    let suffix = option_value(command, "--suffix", values)?;
     match (name, prefix, suffix) {
         (None, None, None) => Ok(None),
         (None, None, Some(_)) => some_style(command, Format::Plain, prefix, suffix),
@@ -509,49 +525,22 @@ fn chosen_style<'a>(
     }
 }
 
-/// How networks are written, by the options with a value.
-fn style_in_values<'a>(command: Verb, values: &[&'a str]) -> Result<Option<Style<'a>>, Misuse<'a>>
-    ensures { MatchResult result (λ style. style_in_values command (texts values.now) ≡ Ok (option_map (λ s. style_in s) style))
-        (λ misuse. style_in_values command (texts values.now) ≡ Err (misuse_line misuse)) }
-{
-    let name = option_value(command, "--format", values)?;
-    let prefix = option_value(command, "--prefix", values)?;
-    let suffix = option_value(command, "--suffix", values)?;
-    chosen_style(command, name, prefix, suffix)
-}
-
-/// The format of lines of a name.
-fn named_line_format<'a>(command: Verb, name: &'a str) -> Result<LineFormat, Misuse<'a>>
-    ensures { MatchResult result (λ format. named_line_format command name.now ≡ Ok format)
-        (λ misuse. named_line_format command name.now ≡ Err (misuse_line misuse)) }
-{
-    if name == "plain" {
-        return Ok(LineFormat::Plain);
-    }
-    if name == "json" {
-        return Ok(LineFormat::Json);
-    }
-    Err(misused(command, Misfit::NoLineFormat, name))
-}
-
-/// How lines are written: as text, unless an option says otherwise.
-fn chosen_line_format<'a>(command: Verb, name: Option<&'a str>) -> Result<LineFormat, Misuse<'a>>
-    ensures { MatchResult result (λ format. chosen_line_format command (given name.entry) ≡ Ok format)
-        (λ misuse. chosen_line_format command (given name.entry) ≡ Err (misuse_line misuse)) }
-{
-    match name {
-        None => Ok(LineFormat::Plain),
-        Some(name) => named_line_format(command, name),
-    }
-}
-
-/// The same by the options with a value.
+/// How lines are written: as text, unless an option with a value says otherwise.
 fn line_format_in<'a>(command: Verb, values: &[&'a str]) -> Result<LineFormat, Misuse<'a>>
-    ensures { MatchResult result (λ format. line_format_in command (texts values.now) ≡ Ok format)
-        (λ misuse. line_format_in command (texts values.now) ≡ Err (misuse_line misuse)) }
+    ensures { Means (line_format_in command (texts values.now)) (λ format. format) result }
 {
-    let name = option_value(command, "--format", values)?;
-    chosen_line_format(command, name)
+    match option_value(command, "--format", values)? {
+        None => Ok(LineFormat::Plain),
+        Some(name) => {
+            if name == "plain" {
+                return Ok(LineFormat::Plain);
+            }
+            if name == "json" {
+                return Ok(LineFormat::Json);
+            }
+            Err(misused(command, Misfit::NoLineFormat, name))
+        }
+    }
 }
 
 /// The command of an operation on lists; `not` may be inside a network.
@@ -570,24 +559,9 @@ fn made_command<'a>(
     }
 }
 
-/// The command of an operation on lists, by the options with a value.
-fn lists_command<'a>(
-    operation: Operation,
-    values: &[&'a str],
-    files: &'a [&'a str],
-) -> Result<Command<'a>, Misuse<'a>>
-    ensures { MatchResult result (λ command. lists_request operation (texts values.now) (texts files.now) ≡ Ok (request_of command))
-        (λ misuse. lists_request operation (texts values.now) (texts files.now) ≡ Err (misuse_line misuse)) }
-{
-    let verb = Verb::Lists(operation);
-    let net = option_value(verb, "--in", values)?;
-    let style = style_in_values(verb, values)?;
-    Ok(made_command(operation, net, style, files))
-}
-
 /// The prefix length that an argument is.
 fn length_by<'a>(text: &'a str) -> Result<u8, Misuse<'a>>
-    ensures { MatchResult result (λ n. length_by text.now ≡ Ok n) (λ misuse. length_by text.now ≡ Err (misuse_line misuse)) }
+    ensures { Means (length_by text.now) (λ n. n) result }
 {
     match length_of(text) {
         Some(len) => Ok(len),
@@ -611,7 +585,7 @@ fn count_of(text: &str) -> Option<u64>
 
 /// The same as the value of an option.
 fn count_by<'a>(text: &'a str) -> Result<u64, Misuse<'a>>
-    ensures { MatchResult result (λ n. count_by text.now ≡ Ok n) (λ misuse. count_by text.now ≡ Err (misuse_line misuse)) }
+    ensures { Means (count_by text.now) (λ n. n) result }
 {
     match count_of(text) {
         Some(count) => Ok(count),
@@ -625,8 +599,7 @@ fn count_by<'a>(text: &'a str) -> Result<u64, Misuse<'a>>
 
 /// How many networks `free` is to tell at most, by whether `--all` is given and by the value of `--count`; `None` for all.
 fn most_by<'a>(all: bool, count: Option<&'a str>) -> Result<Option<u64>, Misuse<'a>>
-    ensures { MatchResult result (λ most. most_by all (given count.entry) ≡ Ok most)
-        (λ misuse. most_by all (given count.entry) ≡ Err (misuse_line misuse)) }
+    ensures { Means (most_by all (given count.entry)) (λ most. most) result }
 {
     match (all, count) {
         (false, None) => Ok(Some(1)),
@@ -639,155 +612,54 @@ fn most_by<'a>(all: bool, count: Option<&'a str>) -> Result<Option<u64>, Misuse<
     }
 }
 
-/// How many networks `free` is to tell at most, by its options.
-fn most_in<'a>(parts: &'a Parts<'a>) -> Result<Option<u64>, Misuse<'a>>
-    ensures { MatchResult result (λ most. most_in (given_parts parts.now) ≡ Ok most)
-        (λ misuse. most_in (given_parts parts.now) ≡ Err (misuse_line misuse)) }
-{
-    let count = option_value(Verb::Free, "--count", parts.values.as_slice())?;
-    most_by(has(parts.options.as_slice(), "--all"), count)
-}
-
-/// The command `free`.
-fn free_command<'a>(parts: &'a Parts<'a>) -> Result<Command<'a>, Misuse<'a>>
-    ensures { MatchResult result (λ command. free_request (given_parts parts.now) ≡ Ok (request_of command))
-        (λ misuse. free_request (given_parts parts.now) ≡ Err (misuse_line misuse)) }
-{
-    let operands = parts.operands.as_slice();
-    let len = length_by(operand_or(operands, 1, ""))?;
-    let most = most_in(parts)?;
-    let style = style_in_values(Verb::Free, parts.values.as_slice())?;
-    Ok(Command::Free(
-        style,
-        most,
-        operand_or(operands, 0, ""),
-        len,
-        operands_from(operands, 2),
-    ))
-}
-
-/// The command `split`.
-fn split_command<'a>(parts: &'a Parts<'a>) -> Result<Command<'a>, Misuse<'a>>
-    ensures { MatchResult result (λ command. split_request (given_parts parts.now) ≡ Ok (request_of command))
-        (λ misuse. split_request (given_parts parts.now) ≡ Err (misuse_line misuse)) }
-{
-    let operands = parts.operands.as_slice();
-    let style = style_in_values(Verb::Split, parts.values.as_slice())?;
-    Ok(Command::Split(
-        style,
-        operand_or(operands, 0, ""),
-        operand_or(operands, 1, ""),
-    ))
-}
-
-/// The command `diff`.
-fn diff_command<'a>(parts: &'a Parts<'a>) -> Result<Command<'a>, Misuse<'a>>
-    ensures { MatchResult result (λ command. diff_request (given_parts parts.now) ≡ Ok (request_of command))
-        (λ misuse. diff_request (given_parts parts.now) ≡ Err (misuse_line misuse)) }
-{
-    let operands = parts.operands.as_slice();
-    let format = line_format_in(Verb::Diff, parts.values.as_slice())?;
-    Ok(Command::Diff(
-        format,
-        operand_or(operands, 0, ""),
-        operand_or(operands, 1, ""),
-    ))
-}
-
-/// That an option with a value is not given; the error is that it does not go with another one.
-fn not_given<'a>(
-    command: Verb,
-    option: &'static str,
-    why: Misfit,
-    found: Option<&'a str>,
-) -> Result<(), Misuse<'a>>
-    ensures { MatchResult result (λ done. not_given command option.now why (given found.entry) ≡ Ok done)
-        (λ misuse. not_given command option.now why (given found.entry) ≡ Err (misuse_line misuse)) }
-{
-    match found {
-        None => Ok(()),
-        Some(_) => Err(misused(command, why, option)),
-    }
-}
-
-/// The same by the options with a value.
+/// That an option with a value is not given: it does not go with another one of `acl`.
 fn without_value<'a>(
-    command: Verb,
     option: &'static str,
     why: Misfit,
     values: &[&'a str],
 ) -> Result<(), Misuse<'a>>
-    ensures { MatchResult result (λ done. without_value command option.now why (texts values.now) ≡ Ok done)
-        (λ misuse. without_value command option.now why (texts values.now) ≡ Err (misuse_line misuse)) }
+    ensures { Means (without_value option.now why (texts values.now)) (λ done. done) result }
 {
-    let found = option_value(command, option, values)?;
-    not_given(command, option, why, found)
+    match option_value(Verb::Acl, option, values)? {
+        None => Ok(()),
+        Some(_) => Err(misused(Verb::Acl, why, option)),
+    }
 }
 
-/// Of an access list which addresses are permitted, in a style.
-fn permitted_in<'a>(values: &[&'a str]) -> Result<Question<'a>, Misuse<'a>>
-    ensures { MatchResult result (λ question. permitted_in (texts values.now) ≡ Ok (question_of question))
-        (λ misuse. permitted_in (texts values.now) ≡ Err (misuse_line misuse)) }
-{
-    let style = style_in_values(Verb::Acl, values)?;
-    Ok(Question::Permitted(style))
-}
-
-/// The rules that no address reaches, which have no style.
-fn shadowed_in<'a>(values: &[&'a str]) -> Result<Question<'a>, Misuse<'a>>
-    ensures { MatchResult result (λ question. shadowed_in (texts values.now) ≡ Ok (question_of question))
-        (λ misuse. shadowed_in (texts values.now) ≡ Err (misuse_line misuse)) }
-{
-    without_value(Verb::Acl, "--format", Misfit::WithShadowed, values)?;
-    without_value(Verb::Acl, "--prefix", Misfit::WithShadowed, values)?;
-    without_value(Verb::Acl, "--suffix", Misfit::WithShadowed, values)?;
-    Ok(Question::Shadowed)
-}
-
-/// What it permits and the list of another file does not, whose lines have a format.
-fn compared_in<'a>(old: &'a str, values: &[&'a str]) -> Result<Question<'a>, Misuse<'a>>
-    ensures { MatchResult result (λ question. compared_in old.now (texts values.now) ≡ Ok (question_of question))
-        (λ misuse. compared_in old.now (texts values.now) ≡ Err (misuse_line misuse)) }
-{
-    let format = line_format_in(Verb::Acl, values)?;
-    without_value(Verb::Acl, "--prefix", Misfit::WithDiff, values)?;
-    without_value(Verb::Acl, "--suffix", Misfit::WithDiff, values)?;
-    Ok(Question::Compared(format, old))
-}
-
-/// What is asked of an access list, by whether `--shadowed` is given and by the value of `--diff`.
+/// What is asked of an access list, by whether `--shadowed` is given and by the value of `--diff`: which addresses are
+/// permitted, in a style; the rules that no address reaches, which have no style; or what it permits and the list of another
+/// file does not, whose lines have a format.
 fn question_by<'a>(
     shadowed: bool,
     old: Option<&'a str>,
     values: &[&'a str],
 ) -> Result<Question<'a>, Misuse<'a>>
-    ensures { MatchResult result (λ question. question_by shadowed (given old.entry) (texts values.now) ≡ Ok (question_of question))
-        (λ misuse. question_by shadowed (given old.entry) (texts values.now) ≡ Err (misuse_line misuse)) }
+    ensures { Means (question_by shadowed (given old.entry) (texts values.now)) (λ question. question_of question) result }
 {
     match (shadowed, old) {
-        (false, None) => permitted_in(values),
-        (true, None) => shadowed_in(values),
-        (false, Some(old)) => compared_in(old, values),
+        (false, None) => {
+            let style = style_in_values(Verb::Acl, values)?;
+            Ok(Question::Permitted(style))
+        }
+        (true, None) => {
+            without_value("--format", Misfit::WithShadowed, values)?;
+            without_value("--prefix", Misfit::WithShadowed, values)?;
+            without_value("--suffix", Misfit::WithShadowed, values)?;
+            Ok(Question::Shadowed)
+        }
+        (false, Some(old)) => {
+            let format = line_format_in(Verb::Acl, values)?;
+            without_value("--prefix", Misfit::WithDiff, values)?;
+            without_value("--suffix", Misfit::WithDiff, values)?;
+            Ok(Question::Compared(format, old))
+        }
         (true, Some(_)) => Err(misused(Verb::Acl, Misfit::Extra, "--shadowed")),
     }
 }
 
-/// The command `acl`.
-fn acl_command<'a>(parts: &'a Parts<'a>) -> Result<Command<'a>, Misuse<'a>>
-    ensures { MatchResult result (λ command. acl_request (given_parts parts.now) ≡ Ok (request_of command))
-        (λ misuse. acl_request (given_parts parts.now) ≡ Err (misuse_line misuse)) }
-{
-    let operands = parts.operands.as_slice();
-    let shadowed = has(parts.options.as_slice(), "--shadowed");
-    let old = option_value(Verb::Acl, "--diff", parts.values.as_slice())?;
-    let question = question_by(shadowed, old, parts.values.as_slice())?;
-    Ok(Command::Acl(question, operand_or(operands, 0, "")))
-}
-
 /// The command `help`, of the command that an operand names, or of all.
 fn help_command<'a>(operands: &[&'a str]) -> Result<Command<'a>, Misuse<'a>>
-    ensures { MatchResult result (λ command. help_request (texts operands.now) ≡ Ok (request_of command))
-        (λ misuse. help_request (texts operands.now) ≡ Err (misuse_line misuse)) }
+    ensures { Means (help_request (texts operands.now)) (λ command. request_of command) result }
 {
     match operands.first() {
         None => Ok(Command::Help(None)),
@@ -800,8 +672,7 @@ fn help_command<'a>(operands: &[&'a str]) -> Result<Command<'a>, Misuse<'a>>
 
 /// The field of a number, and what parts it from others.
 fn column_by<'a>(number: &'a str, separator: Option<&'a str>) -> Result<Column, Misuse<'a>>
-    ensures { MatchResult result (λ column. column_by number.now (given separator.entry) ≡ Ok column)
-        (λ misuse. column_by number.now (given separator.entry) ≡ Err (misuse_line misuse)) }
+    ensures { Means (column_by number.now (given separator.entry)) (λ column. column) result }
 {
     match place_by(number) {
         Some(place) => {
@@ -818,16 +689,12 @@ fn column_by<'a>(number: &'a str, separator: Option<&'a str>) -> Result<Column, 
 
 /// The field that is read of each line, if one is told: by the value of `--field`, whether `--any` is given, and the value
 /// of `--separator`.
-fn field_by<'a>(
-    command: Verb,
-    number: Option<&'a str>,
-    any: bool,
-    separator: Option<&'a str>,
-) -> Result<Option<Column>, Misuse<'a>>
-    ensures { MatchResult result (λ column. field_by command (given number.entry) any (given separator.entry) ≡ Ok column)
-        (λ misuse. field_by command (given number.entry) any (given separator.entry) ≡ Err (misuse_line misuse)) }
+fn field_in<'a>(command: Verb, parts: Given<'a>) -> Result<Option<Column>, Misuse<'a>>
+    ensures { Means (field_in command (parts_in parts.entry)) (λ column. column) result }
 {
-    match (number, any, separator) {
+    let number = option_value(command, "--field", parts.values)?;
+    let separator = option_value(command, "--separator", parts.values)?;
+    match (number, has(parts.options, "--any"), separator) {
         (None, _, None) => Ok(None),
         (None, _, Some(_)) => Err(misused(command, Misfit::NoField, "--separator")),
         (Some(number), false, separator) => {
@@ -836,22 +703,6 @@ fn field_by<'a>(
         }
         (Some(_), true, _) => Err(misused(command, Misfit::Anywhere, "--field")),
     }
-}
-
-/// The same by the parts of a line.
-fn field_in<'a>(command: Verb, parts: &'a Parts<'a>) -> Result<Option<Column>, Misuse<'a>>
-    ensures { MatchResult result (λ column. field_in command (given_parts parts.now) ≡ Ok column)
-        (λ misuse. field_in command (given_parts parts.now) ≡ Err (misuse_line misuse)) }
-{
-    let values = parts.values.as_slice();
-    let number = option_value(command, "--field", values)?;
-    let separator = option_value(command, "--separator", values)?;
-    field_by(
-        command,
-        number,
-        has(parts.options.as_slice(), "--any"),
-        separator,
-    )
 }
 
 /// The command `match`, of several files where there is a third operand, and else of one or of the standard input.
@@ -872,20 +723,9 @@ fn match_by<'a>(picking: Picking, operands: &'a [&'a str]) -> Command<'a>
     }
 }
 
-/// The command `match` with the field by which it picks lines.
-fn match_command<'a>(parts: &'a Parts<'a>) -> Result<Command<'a>, Misuse<'a>>
-    ensures { MatchResult result (λ command. match_request (given_parts parts.now) ≡ Ok (request_of command))
-        (λ misuse. match_request (given_parts parts.now) ≡ Err (misuse_line misuse)) }
-{
-    let column = field_in(Verb::Match, parts)?;
-    let picking = picking_of(parts.options.as_slice(), column);
-    Ok(match_by(picking, parts.operands.as_slice()))
-}
-
 /// The layout of the rows of tables in a form of this name.
 fn named_layout<'a>(command: Verb, name: &'a str) -> Result<RowLayout, Misuse<'a>>
-    ensures { MatchResult result (λ layout. named_layout command name.now ≡ Ok layout)
-        (λ misuse. named_layout command name.now ≡ Err (misuse_line misuse)) }
+    ensures { Means (named_layout command name.now) (λ layout. layout) result }
 {
     if name == "pfx2as" {
         return Ok(RowLayout::Pfx2as);
@@ -905,8 +745,7 @@ fn named_list_form<'a>(
     options: &[&'a str],
     name: &'a str,
 ) -> Result<ListForm, Misuse<'a>>
-    ensures { MatchResult result (λ form. named_list_form command (texts options.now) name.now ≡ Ok form)
-        (λ misuse. named_list_form command (texts options.now) name.now ≡ Err (misuse_line misuse)) }
+    ensures { Means (named_list_form command (texts options.now) name.now) (λ form. form) result }
 {
     if name != "rir" {
         return Err(misused(command, Misfit::NoListForm, name));
@@ -921,27 +760,25 @@ fn named_list_form<'a>(
 }
 
 /// The form of the lists that a command reads.
-fn list_form_in<'a>(command: Verb, parts: &'a Parts<'a>) -> Result<ListForm, Misuse<'a>>
-    ensures { MatchResult result (λ form. list_form_in command (given_parts parts.now) ≡ Ok form)
-        (λ misuse. list_form_in command (given_parts parts.now) ≡ Err (misuse_line misuse)) }
+fn list_form_in<'a>(command: Verb, parts: Given<'a>) -> Result<ListForm, Misuse<'a>>
+    ensures { Means (list_form_in command (parts_in parts.entry)) (λ form. form) result }
 {
-    let options = parts.options.as_slice();
+    let options = parts.options;
     if asks_help(options) || takes_value(command, "--table-separator") {
         return Ok(ListForm::Networks(bits_of(options)));
     }
-    match option_value(command, "--form", parts.values.as_slice())? {
+    match option_value(command, "--form", parts.values)? {
         Some(name) => named_list_form(command, options, name),
         None => Ok(ListForm::Networks(bits_of(options))),
     }
 }
 
 /// How a command reads lists.
-pub fn reading_in<'a>(command: Verb, parts: &'a Parts<'a>) -> Result<Reading, Misuse<'a>>
-    ensures { MatchResult result (λ reading. reading_in command (given_parts parts.now) ≡ Ok reading)
-        (λ misuse. reading_in command (given_parts parts.now) ≡ Err (misuse_line misuse)) }
+fn reading_in<'a>(command: Verb, parts: Given<'a>) -> Result<Reading, Misuse<'a>>
+    ensures { Means (reading_in command (parts_in parts.entry)) (λ reading. reading) result }
 {
     let form = list_form_in(command, parts)?;
-    Ok(reading_of(form, parts.options.as_slice()))
+    Ok(reading_of(form, parts.options))
 }
 
 /// What parts the fields of lines, or what is told where it is not one byte.
@@ -950,8 +787,7 @@ fn separator_by<'a>(
     command: &'static str,
     separator: Option<&'a str>,
 ) -> Result<Separator, Misuse<'a>>
-    ensures { MatchResult result (λ parted. separator_by why command.now (given separator.entry) ≡ Ok parted)
-        (λ misuse. separator_by why command.now (given separator.entry) ≡ Err (misuse_line misuse)) }
+    ensures { Means (separator_by why command.now (given separator.entry)) (λ parted. parted) result }
 {
     let Some(text) = separator else {
         return Ok(Separator::WhiteSpace);
@@ -984,15 +820,17 @@ fn place_by(number: &str) -> Option<u64>
     place_of(number)
 }
 
-/// The layout of rows of fields of which two are told by their numbers.
-fn columns_by<'a>(
+/// The layout of rows of fields, of which two may be told by their numbers.
+fn fields_by<'a>(
     command: Verb,
     separator: Separator,
-    numbers: &'a str,
+    numbers: Option<&'a str>,
 ) -> Result<RowLayout, Misuse<'a>>
-    ensures { MatchResult result (λ layout. fields_by command separator (Some numbers.now) ≡ Ok layout)
-        (λ misuse. fields_by command separator (Some numbers.now) ≡ Err (misuse_line misuse)) }
+    ensures { Means (fields_by command separator (given numbers.entry)) (λ layout. layout) result }
 {
+    let Some(numbers) = numbers else {
+        return Ok(RowLayout::Fields(separator));
+    };
     let (network, value) = split_numbers(numbers);
     match (place_by(network), place_by(value)) {
         (Some(network), Some(value)) => Ok(RowLayout::Columns(RowColumns {
@@ -1004,74 +842,35 @@ fn columns_by<'a>(
     }
 }
 
-/// The layout of rows of fields.
-fn fields_by<'a>(
-    command: Verb,
-    separator: Separator,
-    numbers: Option<&'a str>,
-) -> Result<RowLayout, Misuse<'a>>
-    ensures { MatchResult result (λ layout. fields_by command separator (given numbers.entry) ≡ Ok layout)
-        (λ misuse. fields_by command separator (given numbers.entry) ≡ Err (misuse_line misuse)) }
-{
-    match numbers {
-        None => Ok(RowLayout::Fields(separator)),
-        Some(numbers) => columns_by(command, separator, numbers),
-    }
-}
-
-/// The layout of rows in a form of this name, with which goes neither of the other two options.
-fn form_by<'a>(
-    command: Verb,
-    name: &'a str,
-    separator: Option<&'a str>,
-    numbers: Option<&'a str>,
-) -> Result<RowLayout, Misuse<'a>>
-    ensures { MatchResult result (λ layout. layout_by command (Some name.now) (given separator.entry) (given numbers.entry) ≡ Ok layout)
-        (λ misuse. layout_by command (Some name.now) (given separator.entry) (given numbers.entry) ≡ Err (misuse_line misuse)) }
-{
-    match (separator, numbers) {
-        (None, None) => named_layout(command, name),
-        (Some(_), _) => Err(misused(command, Misfit::WithForm, "--table-separator")),
-        (None, Some(_)) => Err(misused(command, Misfit::WithForm, "--table-fields")),
-    }
-}
-
-/// How the rows of a table are laid out, by the values of `--form`, `--table-separator` and `--table-fields`.
+/// How the rows of a table are laid out, by the values of `--form`, `--table-separator` and `--table-fields`: the first goes
+/// with none of the others.
 fn layout_by<'a>(
     command: Verb,
     name: Option<&'a str>,
     separator: Option<&'a str>,
     numbers: Option<&'a str>,
 ) -> Result<RowLayout, Misuse<'a>>
-    ensures { MatchResult result (λ layout. layout_by command (given name.entry) (given separator.entry) (given numbers.entry) ≡ Ok layout)
-        (λ misuse. layout_by command (given name.entry) (given separator.entry) (given numbers.entry) ≡ Err (misuse_line misuse)) }
+    ensures { Means (layout_by command (given name.entry) (given separator.entry) (given numbers.entry)) (λ layout. layout) result }
 {
-    match name {
-        Some(name) => form_by(command, name, separator, numbers),
-        None => {
+    match (name, separator, numbers) {
+        (Some(name), None, None) => named_layout(command, name),
+        (Some(_), Some(_), _) => Err(misused(command, Misfit::WithForm, "--table-separator")),
+        (Some(_), None, Some(_)) => Err(misused(command, Misfit::WithForm, "--table-fields")),
+        (None, separator, numbers) => {
             let separator = separator_by(Misfit::NotOneByte, name_of(command), separator)?;
             fields_by(command, separator, numbers)
         }
     }
 }
 
-/// The same by the options with a value.
-fn layout_in<'a>(command: Verb, values: &[&'a str]) -> Result<RowLayout, Misuse<'a>>
-    ensures { MatchResult result (λ layout. layout_in command (texts values.now) ≡ Ok layout)
-        (λ misuse. layout_in command (texts values.now) ≡ Err (misuse_line misuse)) }
+/// How the rows of a table are read, whose values are told in the format that is asked for.
+fn form_in<'a>(command: Verb, values: &[&'a str]) -> Result<RowForm, Misuse<'a>>
+    ensures { Means (form_in command (texts values.now)) (λ form. form) result }
 {
     let name = option_value(command, "--form", values)?;
     let separator = option_value(command, "--table-separator", values)?;
     let numbers = option_value(command, "--table-fields", values)?;
-    layout_by(command, name, separator, numbers)
-}
-
-/// How the rows of a table are read, whose values are told in the format that is asked for.
-fn form_in<'a>(command: Verb, values: &[&'a str]) -> Result<RowForm, Misuse<'a>>
-    ensures { MatchResult result (λ form. form_in command (texts values.now) ≡ Ok form)
-        (λ misuse. form_in command (texts values.now) ≡ Err (misuse_line misuse)) }
-{
-    let layout = layout_in(command, values)?;
+    let layout = layout_by(command, name, separator, numbers)?;
     let format = line_format_in(command, values)?;
     Ok(RowForm {
         layout,
@@ -1081,7 +880,7 @@ fn form_in<'a>(command: Verb, values: &[&'a str]) -> Result<RowForm, Misuse<'a>>
 
 /// Whether lines may be kept, if they are: in text alone.
 fn may_keep<'a>(format: LineFormat, keeps: bool) -> Result<(), Misuse<'a>>
-    ensures { MatchResult result (λ _. may_keep format keeps ≡ Ok tt) (λ misuse. may_keep format keeps ≡ Err (misuse_line misuse)) }
+    ensures { Means (may_keep format keeps) (λ _. tt) result }
 {
     match (format, keeps) {
         (LineFormat::Plain, _) | (LineFormat::Json, false) => Ok(()),
@@ -1089,102 +888,74 @@ fn may_keep<'a>(format: LineFormat, keeps: bool) -> Result<(), Misuse<'a>>
     }
 }
 
-/// The command `look`, of a table and a file or the standard input.
-fn look_by<'a>(
-    column: Option<Column>,
-    form: RowForm,
-    parts: &'a Parts<'a>,
-) -> Result<Command<'a>, Misuse<'a>>
-    ensures { MatchResult result (λ command. look_by column form (given_parts parts.now) ≡ Ok (request_of command))
-        (λ misuse. look_by column form (given_parts parts.now) ≡ Err (misuse_line misuse)) }
-{
-    let options = parts.options.as_slice();
-    let operands = parts.operands.as_slice();
-    may_keep(form.values, has(options, "--keep"))?;
-    Ok(Command::Look(
-        seeking_of(options, column, form),
-        operand_or(operands, 0, ""),
-        operand_or(operands, 1, "-"),
-    ))
-}
-
-/// The command `look` with the field that it looks up and how the rows of its table are read.
-fn look_command<'a>(parts: &'a Parts<'a>) -> Result<Command<'a>, Misuse<'a>>
-    ensures { MatchResult result (λ command. look_request (given_parts parts.now) ≡ Ok (request_of command))
-        (λ misuse. look_request (given_parts parts.now) ≡ Err (misuse_line misuse)) }
-{
-    let column = field_in(Verb::Look, parts)?;
-    let form = form_in(Verb::Look, parts.values.as_slice())?;
-    look_by(column, form, parts)
-}
-
-/// The command `compile` with how the rows of its table are read.
-fn compile_command<'a>(parts: &'a Parts<'a>) -> Result<Command<'a>, Misuse<'a>>
-    ensures { MatchResult result (λ command. compile_request (given_parts parts.now) ≡ Ok (request_of command))
-        (λ misuse. compile_request (given_parts parts.now) ≡ Err (misuse_line misuse)) }
-{
-    let operands = parts.operands.as_slice();
-    let form = form_in(Verb::Compile, parts.values.as_slice())?;
-    Ok(Command::Compile(
-        form,
-        operand_or(operands, 0, ""),
-        operand_or(operands, 1, ""),
-    ))
-}
-
-/// The command `same` with how the rows of its tables are read.
-fn same_command<'a>(parts: &'a Parts<'a>) -> Result<Command<'a>, Misuse<'a>>
-    ensures { MatchResult result (λ command. same_request (given_parts parts.now) ≡ Ok (request_of command))
-        (λ misuse. same_request (given_parts parts.now) ≡ Err (misuse_line misuse)) }
-{
-    let operands = parts.operands.as_slice();
-    let form = form_in(Verb::Same, parts.values.as_slice())?;
-    Ok(Command::Same(
-        form,
-        operand_or(operands, 0, ""),
-        operand_or(operands, 1, ""),
-    ))
-}
-
-/// The command `smallest` with whether rows may be holes, and how the rows of its table are read.
-fn smallest_command<'a>(parts: &'a Parts<'a>) -> Result<Command<'a>, Misuse<'a>>
-    ensures { MatchResult result (λ command. smallest_request (given_parts parts.now) ≡ Ok (request_of command))
-        (λ misuse. smallest_request (given_parts parts.now) ≡ Err (misuse_line misuse)) }
-{
-    let operands = parts.operands.as_slice();
-    let holes = has(parts.options.as_slice(), "--holes");
-    let form = form_in(Verb::Smallest, parts.values.as_slice())?;
-    Ok(Command::Smallest(holes, form, operand_or(operands, 0, "")))
-}
-
 /// The command with as many operands as it takes.
-fn verb_command<'a>(verb: Verb, parts: &'a Parts<'a>) -> Result<Command<'a>, Misuse<'a>>
-    ensures { MatchResult result (λ command. verb_request verb (given_parts parts.now) ≡ Ok (request_of command))
-        (λ misuse. verb_request verb (given_parts parts.now) ≡ Err (misuse_line misuse)) }
+fn verb_command<'a>(verb: Verb, parts: Given<'a>) -> Result<Command<'a>, Misuse<'a>>
+    ensures { Means (verb_request verb (parts_in parts.entry)) (λ command. request_of command) result }
 {
-    let operands = parts.operands.as_slice();
+    let Given {
+        options,
+        values,
+        operands,
+    } = parts;
+    let first = operand_or(operands, 0, "");
+    let second = operand_or(operands, 1, "");
     match verb {
-        Verb::Lists(operation) => lists_command(operation, parts.values.as_slice(), operands),
-        Verb::Diff => diff_command(parts),
-        Verb::Same => same_command(parts),
-        Verb::Free => free_command(parts),
-        Verb::Acl => acl_command(parts),
-        Verb::Check => Ok(Command::Check(operands)),
-        Verb::Which => {
-            Ok(Command::Which(operand_or(operands, 0, ""), operands_from(operands, 1)))
+        Verb::Lists(operation) => {
+            let verb = Verb::Lists(operation);
+            let net = option_value(verb, "--in", values)?;
+            let style = style_in_values(verb, values)?;
+            Ok(made_command(operation, net, style, operands))
         }
-        Verb::Match => match_command(parts),
-        Verb::Look => look_command(parts),
-        Verb::Compile => compile_command(parts),
-        Verb::Smallest => smallest_command(parts),
-        Verb::Describe(what) => Ok(Command::Describe(what, operand_or(operands, 0, ""))),
-        Verb::Class => Ok(Command::Class(operand_or(operands, 0, ""))),
-        Verb::Show => Ok(Command::Single(Single::Show(operand_or(operands, 0, "")))),
-        Verb::Split => split_command(parts),
-        Verb::Nth => Ok(Command::Single(Single::Nth(
-            operand_or(operands, 0, ""),
-            operand_or(operands, 1, ""),
-        ))),
+        Verb::Diff => {
+            let format = line_format_in(Verb::Diff, values)?;
+            Ok(Command::Diff(format, first, second))
+        }
+        Verb::Same => {
+            let form = form_in(Verb::Same, values)?;
+            Ok(Command::Same(form, first, second))
+        }
+        Verb::Free => {
+            let len = length_by(second)?;
+            let count = option_value(Verb::Free, "--count", values)?;
+            let most = most_by(has(options, "--all"), count)?;
+            let style = style_in_values(Verb::Free, values)?;
+            Ok(Command::Free(style, most, first, len, operands_from(operands, 2)))
+        }
+        Verb::Acl => {
+            let old = option_value(Verb::Acl, "--diff", values)?;
+            let asked = question_by(has(options, "--shadowed"), old, values)?;
+            Ok(Command::Acl(asked, first))
+        }
+        Verb::Check => Ok(Command::Check(operands)),
+        Verb::Which => Ok(Command::Which(first, operands_from(operands, 1))),
+        Verb::Match => {
+            let column = field_in(Verb::Match, parts)?;
+            Ok(match_by(picking_of(options, column), operands))
+        }
+        Verb::Look => {
+            let column = field_in(Verb::Look, parts)?;
+            let form = form_in(Verb::Look, values)?;
+            may_keep(form.values, has(options, "--keep"))?;
+            let seeking = seeking_of(options, column, form);
+            Ok(Command::Look(seeking, first, operand_or(operands, 1, "-")))
+        }
+        Verb::Compile => {
+            let form = form_in(Verb::Compile, values)?;
+            Ok(Command::Compile(form, first, second))
+        }
+        Verb::Smallest => {
+            let form = form_in(Verb::Smallest, values)?;
+            Ok(Command::Smallest(has(options, "--holes"), form, first))
+        }
+        Verb::Describe(what) => Ok(Command::Describe(what, first)),
+        Verb::Class => Ok(Command::Class(first)),
+        Verb::Show => Ok(Command::Single(Single::Show(first))),
+        Verb::Split => {
+            let style = style_in_values(Verb::Split, values)?;
+            let len = length_by(second)?;
+            Ok(Command::Split(style, first, second, len))
+        }
+        Verb::Nth => Ok(Command::Single(Single::Nth(first, second))),
         Verb::Help => help_command(operands),
         Verb::Version => Ok(Command::Version),
     }
@@ -1213,34 +984,32 @@ fn extra_operand<'a>(command: Verb, operands: &[&'a str]) -> Option<&'a str>
 }
 
 /// The command that the parts of a line are.
-pub fn command_of<'a>(command: Verb, parts: &'a Parts<'a>) -> Result<Command<'a>, Misuse<'a>>
-    ensures { MatchResult result (λ made. part_request command (given_parts parts.now) ≡ Ok (request_of made))
-        (λ misuse. part_request command (given_parts parts.now) ≡ Err (misuse_line misuse)) }
+fn command_of<'a>(command: Verb, parts: Given<'a>) -> Result<Command<'a>, Misuse<'a>>
+    ensures { Means (part_request command (parts_in parts.entry)) (λ made. request_of made) result }
 {
-    if asks_help(parts.options.as_slice()) {
+    if asks_help(parts.options) {
         return Ok(Command::Help(Some(command)));
     }
-    let operands = parts.operands.as_slice();
-    if let Some(name) = missing_operand(command, operands) {
+    if let Some(name) = missing_operand(command, parts.operands) {
         return Err(misused(command, Misfit::Missing, name));
     }
-    if let Some(word) = extra_operand(command, operands) {
+    if let Some(word) = extra_operand(command, parts.operands) {
         return Err(misused(command, Misfit::Extra, word));
     }
     verb_command(command, parts)
 }
 
-/// The file that the answer is written to, by whether `-k` and `--skip-bad` are given: the latter goes with none.
-fn target_by<'a>(
-    command: Verb,
-    keeps: bool,
-    skips: bool,
-    target: Option<&'a str>,
-) -> Result<Option<&'a str>, Misuse<'a>>
-    ensures { MatchResult result (λ now. target_by command keeps skips (given target.entry) ≡ Ok (given now))
-        (λ misuse. target_by command keeps skips (given target.entry) ≡ Err (misuse_line misuse)) }
+/// The file that the answer is written to, if one is named: none goes with `--skip-bad`, nor does `-k`. The page of a command
+/// is written to the standard output.
+fn target_of<'a>(command: Verb, parts: Given<'a>) -> Result<Option<&'a str>, Misuse<'a>>
+    ensures { Means (target_in command (parts_in parts.entry)) (λ target. given target) result }
 {
-    match (keeps, skips, target) {
+    if asks_help(parts.options) {
+        return Ok(None);
+    }
+    let target = option_value(command, "-o", parts.values)?;
+    let keeps = has(parts.options, "-k");
+    match (keeps, has(parts.options, "--skip-bad"), target) {
         (_, false, _) => Ok(target),
         (true, true, _) => Err(misused(command, Misfit::Skipping, "-k")),
         (false, true, Some(_)) => Err(misused(command, Misfit::Skipping, "-o")),
@@ -1248,20 +1017,16 @@ fn target_by<'a>(
     }
 }
 
-/// The file that the answer is written to, if one is named. The page of a command is written to the standard output.
-pub fn target_of<'a>(command: Verb, parts: &Parts<'a>) -> Result<Option<&'a str>, Misuse<'a>>
-    ensures { MatchResult result (λ target. target_in command (given_parts parts.now) ≡ Ok (given target))
-        (λ misuse. target_in command (given_parts parts.now) ≡ Err (misuse_line misuse)) }
+/// The line of a command and its parts.
+pub fn line_of<'a>(command: Verb, parts: Given<'a>) -> Result<Line<'a>, Misuse<'a>>
+    ensures { Means (read_request command (parts_in parts.entry)) (λ line. line_in line) result }
 {
-    if asks_help(parts.options.as_slice()) {
-        return Ok(None);
-    }
-    let target = option_value(command, "-o", parts.values.as_slice())?;
-    let options = parts.options.as_slice();
-    target_by(
-        command,
-        has(options, "-k"),
-        has(options, "--skip-bad"),
+    let made = command_of(command, parts)?;
+    let target = target_of(command, parts)?;
+    let reading = reading_in(command, parts)?;
+    Ok(Line {
+        reading,
         target,
-    )
+        command: made,
+    })
 }

@@ -1,5 +1,5 @@
 //! The networks of a prefix length inside a network, or inside the networks of a list.
-ghost use Rattle.std.specs.Prelude.{◌≡◌, ℕ, option_map, IfErr, MatchOption};
+ghost use Rattle.std.specs.Prelude.{option_map, IfErr};
 ghost use Rattle.std.specs.Bool.{Decides};
 ghost use Rattle.cidr_io.specs.Writing.{Answered};
 ghost use Rattle.cidr_lists.specs.Formats.{printed_walk, style_in};
@@ -8,9 +8,9 @@ ghost use Rattle.netset_commands.specs.Causes.{Cause, FileFails};
 ghost use Rattle.netset_commands.specs.Commands.{Split};
 ghost use Rattle.netset_commands.specs.Free.{inside_of};
 ghost use Rattle.netset_commands.specs.Program.{AnswersRequest};
-ghost use Rattle.netset_commands.specs.Single.{HasNone, IsNumber};
+ghost use Rattle.netset_commands.specs.Single.{HasNone};
 
-use crate::commands::free::{length_of, tell_free, write_inside};
+use crate::commands::free::{tell_free, write_inside};
 use crate::errors::{ArgumentError, CommandError};
 use crate::input::files::Sources;
 use crate::input::operands::read_listed;
@@ -20,26 +20,11 @@ use cidr_io::memory::Memory;
 use cidr_io::sink::{OutputFailed, Sink};
 use cidr_lists::formats::Style;
 
-/// Whether there are networks of prefix length `len` inside a network.
-fn has_subnets(network: &IpCidr, len: u8) -> bool
-    ensures { Decides result (¬ (HasNone network.now len)) }
+/// Whether there is no network of prefix length `len` inside a network.
+fn has_none(network: &IpCidr, len: u8) -> bool
+    ensures { Decides result (HasNone network.now len) }
 {
-    network.network_length() <= len && len <= network.family().len()
-}
-
-/// The prefix length of networks inside a network that an argument is, or `None` where it is none or there are none.
-fn inner_length(network: &IpCidr, len: &str) -> Option<u8>
-    ensures { MatchOption result ((n : ℕ) → IsNumber len.now n → HasNone network.now n)
-        (λ n. IsNumber len.now n × ¬ (HasNone network.now n)) }
-{
-    let Ok(len) = len.parse::<u8>() else {
-        return None;
-    };
-    if has_subnets(network, len) {
-        Some(len)
-    } else {
-        None
-    }
+    len < network.network_length() || network.family().len() < len
 }
 
 /// Writes the networks of a prefix length inside a network, and flushes. An output that has failed before gets nothing.
@@ -61,15 +46,16 @@ fn write_subnets<S: Sink>(
 fn split_network<'a, S: Sink>(
     style: Option<Style<'_>>,
     network: &IpCidr,
-    len: &'a str,
+    word: &'a str,
+    len: u8,
     out: &mut S,
 ) -> Result<Verdict, CommandError<'a>>
-    ensures { SplitsNetwork (option_map (λ s. style_in s) style.entry) network.now len.now (S.state out.old) (S.state out.new) result }
+    ensures { SplitsNetwork (option_map (λ s. style_in s) style.entry) network.now word.now len (S.state out.old) (S.state out.new) result }
 {
-    match inner_length(network, len) {
-        Some(bits) => by_output(Verdict::Yes, write_subnets(out, style, network, bits)),
-        None => Err(CommandError::Argument(len, ArgumentError::Length)),
+    if has_none(network, len) {
+        return Err(CommandError::Argument(word, ArgumentError::Length));
     }
+    by_output(Verdict::Yes, write_subnets(out, style, network, len))
 }
 
 /// The networks inside those of the list of a file.
@@ -78,34 +64,32 @@ fn split_list<'a, M: Memory, F: Sources, O: Sink>(
     sources: &F,
     style: Option<Style<'_>>,
     file: &'a str,
-    len: &'a str,
+    len: u8,
     out: &mut O,
 ) -> Result<Verdict, CommandError<'a>>
-    ensures splits { SplitsList (F.contents sources.now) (option_map (λ s. style_in s) style.entry) file.now len.now (O.state out.old) (O.state out.new) result }
+    ensures splits { SplitsList (F.contents sources.now) (option_map (λ s. style_in s) style.entry) file.now len (O.state out.old) (O.state out.new) result }
     ensures cause { IfErr result (Cause (FileFails (F.contents sources.now) (F.reasons sources.now)) (M.refused memory.new)) }
 {
-    let Some(bits) = length_of(len) else {
-        return Err(CommandError::Argument(len, ArgumentError::Length));
-    };
     let sets = read_listed(memory, sources, file)?;
-    tell_free(style, &sets, bits, None, out)
+    tell_free(style, &sets, len, None, out)
 }
 
-/// The command `split`.
+/// The command `split`, of a prefix length with the word that it is told in.
 pub fn split<'a, M: Memory, F: Sources, O: Sink>(
     memory: &mut M,
     sources: &F,
     style: Option<Style<'_>>,
     operand: &'a str,
-    len: &'a str,
+    word: &'a str,
+    len: u8,
     out: &mut O,
 ) -> Result<Verdict, CommandError<'a>>
-    ensures answers { AnswersRequest (F.contents sources.now) (Split (option_map (λ s. style_in s) style.entry) operand.now len.now)
+    ensures answers { AnswersRequest (F.contents sources.now) (Split (option_map (λ s. style_in s) style.entry) operand.now word.now len)
         (O.state out.old) (O.state out.new) result }
     ensures cause { IfErr result (Cause (FileFails (F.contents sources.now) (F.reasons sources.now)) (M.refused memory.new)) }
 {
     match operand.parse::<IpCidr>() {
-        Ok(network) => split_network(style, &network, len, out),
+        Ok(network) => split_network(style, &network, word, len, out),
         Err(_) => split_list(memory, sources, style, operand, len, out),
     }
 }

@@ -1,5 +1,6 @@
-use Rattle.std.proofs.Common.{arith, map}
+use Rattle.std.proofs.Common.{◌∙◌, ap, arith, map, sym}
 use Rattle.std.specs.String.{string_bytes}
+use Rattle.netset_commands.specs.Arguments.{read_request}
 use Rattle.netset_commands.specs.Command.{misuse_line, given_parts}
 use Rattle.netset_commands.specs.declared.errors.CommandError.TheVariants as error
 use Rattle.netset_commands.proofs.Running.{found_none, found_parts, run_found, run_misused}
@@ -12,7 +13,8 @@ returns-in-Ok-line_parts-clause-runs g c =
     (record { memory = g.M.Memory.refused c.answer_parts.new.memory; folder = g.D.Folder.refused c.answer_parts.new.folder; files = g.F.Files.reasons c.args.files.now }) (g.O.Output.closed c.answer_parts.new.out)
     (g.O.Sink.state c.args.out.now) (g.O.Sink.state c.answer_parts.new.out) (g.E.Sink.state c.args.err.now) (g.E.Sink.state c.answer_parts.new.err) c.answer_parts.result
     (found_parts (map string_bytes c.args.texts.now) c.in-Ok-line_parts.verb (given_parts c.in-Ok-line_parts.parts)
-    (rw (c.as_slice.ensures.value, c.in-Ok.ensures.slices) at c.in-Ok-line_parts.ensures)) c.answer_parts.ensures.runs
+    (rw (c.as_slice.ensures.value, c.in-Ok.ensures.slices) at c.in-Ok-line_parts.ensures)
+    ∙ ap (read_request c.in-Ok-line_parts.verb) (sym c.given.ensures)) c.answer_parts.ensures.runs
 
 pub returns-in-Err-Misuse-clause-runs : goal.returns-in-Err-Misuse-clause-runs
 returns-in-Err-Misuse-clause-runs g c =
@@ -26,7 +28,8 @@ pub returns-in-Ok-line_parts-clause-leaves : goal.returns-in-Ok-line_parts-claus
 returns-in-Ok-line_parts-clause-leaves g c =
     left_found _ _ (g.F.Files.contents c.args.files.now) (g.D.Folder.saved c.args.folder.now) (g.D.Folder.saved c.answer_parts.new.folder) c.answer_parts.result
     (found_parts (map string_bytes c.args.texts.now) c.in-Ok-line_parts.verb (given_parts c.in-Ok-line_parts.parts)
-    (rw (c.as_slice.ensures.value, c.in-Ok.ensures.slices) at c.in-Ok-line_parts.ensures)) c.answer_parts.ensures.leaves
+    (rw (c.as_slice.ensures.value, c.in-Ok.ensures.slices) at c.in-Ok-line_parts.ensures)
+    ∙ ap (read_request c.in-Ok-line_parts.verb) (sym c.given.ensures)) c.answer_parts.ensures.leaves
 
 pub returns-in-Err-Misuse-clause-leaves : goal.returns-in-Err-Misuse-clause-leaves
 returns-in-Err-Misuse-clause-leaves g c =

@@ -8,17 +8,17 @@ use Rattle.netset_commands.proofs.commands.split.split_list.Goals as goal
 
 pub returns-clause-splits : goal.returns-clause-splits
 returns-clause-splits g c =
-    list_split (g.F.Sources.contents c.args.sources.now) (option_map (λ s. style_in s) c.args.style) c.args.file.now c.args.len.now c.in-Some.bits c.in_ok-sets.sets (g.O.Sink.state c.args.out.now)
-    (g.O.Sink.state c.tell_free.new.out) c.tell_free.result c.in-Some.ensures c.in_ok-sets.ensures.reads c.tell_free.ensures
+    list_split (g.F.Sources.contents c.args.sources.now) (option_map (λ s. style_in s) c.args.style) c.args.file.now c.args.len c.in_ok-sets.sets (g.O.Sink.state c.args.out.now)
+    (g.O.Sink.state c.tell_free.new.out) c.tell_free.result c.in_ok-sets.ensures.reads c.tell_free.ensures
 
 pub returns-clause-cause : goal.returns-clause-cause
 returns-clause-cause g c =
-    free_cause (FileFails (g.F.Sources.contents c.args.sources.now) (g.F.Sources.reasons c.args.sources.now)) _ (option_map (λ s. style_in s) c.args.style) (networks_of c.in_ok-sets.sets) c.in-Some.bits None _ _ c.tell_free.result c.tell_free.ensures
+    free_cause (FileFails (g.F.Sources.contents c.args.sources.now) (g.F.Sources.reasons c.args.sources.now)) _ (option_map (λ s. style_in s) c.args.style) (networks_of c.in_ok-sets.sets) c.args.len None _ _ c.tell_free.result c.tell_free.ensures
 
 pub returns-in_err-sets-clause-splits : goal.returns-in_err-sets-clause-splits
 returns-in_err-sets-clause-splits g c =
     let (y, is, same) = err_from_is_err_and c.from_residual.result c.from_residual.ensures.1 in
-    rw (is, same) (inl (refl, _, refl, inr (c.in-Some.bits, c.in-Some.ensures.0, c.in-Some.ensures.1, c.in_err-sets.ensures.reads)))
+    rw (is, same) (inl (refl, _, refl, c.in_err-sets.ensures.reads))
 
 pub returns-in_err-sets-clause-cause : goal.returns-in_err-sets-clause-cause
 returns-in_err-sets-clause-cause g c =
