@@ -5,10 +5,12 @@ use Rattle.cidr_io.specs.Arguments.{AreArguments}
 use Rattle.cidr_lists.specs.Lists.{Text}
 use Rattle.cidr_lists.specs.Tables.{IsTable}
 use Rattle.cidr_lists.specs.declared.forms.RowForm.{RowForm}
+use Rattle.cidr_io.specs.Writing.{State}
 use Rattle.netset_commands.specs.Arguments.{Line, line_request}
+use Rattle.netset_commands.specs.Causes.{Refusals}
 use Rattle.netset_commands.specs.Commands.{Request, Compile, IsAnswer}
 use Rattle.netset_commands.specs.Compiled.{IsTableFile}
-use Rattle.netset_commands.specs.Program.{answer_status, contents_of}
+use Rattle.netset_commands.specs.Program.{AnswersRequest, IsCaused, answer_status, contents_of}
 use Rattle.netset_commands.specs.Saving.{IsOther, Told, with_file}
 use Rattle.netset_commands.specs.declared.errors.CommandError.{CommandError}
 use Rattle.netset_commands.specs.declared.output.answers.Verdict.{Verdict}
@@ -50,3 +52,11 @@ abbrev pub RunLeaves : Option (List (List ℕ)) → (List ℕ → Option (List �
 RunLeaves words contents old new status =
     ((given : List (List ℕ)) × AreArguments words given × LeavesFound (line_request given) contents old new status)
     ⊎ ((2 ≤ status) × (new ≡ old))
+
+-- ---- what private functions promise
+-- what becomes of a request, of the sink and of the folder, and for which cause it is given up
+pub record Ends (contents : List ℕ → Option Text) (refused : Refusals) (request : Request) (old new : State) (was now : Option Told)
+    (r : Result Verdict CommandError) : Type 0 where
+  pub answers : AnswersRequest contents request old new r
+  pub cause : IsCaused contents refused request r
+  pub leaves : Leaves contents request was now r

@@ -6,14 +6,14 @@ ghost use Rattle.netset_commands.specs.Causes.{Cause, FileFails};
 ghost use Rattle.netset_commands.specs.Combining.{form_of};
 ghost use Rattle.netset_commands.specs.Arguments.{line_request, read_request};
 ghost use Rattle.netset_commands.specs.Command.{line_in, parts_in, request_of};
-ghost use Rattle.netset_commands.specs.Leaving.{Leaves, LeavesBy, LeavesFound, LeavesTo, RunLeaves};
+ghost use Rattle.netset_commands.specs.Leaving.{Ends, LeavesBy, LeavesFound, LeavesTo, RunLeaves};
 ghost use Rattle.netset_commands.specs.Commands.{Lists, Styled};
 ghost use Rattle.cidr_lists.specs.Formats.{style_in};
 ghost use Rattle.netset_commands.specs.Sets.{Prints};
 ghost use Rattle.cidr_lists.specs.Sets.{networks_of};
 ghost use Rattle.netset_commands.specs.declared.errors.CommandError.{CommandError};
 ghost use Rattle.netset_commands.specs.declared.errors.Unsaved.{Unsaved};
-ghost use Rattle.netset_commands.specs.Program.{AnswersRequest, IntoFound, IsCaused, IsNotSaved, IsReadTwice, IsWrong, KeepsGoing, Runs, RunsFound, RunsGood, contents_in, RunsRequest, contents_of};
+ghost use Rattle.netset_commands.specs.Program.{AnswersRequest, IntoFound, IsNotSaved, IsReadTwice, IsWrong, KeepsGoing, Runs, RunsFound, RunsGood, contents_in, RunsRequest, contents_of};
 ghost use Rattle.netset_commands.specs.Typed.{AnswersTyped};
 
 use crate::commands::acl::acl;
@@ -115,10 +115,8 @@ fn answer<'a, M: Memory, F: Sources, D: Folder, O: Sink>(
     command: Command<'a>,
     out: &mut O,
 ) -> Result<Verdict, CommandError<'a>>
-    ensures answers { AnswersRequest (F.contents sources.now) (request_of command.entry) (O.state out.old) (O.state out.new) result }
-    ensures leaves { Leaves (F.contents sources.now) (request_of command.entry) (D.saved folder.old) (D.saved folder.new) result }
-    ensures cause { IsCaused (F.contents sources.now) (record { memory = M.refused memory.new; folder = D.refused folder.new; files = F.reasons sources.now })
-        (request_of command.entry) result }
+    ensures { Ends (F.contents sources.now) (record { memory = M.refused memory.new; folder = D.refused folder.new; files = F.reasons sources.now })
+        (request_of command.entry) (O.state out.old) (O.state out.new) (D.saved folder.old) (D.saved folder.new) result }
 {
     match command {
         Command::Lists(operation, files) => lists(memory, sources, operation, files, out),
