@@ -1,7 +1,8 @@
 -- Access lists that are read, and what is told of them.
-use Rattle.std.proofs.Common.{◌≡◌, refl, sym, subst, inl, inr, ℕ, Bool, List, [], ◌∷◌, ◌++◌, Bor, Option, Some, Result, Ok}
+use Rattle.std.proofs.Common.{◌≡◌, refl, sym, subst, inl, inr, ℕ, Bool, List, [], ◌∷◌, ◌++◌, Bor, Option, Some, Result, Ok, arith}
 use Rattle.std.specs.List.{AllZip}
 use Rattle.std.specs.Option.{IfSome}
+use Rattle.std.proofs.lemmas.Grind.{common_steps}
 use Rattle.cidr.specs.declared.cidr.combined.IpCidr.{IpCidr}
 use Rattle.cidr.specs.declared.family.Family.{Family}
 use Rattle.cidr.specs.declared.family.Family.TheVariants.{Ipv4, Ipv6}
@@ -37,12 +38,7 @@ use Rattle.netset_commands.proofs.Changed.{changes_clean, are_merged, differ}
 
 -- ---- the rules of a file
 pub no_rules_read : (contents : Option Text) (name : List ℕ) (e : CommandError) → IsNotReadFurther name e → IsUnreadRules contents name e
-no_rules_read contents name (error.Argument text e) h = absurd h
-no_rules_read contents name (error.Line file number e) h = absurd h
-no_rules_read contents name (error.Input file why) h = h
-no_rules_read contents name error.NoMemory h = tt
-no_rules_read contents name error.Output h = absurd h
-no_rules_read contents name (error.File file why) h = absurd h
+no_rules_read contents name e h = grind (arith, common_steps)
 
 -- the bytes that were read are the text
 module _ (contents : Option Text) (known : Option (List ℕ)) (bytes : List ℕ) (bits : ListForm) (opens : (text : Text) → contents ≡ Some text → known ≡ Some text.bytes)

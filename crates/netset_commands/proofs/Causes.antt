@@ -2,9 +2,12 @@
 use Rattle.std.proofs.Common.{◌≡◌, ◌⊎◌, refl, sym, ap, subst, arith, inl, inr, ℕ, ◌+◌, ◌≤◌, Bor, Bool, true, false, List, ◌++◌, length, length-append, Option, Some, None, Result, Ok, Err, IfErr}
 use Rattle.std.specs.List.{slice_split}
 use Rattle.std.specs.Option.{IfSome}
+use Rattle.std.specs.Result.{IsErrAnd}
 use Rattle.std.proofs.lemmas.List.{length-map}
 use Rattle.std.proofs.lemmas.List.Splits.{length-slice_split}
 use Rattle.std.proofs.lemmas.List.Sums.{count_by-le-length}
+use Rattle.std.proofs.lemmas.Result.{err_from_is_err_and}
+use Rattle.std.proofs.lemmas.Grind.{common_steps}
 use Rattle.cidr_io.specs.Lines.{MayFail as NoLineFails}
 use Rattle.cidr_io.specs.declared.lines.LineReadError.{LineReadError as NoLine}
 use Rattle.cidr_io.specs.declared.lines.LineReadError.TheVariants.{Failed}
@@ -121,12 +124,7 @@ pub not_opened : (contents : List ℕ → Option Text) (reasons : List ℕ → O
 not_opened contents reasons name why is told = (subst (λ (k : Option Text). IfSome k (λ text. AreTooMany text.bytes)) (sym is) tt, told)
 
 pub cause_weaker : (F G : List ℕ → Reason → Type 0) (refused : Bool) (e : CommandError) → ((name : List ℕ) (why : Reason) → F name why → G name why) → Cause F refused e → Cause G refused e
-cause_weaker F G refused (error.Argument text e) f h = tt
-cause_weaker F G refused (error.Line name number e) f h = tt
-cause_weaker F G refused (error.Input name why) f h = f name.now why h
-cause_weaker F G refused error.NoMemory f h = h
-cause_weaker F G refused error.Output f h = tt
-cause_weaker F G refused (error.File name why) f h = tt
+cause_weaker F G refused e f h = grind (arith, common_steps)
 
 pub causes_weaker : (F G : List ℕ → Reason → Type 0) (refused : Bool) (r : Result Verdict CommandError) → ((name : List ℕ) (why : Reason) → F name why → G name why) → IfErr r (Cause F refused)
     → IfErr r (Cause G refused)
@@ -141,6 +139,15 @@ file_causes contents reasons file left refused r opened opens h =
     causes_weaker (λ name _. (name ≡ file) × TextFails left) (FileFails contents reasons) refused r
     (λ name why k. subst (λ (n : List ℕ). FileFails contents reasons n why) (sym k.0) (file_fails contents reasons file why left opened opens k.1)) h
 
+-- ---- an error that a `?` hands on
+pub cause_handed : {X : Type 0} (F : List ℕ → Reason → Type 0) (refused : Bool) (e : CommandError) (r : Result X CommandError) → IsErrAnd r (λ y. y ≡ e) → Cause F refused e
+    → IfErr r (Cause F refused)
+cause_handed F refused e r is h = let (y, of, same) = err_from_is_err_and r is in rw (of, same) h
+
+pub memory_handed : {X : Type 0} (F : List ℕ → Reason → Type 0) (refused : Bool) (r : Result X CommandError) → IsErrAnd r (λ y. y ≡ error.NoMemory) → refused ≡ true
+    → IfErr r (Cause F refused)
+memory_handed F refused r is h = cause_handed F refused error.NoMemory r is h
+
 -- ---- an answer
 pub output_cause : (F : List ℕ → Reason → Type 0) (refused : Bool) (verdict : Verdict) (w : Result (Unit {0}) OutputFailed) (r : Result Verdict CommandError)
     → r ≡ by_output verdict w → IfErr r (Cause F refused)
@@ -148,12 +155,7 @@ output_cause F refused verdict (Ok a) r is = subst (λ (k : Result Verdict Comma
 output_cause F refused verdict (Err f) r is = subst (λ (k : Result Verdict CommandError). IfErr k (Cause F refused)) (sym is) tt
 
 pub argument_cause : (F : List ℕ → Reason → Type 0) (refused : Bool) (P : List ℕ → ArgumentError → Type 0) (e : CommandError) → IsBadArgument P e → Cause F refused e
-argument_cause F refused P (error.Argument text e) h = tt
-argument_cause F refused P (error.Line name number e) h = tt
-argument_cause F refused P (error.Input name why) h = absurd h
-argument_cause F refused P error.NoMemory h = absurd h
-argument_cause F refused P error.Output h = tt
-argument_cause F refused P (error.File name why) h = tt
+argument_cause F refused P e h = grind (arith, common_steps)
 
 pub single_cause : (F : List ℕ → Reason → Type 0) (refused : Bool) (contents : List ℕ → Option Text) (request : SingleRequest) (s t : State) (r : Result Verdict CommandError)
     → AnswersRequest contents (ASingle request) s t r → IfErr r (Cause F refused)
@@ -163,12 +165,7 @@ single_cause F refused contents request s t (Err e) (inr (answer, verdict, w, is
 
 -- a table that is to be written over by its own file
 pub same_cause : (F : List ℕ → Reason → Type 0) (refused : Bool) (table name : List ℕ) (e : CommandError) → IsSameFile table name e → Cause F refused e
-same_cause F refused table name (error.Argument text why) h = tt
-same_cause F refused table name (error.Line file number why) h = tt
-same_cause F refused table name (error.Input file why) h = absurd h.1
-same_cause F refused table name error.NoMemory h = absurd h.1
-same_cause F refused table name error.Output h = tt
-same_cause F refused table name (error.File file why) h = tt
+same_cause F refused table name e h = grind (arith, common_steps)
 
 -- a table that is not compiled, before a file is written
 pub uncompiled : (contents : List ℕ → Option Text) (refused : Refusals) (form : RowForm) (table name : List ℕ) (e : CommandError)
@@ -213,9 +210,4 @@ behind_cause F refused file (Some n) (Err e) h = h
 
 pub take_cause : (F : List ℕ → Reason → Type 0) (refused headed : Bool) (P : List ℕ → Result Bool LineError → Type 0) (label : List ℕ) (what : Written) (file : List ℕ) (number : ℕ) (part : List ℕ)
     (old new : State) (block rest : List ℕ) (e : CommandError) → IsLost headed P label what file number part old new block rest e → Cause F refused e
-take_cause F refused headed P label what file number part old new block rest (error.Argument text e) h = tt
-take_cause F refused headed P label what file number part old new block rest (error.Line name n e) h = tt
-take_cause F refused headed P label what file number part old new block rest (error.Input name why) h = absurd h
-take_cause F refused headed P label what file number part old new block rest error.NoMemory h = absurd h
-take_cause F refused headed P label what file number part old new block rest error.Output h = tt
-take_cause F refused headed P label what file number part old new block rest (error.File name why) h = tt
+take_cause F refused headed P label what file number part old new block rest e h = grind (arith, common_steps)

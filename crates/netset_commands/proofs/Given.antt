@@ -1,6 +1,7 @@
 -- Files in the place of a table: files of look-ups, and lines.
-use Rattle.std.proofs.Common.{◌≡◌, sym, ◌∙◌, subst, inr, ℕ, Bool, true, false, List, Bor, Option, Some, None, Err, option_to_list}
+use Rattle.std.proofs.Common.{◌≡◌, sym, ◌∙◌, subst, inr, ℕ, Bool, true, false, List, Bor, Option, Some, None, Err, option_to_list, arith}
 use Rattle.std.specs.Option.{IfSome}
+use Rattle.std.proofs.lemmas.Grind.{common_steps}
 use Rattle.cidr.specs.declared.family.Family.{Family}
 use Rattle.cidr_files.specs.Faults.{IsFaultOfBytes}
 use Rattle.cidr_lists.specs.Forms.{AreFit}
@@ -47,29 +48,14 @@ told_begun left contents known begun opens h text is = bytes_read (λ text. IsBe
 -- ---- why it is not read
 pub not_read : (IsOther : CommandError → Type 0) (contents : Option Text) (name : List ℕ) (e : CommandError) → ((e : CommandError) → IsNotReadFurther name e → IsOther e)
     → IsNotReadFurther name e → IsNotGiven IsOther contents name e
-not_read IsOther contents name (error.Argument text e) f h = absurd h
-not_read IsOther contents name (error.Line file number e) f h = absurd h
-not_read IsOther contents name (error.Input file why) f h = f (error.Input file why) h
-not_read IsOther contents name error.NoMemory f h = f error.NoMemory h
-not_read IsOther contents name error.Output f h = absurd h
-not_read IsOther contents name (error.File file why) f h = absurd h
+not_read IsOther contents name e f h = grind (arith, common_steps)
 
 pub no_table_read : (form : RowForm) (contents : Option Text) (name : List ℕ) (e : CommandError) → IsNotReadFurther name e → IsUnreadTable form contents name e
-no_table_read form contents name (error.Argument text e) h = absurd h
-no_table_read form contents name (error.Line file number e) h = absurd h
-no_table_read form contents name (error.Input file why) h = h
-no_table_read form contents name error.NoMemory h = tt
-no_table_read form contents name error.Output h = absurd h
-no_table_read form contents name (error.File file why) h = absurd h
+no_table_read form contents name e h = grind (arith, common_steps)
 
 -- it is not opened
 pub none_refused : (F : List ℕ → Reason → Type 0) (refused : Bool) (e : CommandError) → Cause F false e → Cause F refused e
-none_refused F refused (error.Argument text e) h = tt
-none_refused F refused (error.Line file number e) h = tt
-none_refused F refused (error.Input file why) h = h
-none_refused F refused error.NoMemory h = cc
-none_refused F refused error.Output h = tt
-none_refused F refused (error.File file why) h = tt
+none_refused F refused e h = grind (arith, common_steps)
 
 -- it is not read whole
 pub whole_cause : (contents : List ℕ → Option Text) (reasons : List ℕ → Option Reason) (name : List ℕ) (left : Option (List ℕ)) (refused : Bool) (e : CommandError)
@@ -119,9 +105,4 @@ unfit_row form contents name bytes table (error.File file why) are has h = absur
 
 pub unfit_cause : (F : List ℕ → Reason → Type 0) (refused : Bool) (format : LineFormat) (table : Family → List (List Bool × List ℕ)) (name : List ℕ) (e : CommandError)
     → TellsUnfit format table name e → Cause F refused e
-unfit_cause F refused format table name (error.Argument text e) h = tt
-unfit_cause F refused format table name (error.Line file number e) h = tt
-unfit_cause F refused format table name (error.Input file why) h = absurd h
-unfit_cause F refused format table name error.NoMemory h = absurd h
-unfit_cause F refused format table name error.Output h = tt
-unfit_cause F refused format table name (error.File file why) h = tt
+unfit_cause F refused format table name e h = grind (arith, common_steps)

@@ -6,6 +6,7 @@ use Rattle.std.proofs.lemmas.Bool.{true≢false}
 use Rattle.std.proofs.lemmas.List.{append-nil}
 use Rattle.std.proofs.lemmas.List.Concat.{flat_map-append}
 use Rattle.std.proofs.lemmas.List.Folds.{list_any-append}
+use Rattle.std.proofs.lemmas.Grind.{common_steps}
 use Rattle.cidr.specs.either.IpAddress.{address_family, plain_bits}
 use Rattle.cidr.specs.texts.Printed.{plain_text}
 use Rattle.cidr.specs.declared.addr.ip.IpAddr.{IpAddr}
@@ -124,12 +125,7 @@ lost_object table address text bytes s t b c found (row, looked, is, hit) same p
 pub as_object : (place : Asked) (table : Family → List (List Bool × List ℕ)) (line : List ℕ) (asked : Option IpAddr) (s t : State) (b c : List ℕ) (r : Result Bool CommandError)
     → TellsBy look_object table asked s t b c r → TellsBy (told_line Objects place line) table asked s t b c r
 as_object place table line asked s t b c (Ok hit) h = h
-as_object place table line asked s t b c (Err (error.Argument text e)) h = h
-as_object place table line asked s t b c (Err (error.Line name n e)) h = h
-as_object place table line asked s t b c (Err (error.Input name why)) h = h
-as_object place table line asked s t b c (Err error.NoMemory) h = h
-as_object place table line asked s t b c (Err error.Output) h = h
-as_object place table line asked s t b c (Err (error.File name why)) h = h
+as_object place table line asked s t b c (Err e) h = grind (arith, common_steps)
 
 -- ---- several lines
 or_none : (b : Bool) → b ≡ (b || false)

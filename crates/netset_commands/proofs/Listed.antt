@@ -4,6 +4,7 @@ use Rattle.std.proofs.lemmas.List.{get_or-map, length-map, map-id, map_more, map
 use Rattle.std.proofs.lemmas.Slice.Zip.{get_or-zip, length-zip}
 use Rattle.std.specs.Map.{keys_of}
 use Rattle.std.specs.Option.{IfSome}
+use Rattle.std.proofs.lemmas.Grind.{common_steps}
 use Rattle.cidr.specs.declared.family.Family.{Family}
 use Rattle.cidr.specs.declared.family.Family.TheVariants.{Ipv4, Ipv6}
 use Rattle.cidr.specs.model.Bits.{bits}
@@ -43,12 +44,7 @@ no_list IsUnread contents name error.NoMemory f h = f error.NoMemory h
 no_list IsUnread contents name error.Output f h = f error.Output h
 
 pub no_list_read : (contents : Option Text) (name : List ℕ) (e : CommandError) → IsNotReadFurther name e → IsFileError contents name e
-no_list_read contents name (error.Argument text e) h = absurd h
-no_list_read contents name (error.Line file number e) h = absurd h
-no_list_read contents name (error.Input file why) h = h
-no_list_read contents name error.NoMemory h = tt
-no_list_read contents name error.Output h = absurd h
-no_list_read contents name (error.File file why) h = absurd h
+no_list_read contents name e h = grind (arith, common_steps)
 
 -- a line of it is in error
 pub no_list_lines : (contents : Option Text) (left : Option (List ℕ)) (bits : ListForm) (file : Bor (List ℕ)) (old new : Lists) (e : ListReadError)

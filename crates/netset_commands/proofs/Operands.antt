@@ -3,6 +3,7 @@ use Rattle.std.proofs.Common.{◌≡◌, refl, sym, ◌∙◌, subst, arith, inl
 use Rattle.std.specs.Bool.{Decides}
 use Rattle.std.proofs.lemmas.Bool.{true≢false}
 use Rattle.std.proofs.lemmas.List.{append-nil}
+use Rattle.std.proofs.lemmas.Grind.{common_steps}
 use Rattle.cidr.specs.either.IpText.{IsIpNetworkText}
 use Rattle.cidr.specs.declared.cidr.combined.IpCidr.{IpCidr}
 use Rattle.cidr.specs.declared.family.Family.{Family}
@@ -51,12 +52,7 @@ unlisted contents reasons operand refused (error.File name e) is fails = absurd 
 
 pub operand_cause : (F : List ℕ → Reason → Type 0) (operand : Bor (List ℕ)) (refused : Bool) (e : CommandError) → Cause F refused e
     → Cause F refused (operand_error operand e)
-operand_cause F operand refused (error.Argument text why) h = tt
-operand_cause F operand refused (error.Line name number e) h = tt
-operand_cause F operand refused (error.Input name why) h = tt
-operand_cause F operand refused error.NoMemory h = h
-operand_cause F operand refused error.Output h = tt
-operand_cause F operand refused (error.File name e) h = tt
+operand_cause F operand refused e h = grind (arith, common_steps)
 
 -- ---- whether an operand is a list
 pub reads_so : (operand : List ℕ) (network : IpCidr) → IsIpNetworkText operand network → Decides true (ReadsAsNetwork operand)

@@ -3,6 +3,7 @@ use Rattle.std.proofs.Common.{◌≡◌, refl, sym, ◌∙◌, ap, subst, arith,
 use Rattle.std.proofs.lemmas.Bool.{true≢false}
 use Rattle.std.specs.Bool.{Decides}
 use Rattle.std.specs.List.{count_by}
+use Rattle.std.proofs.lemmas.Grind.{common_steps}
 use Rattle.cidr_io.specs.Arguments.{AreArguments}
 use Rattle.cidr_io.specs.Writing.{State, Tells}
 use Rattle.netset_commands.specs.Causes.{Cause, FileFails, Refusals}
@@ -162,12 +163,7 @@ run_once reading contents refused request closed out new s t status twice names 
 
 -- the standard input named twice is told whatever became of the output
 told_anyway : (closed : Bool) (e : CommandError) (s t : State) → IsReadTwice e → Reports false (Err e) s t → Reports closed (Err e) s t
-told_anyway closed (error.Argument text why) s t is says = says
-told_anyway closed (error.Line name number why) s t is says = absurd is
-told_anyway closed (error.Input name why) s t is says = absurd is
-told_anyway closed error.NoMemory s t is says = absurd is
-told_anyway closed error.Output s t is says = absurd is
-told_anyway closed (error.File name why) s t is says = absurd is
+told_anyway closed e s t is says = grind (arith, common_steps)
 
 pub run_none : (reading : Reading) (contents : List ℕ → Option (List ℕ)) (refused : Refusals) (request : Request) (closed : Bool) (out s t : State) (status : ℕ) (twice : Bool) (names : List (List ℕ)) (e : CommandError)
     → names ≡ lists_of request ++ others_of request → Decides twice (1 < count_by (is_word input_name) names) → twice ≡ true → IsReadTwice e → Reports false (Err e) s t → status ≡ status_of (Err e)
