@@ -20,16 +20,14 @@ def strings(text):
     return [json.loads(f'"{it}"') for it in re.findall(LITERAL, text)]
 
 
-def arm(text, function, verb):
-    """What a function of the table has for a command: the text of the first arm of its `match` that takes it."""
-    body = re.search(rf"\bfn {function}\(.*?\n}}\n", text, re.S)[0]
-    body = body[body.index("match command {") :]
-    pattern = r"(?:Verb::[\w:()]+(?:\s*\|\s*Verb::[\w:()]+)*|\b_)"
-    for taken, made in re.findall(rf"({pattern})\s*=>((?:(?!{pattern}\s*=>).)*)", body, re.S):
-        names = [it.strip() for it in taken.split("|")]
-        if {verb, re.sub(r"\(.*", "(_)", verb), "_"} & set(names):
-            return made
-    raise SystemExit(f"{TABLE}: {function} has no arm for {verb}")
+def row(text, verb):
+    """The row of a command in the table: its fields by their names, as they are written, constants of the table in their place."""
+    fields = re.search(rf"^        {re.escape(verb)} => Row {{(.*?)}},$", text, re.S | re.M)
+    if not fields:
+        raise SystemExit(f"{TABLE}: no row for {verb}")
+    lists = dict(re.findall(r"const (\w+): &\[&str\] = (&\[.*?\]);", text))
+    found = re.findall(r"(\w+): (&\[.*?\]|[^,]+),", fields[1].strip().rstrip(",") + ",")
+    return {field: lists.get(value, value) for field, value in found}
 
 
 def names_in(path, function):
@@ -68,15 +66,16 @@ def netset_commands():
     rows = re.search(r"COMMANDS: \[Verb; \d+\] = \[(.*?)\];", text, re.S)[1]
     commands = []
     for verb in re.findall(r"Verb::[\w:()]+", rows):
-        (name,), options = strings(arm(text, "name_of", verb)), strings(arm(text, "options_of", verb))
+        fields = row(text, verb)
+        (name,), options = strings(fields["name"]), strings(fields["options"])
         forms, says = [], []
-        for line in constants[re.search(r"\b[A-Z_]+\b", arm(text, "about_of", verb))[0]].splitlines():
+        for line in constants[fields["about"]].splitlines():
             # The form, of options and operands, and behind white space words on it.
             form, words = re.match(rf"(netset {name}(?: (?:\[.*?\]|-[\w-]+|[A-Z|]+(?:\.\.)?)(?= |$))*)? *(.*)", line).groups()
             if form:
                 forms.append(form)
                 says.append("")
             says[-1] = f"{says[-1]} {words}".strip()
-        commands.append(Command(name, forms, says, options, strings(arm(text, "values_of", verb))))
+        commands.append(Command(name, forms, says, options, strings(fields["values"])))
     notes = [found for it in constants.values() for found in re.findall(r"^(-\S.*?)(?:  +|\n +)(.*\n(?: .*\n)*)", it, re.M)]
     return commands, {option: " ".join(words.split()) for option, words in notes}

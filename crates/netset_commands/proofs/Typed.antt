@@ -169,8 +169,7 @@ abbrev Has : Verb → List ℕ → Type 0
 Has command word = word_parts command Any word ≡ Ok (only_options (word ∷ []), Any)
 
 abbrev HasEach : Verb → List (List ℕ) → Type 0
-HasEach command [] = Unit {0}
-HasEach command (word ∷ words) = Has command word × HasEach command words
+HasEach command words = map (word_parts command Any) words ≡ map (λ word. Ok (only_options (word ∷ []), Any)) words
 
 here_or_later : (command : Verb) (name word : List ℕ) (here later : Bool) → is_word word name ≡ here → Has command name → (later ≡ true → Has command word)
     → (here || later) ≡ true → Has command word
@@ -179,34 +178,36 @@ here_or_later command name word false later same first others is = others is
 
 among : (command : Verb) (names : List (List ℕ)) (word : List ℕ) → HasEach command names → has word names ≡ true → Has command word
 among command [] word each is = absurd (true≢false (sym is))
-among command (name ∷ names) word (first, each) is =
-    here_or_later command name word (is_word word name) (has word names) refl first (λ later. among command names word each later) is
+among command (name ∷ names) word each is =
+    let first : Has command name = cc in
+    let others : HasEach command names = cc in
+    here_or_later command name word (is_word word name) (has word names) refl first (λ later. among command names word others later) is
 
 its_options : (command : Verb) → HasEach command (command_row command).options
-its_options (verb.Lists Merge) = (refl, (refl, (refl, (refl, (refl, (refl, tt))))))
-its_options (verb.Lists Nets) = (refl, (refl, (refl, (refl, (refl, (refl, tt))))))
-its_options (verb.Lists Minus) = (refl, (refl, (refl, (refl, (refl, (refl, tt))))))
-its_options (verb.Lists And) = (refl, (refl, (refl, (refl, (refl, (refl, tt))))))
-its_options (verb.Lists Not) = (refl, (refl, (refl, (refl, (refl, (refl, tt))))))
-its_options (verb.Lists Ranges) = (refl, (refl, (refl, (refl, (refl, (refl, tt))))))
-its_options (verb.Lists of_lists.Count) = (refl, (refl, (refl, (refl, (refl, (refl, tt))))))
-its_options verb.Diff = (refl, (refl, (refl, (refl, (refl, (refl, tt))))))
-its_options verb.Same = (refl, (refl, (refl, (refl, (refl, (refl, (refl, tt)))))))
-its_options verb.Free = (refl, (refl, (refl, (refl, (refl, (refl, (refl, tt)))))))
-its_options verb.Acl = (refl, (refl, (refl, (refl, (refl, tt)))))
-its_options verb.Check = (refl, (refl, (refl, (refl, tt))))
-its_options verb.Which = (refl, (refl, (refl, (refl, tt))))
-its_options verb.Match = (refl, (refl, (refl, (refl, (refl, (refl, (refl, (refl, (refl, (refl, (refl, tt)))))))))))
-its_options verb.Look = (refl, (refl, (refl, (refl, (refl, (refl, (refl, (refl, (refl, (refl, tt))))))))))
-its_options verb.Compile = (refl, (refl, (refl, (refl, (refl, (refl, tt))))))
-its_options verb.Smallest = (refl, (refl, (refl, (refl, (refl, (refl, (refl, (refl, tt))))))))
-its_options (verb.Describe what) = (refl, (refl, (refl, (refl, (refl, (refl, tt))))))
-its_options verb.Class = (refl, (refl, tt))
-its_options verb.Show = (refl, (refl, tt))
-its_options verb.Split = (refl, (refl, (refl, (refl, (refl, (refl, tt))))))
-its_options verb.Nth = (refl, (refl, tt))
-its_options verb.Help = (refl, (refl, tt))
-its_options verb.Version = (refl, (refl, tt))
+its_options (verb.Lists Merge) = refl
+its_options (verb.Lists Nets) = refl
+its_options (verb.Lists Minus) = refl
+its_options (verb.Lists And) = refl
+its_options (verb.Lists Not) = refl
+its_options (verb.Lists Ranges) = refl
+its_options (verb.Lists of_lists.Count) = refl
+its_options verb.Diff = refl
+its_options verb.Same = refl
+its_options verb.Free = refl
+its_options verb.Acl = refl
+its_options verb.Check = refl
+its_options verb.Which = refl
+its_options verb.Match = refl
+its_options verb.Look = refl
+its_options verb.Compile = refl
+its_options verb.Smallest = refl
+its_options (verb.Describe what) = refl
+its_options verb.Class = refl
+its_options verb.Show = refl
+its_options verb.Split = refl
+its_options verb.Nth = refl
+its_options verb.Help = refl
+its_options verb.Version = refl
 
 options_first : (command : Verb) (options words values operands : List (List ℕ)) → list_all (takes command) options ≡ true
     → parts_from command words Any ≡ Ok (parts_with [] values operands) → parts_from command (options ++ words) Any ≡ Ok (parts_with options values operands)

@@ -14,9 +14,7 @@ use crate::commands::matching::has;
 use crate::commands::operations::Operation;
 use crate::commands::picking::{Picking, picking_of, place_of, seeking_of};
 use crate::commands::single::Single;
-use crate::commands::table::{
-    Verb, commands, most_of, name_of, needed_of, options_of, takes_value,
-};
+use crate::commands::table::{Verb, commands, name_of, options_of, row_of, takes_value};
 use crate::commands::{Command, Reading, bits_of, reading_of};
 use crate::errors::{Misfit, Misuse, UsageError};
 use cidr::Family;
@@ -972,14 +970,14 @@ fn asks_help(options: &[&str]) -> bool
 fn missing_operand(command: Verb, operands: &[&str]) -> Option<&'static str>
     ensures { option_map (λ name. name.now) result ≡ missing_operand command (texts operands.now) }
 {
-    needed_of(command).get(operands.len()).copied()
+    row_of(command).needed.get(operands.len()).copied()
 }
 
 /// The first operand that is too many.
 fn extra_operand<'a>(command: Verb, operands: &[&'a str]) -> Option<&'a str>
     ensures { option_map (λ word. word.now) result ≡ extra_operand command (texts operands.now) }
 {
-    let most = most_of(command)?;
+    let most = row_of(command).most?;
     operands.get(most).copied()
 }
 
