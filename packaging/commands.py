@@ -67,15 +67,18 @@ def netset_commands():
     commands = []
     for verb in re.findall(r"Verb::[\w:()]+", rows):
         fields = row(text, verb)
-        (name,), options = strings(fields["name"]), strings(fields["options"])
-        forms, says = [], []
+        told = {}
         for line in constants[fields["about"]].splitlines():
-            # The form, of options and operands, and behind white space words on it.
+            # The command, or another name of it; the form, of options and operands; and behind white space words on it.
+            begin = re.match(r"netset (\S+)", line)
+            name = begin[1] if begin else name
+            forms, says = told.setdefault(name, ([], []))
             form, words = re.match(rf"(netset {name}(?: (?:\[.*?\]|-[\w-]+|[A-Z|]+(?:\.\.)?)(?= |$))*)? *(.*)", line).groups()
             if form:
                 forms.append(form)
                 says.append("")
             says[-1] = f"{says[-1]} {words}".strip()
-        commands.append(Command(name, forms, says, options, strings(fields["values"])))
+        for name, (forms, says) in told.items():
+            commands.append(Command(name, forms, says, strings(fields["options"]), strings(fields["values"])))
     notes = [found for it in constants.values() for found in re.findall(r"^(-\S.*?)(?:  +|\n +)(.*\n(?: .*\n)*)", it, re.M)]
     return commands, {option: " ".join(words.split()) for option, words in notes}

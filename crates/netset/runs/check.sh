@@ -152,6 +152,7 @@ rows_of_arguments() {
     run 2 '' "$long..: no such command, see: netset help"$'\n' '' "${long}a"
     run 2 '' '-\x1b[2J\x0adone: no such option, see: netset help merge'$'\n' '' merge $'-\e[2J\ndone'
     page=$'netset merge [FILE..]   the shortest list of networks that has the addresses of all the lists
+netset nets [FILE..]    the same as merge
 --host-bits             a bit set behind the prefix of a network in a list is taken as unset,
                         and is no error
 --masks                 a network in a list may have a mask in place of its prefix length, as
@@ -177,6 +178,8 @@ rows_of_arguments() {
     run 0 "$page" '' '' merge --help
     run 0 "$page" '' '' merge -h ten
     run 0 "$page" '' '' merge -kh ten
+    run 0 "$page" '' '' help nets
+    run 2 '' $'-x: no such option, see: netset help merge\n' '' nets -x
     page=$'netset --version        the version, and the logic in which the program is proved\n'
     run 0 "$page" '' '' help --version
     run 0 "$page" '' '' --help --version

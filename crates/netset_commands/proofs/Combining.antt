@@ -23,7 +23,7 @@ use Rattle.netset_commands.specs.declared.output.answers.Verdict.{Verdict}
 use Rattle.netset_commands.specs.declared.output.answers.Verdict.TheVariants.{Yes}
 use Rattle.netset_commands.specs.declared.errors.CommandError.{CommandError}
 use Rattle.netset_commands.specs.declared.commands.operations.Operation.{Operation}
-use Rattle.netset_commands.specs.declared.commands.operations.Operation.TheVariants.{Merge, Nets, Minus, And, Not, Ranges, Count}
+use Rattle.netset_commands.specs.declared.commands.operations.Operation.TheVariants.{Merge, Minus, And, Not, Ranges, Count}
 use Rattle.cidr_lists.specs.declared.sets.Step.{Step}
 use Rattle.cidr_lists.specs.declared.sets.Step.TheVariants.{Union, Difference, Intersection}
 use Rattle.cidr_lists.specs.declared.sets.Sets.{Sets}
@@ -61,7 +61,6 @@ module _ {X Y : Type 0} (In : X → Family → List Bool → Type 0) (On : Y →
 pub made_same : {X Y : Type 0} (In : X → Family → List Bool → Type 0) (On : Y → Family → List Bool → Type 0) (operation : Operation) (xs : List X) (ys : List Y)
     (family : Family) (a : List Bool) → AllZip (λ x y. In x family a ↔ On y family a) xs ys → IsMade In operation xs family a ↔ IsMade On operation ys family a
 made_same In On Merge xs ys family a h = some_same In On family a xs ys h
-made_same In On Nets xs ys family a h = some_same In On family a xs ys h
 made_same In On Minus xs ys family a h = first_same In On family a xs ys h
 made_same In On And xs ys family a h = all_same In On family a xs ys h
 made_same In On Not xs ys family a h = turned_same true _ _ (some_same In On family a xs ys h)
@@ -100,7 +99,6 @@ module _ {X : Type 0} (In : X → Family → List Bool → Type 0) (family : Fam
   made_by : (operation : Operation) (x : X) (xs : List X)
       → Turned (turns operation) (Combined In (step_of operation) (In x family a) xs family a) ↔ IsMade In operation (x ∷ xs) family a
   made_by Merge x xs = by_unions (In x family a) xs
-  made_by Nets x xs = by_unions (In x family a) xs
   made_by Minus x xs = by_differences (In x family a) xs
   made_by And x xs = by_intersections (In x family a) xs
   made_by Not x xs = turned_same true _ _ (by_unions (In x family a) xs)

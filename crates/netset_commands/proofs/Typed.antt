@@ -28,7 +28,7 @@ use Rattle.netset_commands.specs.declared.commands.arguments.Next.{Next}
 use Rattle.netset_commands.specs.declared.commands.arguments.Next.TheVariants.{Any, Value}
 use Rattle.netset_commands.specs.declared.commands.describe.Description.TheVariants.{Zones, Masks}
 use Rattle.netset_commands.specs.declared.commands.operations.Operation.{Operation}
-use Rattle.netset_commands.specs.declared.commands.operations.Operation.TheVariants.{Merge, Nets, Minus, And, Not, Ranges}
+use Rattle.netset_commands.specs.declared.commands.operations.Operation.TheVariants.{Merge, Minus, And, Not, Ranges}
 use Rattle.netset_commands.specs.declared.commands.operations.Operation.TheVariants as of_lists
 use Rattle.netset_commands.specs.declared.commands.picking.Picking.{Picking}
 use Rattle.netset_commands.specs.declared.commands.picking.Seeking.{Seeking}
@@ -185,7 +185,6 @@ among command (name ∷ names) word each is =
 
 its_options : (command : Verb) → HasEach command (command_row command).options
 its_options (verb.Lists Merge) = refl
-its_options (verb.Lists Nets) = refl
 its_options (verb.Lists Minus) = refl
 its_options (verb.Lists And) = refl
 its_options (verb.Lists Not) = refl
@@ -221,7 +220,6 @@ options_first command (option ∷ options) words values operands all is =
 named : (command : Verb) → named_verb (name_of command) ≡ Ok command
 unfolding commands
 named (verb.Lists Merge) = refl
-named (verb.Lists Nets) = refl
 named (verb.Lists Minus) = refl
 named (verb.Lists And) = refl
 named (verb.Lists Not) = refl
@@ -248,7 +246,6 @@ named verb.Version = refl
 
 without_value : (operation : Operation) (files : List (List ℕ)) → lists_request operation [] files ≡ Ok (Lists operation files)
 without_value Merge files = refl
-without_value Nets files = refl
 without_value Minus files = refl
 without_value And files = refl
 without_value Not files = refl

@@ -163,9 +163,10 @@ parts_from command (word ∷ words) next =
     and_then (word_parts command next word) (λ one. and_then (parts_from command words one.1) (λ rest. Ok (joined_arguments one.0 rest)))
 
 -- ---- the command
--- -h and --help are other names of the command help
+-- -h and --help are other names of the command help, and nets of merge
 abbrev pub full_name : List ℕ → List ℕ
-full_name word = if is_word (codes "-h") word || is_word (codes "--help") word then codes "help" else word
+full_name word = if is_word (codes "-h") word || is_word (codes "--help") word then codes "help"
+    else if is_word (codes "nets") word then codes "merge" else word
 
 -- the command of a name
 abbrev pub verb_of : List ℕ → Option Verb

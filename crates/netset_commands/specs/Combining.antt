@@ -2,7 +2,7 @@
 use Rattle.std.specs.Prelude.{Bool, true, false, List}
 use Rattle.cidr.specs.declared.family.Family.{Family}
 use Rattle.netset_commands.specs.declared.commands.operations.Operation.{Operation}
-use Rattle.netset_commands.specs.declared.commands.operations.Operation.TheVariants.{Merge, Nets, Minus, And, Not, Ranges, Count}
+use Rattle.netset_commands.specs.declared.commands.operations.Operation.TheVariants.{Merge, Minus, And, Not, Ranges, Count}
 use Rattle.cidr_lists.specs.declared.sets.Form.{Form}
 use Rattle.cidr_lists.specs.declared.sets.Form.TheVariants as form
 use Rattle.cidr_lists.specs.declared.sets.Step.{Step}
@@ -31,7 +31,6 @@ Turned true Here = ¬ Here
 -- what each further list does
 abbrev pub step_of : Operation → Step
 step_of Merge = Union
-step_of Nets = Union
 step_of Minus = Difference
 step_of And = Intersection
 step_of Not = Union
@@ -41,7 +40,6 @@ step_of Count = Union
 -- whether it has the addresses of each family that are then not there
 abbrev pub turns : Operation → Bool
 turns Merge = false
-turns Nets = false
 turns Minus = false
 turns And = false
 turns Not = true

@@ -5,8 +5,8 @@ use Rattle.netset_commands.specs.Matching.{has}
 use Rattle.netset_commands.specs.declared.commands.describe.Description.{Description}
 use Rattle.netset_commands.specs.declared.commands.describe.Description.TheVariants.{Zones, Masks}
 use Rattle.netset_commands.specs.declared.commands.operations.Operation.{Operation}
-use Rattle.netset_commands.specs.declared.commands.operations.Operation.TheVariants.{Merge, Nets, Minus, And, Not, Ranges, Count}
-use Rattle.netset_commands.specs.declared.commands.table.TheConstants.{COMMANDS, MERGE, NETS, MINUS, AND, NOT, RANGES, COUNT, DIFF, SAME, FREE, ACL, CHECK, WHICH, MATCH, LOOK, COMPILE, SMALLEST, REVERSE, MASK, CLASS, SHOW, SPLIT, NTH, HELP, VERSION, OPTIONS, HOST_BITS, KEEP_GOING, SKIP_BAD, FORMS, TABLE_SEPARATOR, FORMAT, OUTPUT, LISTS}
+use Rattle.netset_commands.specs.declared.commands.operations.Operation.TheVariants.{Merge, Minus, And, Not, Ranges, Count}
+use Rattle.netset_commands.specs.declared.commands.table.TheConstants.{COMMANDS, MERGE, MINUS, AND, NOT, RANGES, COUNT, DIFF, SAME, FREE, ACL, CHECK, WHICH, MATCH, LOOK, COMPILE, SMALLEST, REVERSE, MASK, CLASS, SHOW, SPLIT, NTH, HELP, VERSION, OPTIONS, HOST_BITS, KEEP_GOING, SKIP_BAD, FORMS, TABLE_SEPARATOR, FORMAT, OUTPUT, LISTS}
 use Rattle.netset_commands.specs.declared.commands.table.Verb.{Verb}
 use Rattle.netset_commands.specs.declared.commands.table.Verb.TheVariants.{Lists, Diff, Same, Free, Acl, Check, Which, Match, Look, Compile, Smallest, Describe, Class, Show, Split, Nth, Help, Version}
 use denote.Ref.{Bor}
@@ -61,7 +61,6 @@ two_lists = codes "A" ∷ codes "B" ∷ []
 -- of an operation on lists its name, the options with a value, the operands that it needs and what the page says
 abbrev pub lists_row : Operation → List ℕ × (List (List ℕ) × (List (List ℕ) × List ℕ))
 lists_row Merge = (codes "merge", (list_values, ([], MERGE.now)))
-lists_row Nets = (codes "nets", (list_values, ([], NETS.now)))
 lists_row Minus = (codes "minus", (list_values, (two_lists, MINUS.now)))
 lists_row And = (codes "and", (list_values, (two_lists, AND.now)))
 lists_row Not = (codes "not", (codes "--in" ∷ list_values, ([], NOT.now)))

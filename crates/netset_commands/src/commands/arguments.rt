@@ -310,12 +310,14 @@ fn parts_of<'a, M: Memory>(
     }
 }
 
-/// The name of a command, which `-h` and `--help` are other names of.
+/// The name of a command: `-h` and `--help` are other names of `help`, and `nets` of `merge`.
 fn full_name(word: &str) -> &str
     ensures { result.now ≡ full_name word.now }
 {
     if word == "-h" || word == "--help" {
         "help"
+    } else if word == "nets" {
+        "merge"
     } else {
         word
     }

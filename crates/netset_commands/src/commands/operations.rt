@@ -9,8 +9,6 @@ use cidr_lists::sets::{Form, Step};
 pub enum Operation {
     /// The addresses of all lists.
     Merge,
-    /// The same.
-    Nets,
     /// Those of the first list that no other has.
     Minus,
     /// Those that each list has.
@@ -46,11 +44,7 @@ pub fn step_of(operation: Operation) -> Step
     ensures { result ≡ step_of operation }
 {
     match operation {
-        Operation::Merge
-        | Operation::Nets
-        | Operation::Not
-        | Operation::Ranges
-        | Operation::Count => Step::Union,
+        Operation::Merge | Operation::Not | Operation::Ranges | Operation::Count => Step::Union,
         Operation::Minus => Step::Difference,
         Operation::And => Step::Intersection,
     }

@@ -30,9 +30,8 @@ pub enum Verb {
 }
 
 /// The commands, in their order on the page.
-pub static COMMANDS: [Verb; 25] = [
+pub static COMMANDS: [Verb; 24] = [
     Verb::Lists(Operation::Merge),
-    Verb::Lists(Operation::Nets),
     Verb::Lists(Operation::Minus),
     Verb::Lists(Operation::And),
     Verb::Lists(Operation::Not),
@@ -59,9 +58,7 @@ pub static COMMANDS: [Verb; 25] = [
 ];
 
 const MERGE: &str =
-    "netset merge [FILE..]   the shortest list of networks that has the addresses of all the lists\n";
-
-const NETS: &str = "netset nets [FILE..]    the same as merge\n";
+    "netset merge [FILE..]   the shortest list of networks that has the addresses of all the lists\nnetset nets [FILE..]    the same as merge\n";
 
 const MINUS: &str = "netset minus A B..      the addresses of A that no other list has\n";
 
@@ -207,9 +204,6 @@ pub fn row_of(command: Verb) -> Row
         Verb::Lists(Operation::Merge) => Row {
             name: "merge", options: LIST_OPTIONS, values: LIST_VALUES,
             needed: &[], most: None, about: MERGE,
-        },
-        Verb::Lists(Operation::Nets) => Row {
-            name: "nets", options: LIST_OPTIONS, values: LIST_VALUES, needed: &[], most: None, about: NETS,
         },
         Verb::Lists(Operation::Minus) => Row {
             name: "minus", options: LIST_OPTIONS, values: LIST_VALUES,
