@@ -35,12 +35,12 @@ pub fn pcidr_rows_find(networks: &[CValue], asked: &CValue, index: &mut usize) -
         return NO_VALUE;
     };
     match find(&NetworkKeys { values: networks }, &asked) {
-        Ok(place) => {
-            *index = place;
+        Ok(found) => {
+            *index = found;
             OK
         }
-        Err(place) => {
-            *index = place;
+        Err(found) => {
+            *index = found;
             NONE
         }
     }
@@ -100,21 +100,21 @@ pub fn pcidr_rows_insert(
     if networks.len() < *count {
         return NO_ROOM;
     }
-    let mut place = 0;
-    let code = pcidr_rows_find(&networks[..*count], network, &mut place);
+    let mut found = 0;
+    let code = pcidr_rows_find(&networks[..*count], network, &mut found);
     if code == NO_VALUE {
         return NO_VALUE;
     }
     if code == OK {
-        *index = place;
+        *index = found;
         return PRESENT;
     }
     if networks.len() == *count {
         return NO_ROOM;
     }
-    insert(networks, *count, place, *network);
+    insert(networks, *count, found, *network);
     *count += 1;
-    *index = place;
+    *index = found;
     OK
 }
 
@@ -129,13 +129,13 @@ pub fn pcidr_rows_remove(
     if networks.len() < *count {
         return NO_ROOM;
     }
-    let mut place = 0;
-    let code = pcidr_rows_find(&networks[..*count], network, &mut place);
+    let mut found = 0;
+    let code = pcidr_rows_find(&networks[..*count], network, &mut found);
     if code != OK {
         return code;
     }
-    remove(networks, *count, place);
+    remove(networks, *count, found);
     *count -= 1;
-    *index = place;
+    *index = found;
     OK
 }

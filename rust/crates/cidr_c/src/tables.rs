@@ -39,7 +39,7 @@ pub struct CTableSizes {
     /// How many words of nodes.
     pub words: usize,
     /// The index of the first value that is no network of the family, or out of order.
-    pub place: usize,
+    pub index: usize,
     /// How many steps.
     pub steps: u32,
 }
@@ -173,8 +173,8 @@ fn put_table<A: FromValue>(
     match build(alloc, keys.as_slice()) {
         Ok(table) => put_words(&table, first, words, sizes),
         Err(error) => {
-            if let TableError::Refused(place) = error {
-                sizes.place = place;
+            if let TableError::Refused(index) = error {
+                sizes.index = index;
             }
             table_error_code(&error)
         }
@@ -288,7 +288,7 @@ fn put_rows<A: FromValue>(
 
 /// Makes a table of IPv4 networks that ascend, each once: 0, and its entries and words stand in the front of `first` and
 /// `words`, of which `sizes` says how many they are. Else the number of the first error: no memory, which may also come
-/// before each of the others; too many networks; a network, and `place` becomes its index; too many words; the room, and
+/// before each of the others; too many networks; a network, and `index` becomes that of it; too many words; the room, and
 /// `sizes` says how much is enough. An error leaves the arrays as they were.
 ///
 /// It takes O(n), and while it runs allocates the table and 24 bytes a network.

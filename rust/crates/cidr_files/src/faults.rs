@@ -32,10 +32,10 @@ impl Error for TableFault {}
 pub enum FileFault {
     /// It doesn't begin with the bytes of a file of tables: `no file of tables`.
     Magic,
-    /// It is of version 1, 2 or 3, which earlier releases wrote: `of an older version, which an older netset compile made:
-    /// compile the table anew`.
+    /// It is of version 1 to 4, which earlier releases wrote: `of an older version, which an older netset compile made: compile
+    /// the table anew`.
     Old,
-    /// It is of this version, and not of version 4, which this library reads: `of another version than 4: 5`.
+    /// It is of this version, and not of version 5, which this library reads: `of another version than 5: 6`.
     Version(u32),
     /// It is shorter than its header says, or has not all of its header: `shorter than its header says`.
     Short,
@@ -55,7 +55,7 @@ impl fmt::Display for FileFault {
             FileFault::Old => f.write_str(
                 "of an older version, which an older netset compile made: compile the table anew",
             ),
-            FileFault::Version(other) => write!(f, "of another version than 4: {other}"),
+            FileFault::Version(other) => write!(f, "of another version than 5: {other}"),
             FileFault::Short => f.write_str("shorter than its header says"),
             FileFault::Long => f.write_str("longer than its header says"),
             FileFault::Ipv4(fault) => write!(f, "no table of IPv4: {fault}"),

@@ -7,7 +7,7 @@ use crate::layout::{Counts, FileTable, FileTables};
 pub(crate) const MAGIC: u32 = 0x4449_4389;
 
 /// The version that is read and written.
-pub(crate) const VERSION: u32 = 4;
+pub(crate) const VERSION: u32 = 5;
 
 /// The size of the header.
 const HEADER: usize = 64;

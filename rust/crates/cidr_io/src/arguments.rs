@@ -16,7 +16,7 @@ pub trait Arguments: Sized {
     /// Copies the argument at this index, from 0 on and without the program's name, to the start of `buf`, and returns
     /// its length in bytes. The errors are `NotPresent` past the last argument, and `TooLong` where `buf` has no room
     /// for all of it. The caller has to ensure that the index is below 2^64 - 1.
-    fn copy_to(&self, place: usize, buf: &mut [u8]) -> Result<usize, FillError>;
+    fn copy_to(&self, index: usize, buf: &mut [u8]) -> Result<usize, FillError>;
 }
 
 /// The arguments that the system has given, which nothing is told of.
@@ -28,9 +28,9 @@ pub struct SystemArguments<'a, R: Env> {
 
 impl<R: Env> Arguments for SystemArguments<'_, R> {
     #[inline]
-    fn copy_to(&self, place: usize, buf: &mut [u8]) -> Result<usize, FillError> {
-        assert!(place < usize::MAX);
-        self.system.arg(place + 1, buf)
+    fn copy_to(&self, index: usize, buf: &mut [u8]) -> Result<usize, FillError> {
+        assert!(index < usize::MAX);
+        self.system.arg(index + 1, buf)
     }
 }
 
@@ -54,7 +54,7 @@ impl From<AllocError> for ArgumentReadError {
 fn bytes_at<M: Memory, A: Arguments>(
     memory: &mut M,
     arguments: &A,
-    place: usize,
+    index: usize,
 ) -> Result<Option<Vec<u8>>, AllocError> {
     let mut buf = Vec::new(memory.alloc());
     let mut room = ROOM;
@@ -64,7 +64,7 @@ fn bytes_at<M: Memory, A: Arguments>(
         let Ok(()) = buf.resize(room, 0) else {
             unreachable!()
         };
-        match arguments.copy_to(place, buf.as_mut_slice()) {
+        match arguments.copy_to(index, buf.as_mut_slice()) {
             Ok(n) => {
                 buf.truncate(n);
                 return Ok(Some(buf));

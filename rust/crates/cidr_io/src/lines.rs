@@ -77,8 +77,8 @@ fn fill_line<M: Memory, S: Source>(
 ) -> Result<Option<usize>, LineReadError> {
     let mut seen = 0;
     for _reads in 0..u64::MAX {
-        if let Some(place) = feed_in(&block[seen..]) {
-            return Ok(Some(seen + place));
+        if let Some(index) = feed_in(&block[seen..]) {
+            return Ok(Some(seen + index));
         }
         block.truncate(KEPT);
         seen = block.len();

@@ -69,7 +69,7 @@ fn not_text_words(shown: &[u8]) -> &'static str {
 
 /// A string as it is shown, and what is wrong with it.
 #[inline]
-fn message_of(shown: &ArrayString<42>, words: &str) -> ArrayString<MOST_MESSAGE> {
+pub(crate) fn message_of(shown: &ArrayString<42>, words: &str) -> ArrayString<MOST_MESSAGE> {
     let mut text = ArrayString::new();
     text.push_str(shown.as_str());
     text.push_str(": ");

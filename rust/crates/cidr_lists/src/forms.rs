@@ -115,7 +115,7 @@ fn begins_quoted(field: &[u8]) -> bool {
 }
 
 /// The network that a field is.
-fn cell_network(host_bits: HostBits, first: &[u8]) -> Result<IpCidr, LineError> {
+pub(crate) fn cell_network(host_bits: HostBits, first: &[u8]) -> Result<IpCidr, LineError> {
     if first.is_empty() {
         return Err(LineError::NoField);
     }

@@ -33,7 +33,7 @@ pub struct Rules {
 
 /// The action that a word is.
 #[inline]
-fn action_of(word: &[u8]) -> Option<Action> {
+pub(crate) fn action_of(word: &[u8]) -> Option<Action> {
     if word == b"permit".as_slice() {
         return Some(Action::Permit);
     }

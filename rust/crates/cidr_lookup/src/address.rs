@@ -59,7 +59,7 @@ pub trait Address: Sized + Copy {
     /// ```
     fn padding() -> u32;
 
-    /// How many bits it has with its zeros: 36 or 130.
+    /// How many bits it has with its zeros: 36 or 130, so that the first ones, before steps of six bits, are never just 32.
     ///
     /// ```
     /// # use cidr::Ipv4Cidr;
@@ -85,7 +85,7 @@ pub trait Address: Sized + Copy {
     /// ```
     fn steps_for(networks: usize) -> u32;
 
-    /// The number of the bits before the last `shift`, of which there are at most 64.
+    /// The number of the bits before the last `shift`, of which there are at most 32.
     ///
     /// ```
     /// # use cidr::Ipv4Cidr;
@@ -98,7 +98,7 @@ pub trait Address: Sized + Copy {
     /// ```
     fn block(self, shift: u32) -> usize;
 
-    /// The number of the six bits before the last `shift`.
+    /// The address that has the bits behind the first ones, of which there are 1 to 31, and zeros behind them.
     ///
     /// ```
     /// # use cidr::Ipv4Cidr;
@@ -106,12 +106,12 @@ pub trait Address: Sized + Copy {
     /// # use cidr_support::alloc::Global;
     /// # use cidr_table::LpmTable;
     /// # use core::net::Ipv4Addr;
-    /// assert_eq!(0x0a010203u32.digit(12), 2);
+    /// assert_eq!(0x0a010203u32.behind(8), 16909056);
     /// # Ok::<(), Box<dyn std::error::Error>>(())
     /// ```
-    fn digit(self, shift: u32) -> u32;
+    fn behind(self, count: u32) -> Self;
 
-    /// The number of the bits before the last 66: the first half in IPv6, and 0 in IPv4.
+    /// The number of the first six bits.
     ///
     /// ```
     /// # use cidr::Ipv4Cidr;
@@ -119,10 +119,23 @@ pub trait Address: Sized + Copy {
     /// # use cidr_support::alloc::Global;
     /// # use cidr_table::LpmTable;
     /// # use core::net::Ipv4Addr;
-    /// assert_eq!(Ipv6Halves { high: 1, low: 2 }.upper(), 1);
+    /// assert_eq!(0x0a010203u32.part(), 2);
     /// # Ok::<(), Box<dyn std::error::Error>>(())
     /// ```
-    fn upper(self) -> u64;
+    fn part(self) -> u32;
+
+    /// The number of the 32 bits before the last 82, by which lists tell addresses: the bits 17 to 48 in IPv6, and 0 in IPv4.
+    ///
+    /// ```
+    /// # use cidr::Ipv4Cidr;
+    /// # use cidr_lookup::*;
+    /// # use cidr_support::alloc::Global;
+    /// # use cidr_table::LpmTable;
+    /// # use core::net::Ipv4Addr;
+    /// assert_eq!(Ipv6Halves { high: 0x2001_0db8_0000_0000, low: 0 }.list_word(), 230162432);
+    /// # Ok::<(), Box<dyn std::error::Error>>(())
+    /// ```
+    fn list_word(self) -> u32;
 }
 
 impl Address for u32 {
@@ -161,23 +174,21 @@ impl Address for u32 {
 
     #[inline(always)]
     fn block(self, shift: u32) -> usize {
-        (padded(self) >> shift) as usize
+        (self >> (shift - 4)) as usize
     }
 
     #[inline(always)]
-    fn digit(self, shift: u32) -> u32 {
-        ((padded(self) >> shift) % 64) as u32
+    fn behind(self, count: u32) -> u32 {
+        self << count
     }
 
     #[inline(always)]
-    fn upper(self) -> u64 {
-        padded(self);
+    fn part(self) -> u32 {
+        self >> 26
+    }
+
+    #[inline(always)]
+    fn list_word(self) -> u32 {
         0
     }
-}
-
-/// The number of an IPv4 address with its zeros.
-#[inline(always)]
-fn padded(address: u32) -> u64 {
-    u64::from(address) * 16
 }

@@ -2,7 +2,7 @@
 
 use crate::address::Address;
 use crate::key::Key;
-use crate::list::{MOST_CHANGES, put_list};
+use crate::list::{MOST_CHANGES, MOST_LIST_STEPS, put_list};
 use crate::node::{PARTS, Runs, put_node};
 use crate::search::PLACE;
 use crate::words::{Sink, Stop, Stopped};
@@ -98,12 +98,12 @@ pub(crate) fn entry_of<A: Address, S: Sink>(
         runs.add(part, part + 1, entry);
         part += 1;
     }
-    let place = sink.len();
-    if place >= MOST_WORDS {
+    let index = sink.len();
+    if index >= MOST_WORDS {
         return Err(Stop::TooMany);
     }
     put_node(&runs, sink)?;
-    Ok(PLACE + 2 * place as u32)
+    Ok(PLACE + 2 * index as u32)
 }
 
 /// How many changes the list of a block has, or `None` where it has no list. `range` is the last that begins at most with
@@ -116,6 +116,9 @@ fn changes_in<A: Address>(
     block: u128,
     range: usize,
 ) -> Option<usize> {
+    if steps > MOST_LIST_STEPS {
+        return None;
+    }
     let mut count = 0;
     while !is_whole(starts, range + count, steps, block) {
         count += 1;
@@ -141,12 +144,12 @@ fn put_listed<A: Address, S: Sink>(
     range: usize,
     count: usize,
 ) -> Result<u32, Stop> {
-    let place = sink.len();
-    if place >= MOST_WORDS {
+    let index = sink.len();
+    if index >= MOST_WORDS {
         return Err(Stop::TooMany);
     }
     put_list(starts, answers, range, count, sink)?;
-    Ok(PLACE + 2 * place as u32 + 1)
+    Ok(PLACE + 2 * index as u32 + 1)
 }
 
 /// Adds the values of parts from one on, up to the first in which a range begins, which is returned, or the number of parts.
@@ -184,7 +187,17 @@ fn part_of_next<A: Address>(starts: &[A], range: usize, steps: u32, block: u128)
     if is_whole(starts, range, steps, block) {
         return PARTS;
     }
-    starts[range + 1].digit(6 * (steps - 1)) as usize
+    part_of(starts, range + 1, steps)
+}
+
+/// The part of its block in which a range begins.
+#[inline(always)]
+fn part_of<A: Address>(starts: &[A], range: usize, steps: u32) -> usize {
+    let number = starts[range].number();
+    if steps == 1 {
+        return (((number % 64) << A::padding()) % 64) as usize;
+    }
+    ((number >> (6 * (steps - 1) - A::padding())) % 64) as usize
 }
 
 /// The last range that begins at most with the first number of a part of a block, from one on that does.
@@ -219,8 +232,8 @@ fn is_whole<A: Address>(starts: &[A], range: usize, steps: u32, block: u128) -> 
     starts[next].number() >> (6 * steps - A::padding()) > block
 }
 
-/// How far a range begins behind a multiple of 2^66.
+/// How far a range begins behind a multiple of 2^82.
 #[inline(always)]
 fn rest_of<A: Address>(starts: &[A], range: usize) -> u128 {
-    starts[range].number() % (1 << (66 - A::padding()))
+    starts[range].number() % (1 << (82 - A::padding()))
 }

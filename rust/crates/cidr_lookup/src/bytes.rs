@@ -56,13 +56,18 @@ impl Address for [u8; 4] {
     }
 
     #[inline(always)]
-    fn digit(self, shift: u32) -> u32 {
-        u32::from_le_bytes(self).digit(shift)
+    fn behind(self, count: u32) -> [u8; 4] {
+        u32::from_le_bytes(self).behind(count).to_le_bytes()
     }
 
     #[inline(always)]
-    fn upper(self) -> u64 {
-        u32::from_le_bytes(self).upper()
+    fn part(self) -> u32 {
+        u32::from_le_bytes(self).part()
+    }
+
+    #[inline(always)]
+    fn list_word(self) -> u32 {
+        u32::from_le_bytes(self).list_word()
     }
 }
 
@@ -105,13 +110,19 @@ impl Address for [[u8; 8]; 2] {
     }
 
     #[inline(always)]
-    fn digit(self, shift: u32) -> u32 {
-        halves(self).digit(shift)
+    fn behind(self, count: u32) -> [[u8; 8]; 2] {
+        let behind = halves(self).behind(count);
+        [behind.high.to_le_bytes(), behind.low.to_le_bytes()]
     }
 
     #[inline(always)]
-    fn upper(self) -> u64 {
-        halves(self).upper()
+    fn part(self) -> u32 {
+        halves(self).part()
+    }
+
+    #[inline(always)]
+    fn list_word(self) -> u32 {
+        halves(self).list_word()
     }
 }
 

@@ -33,8 +33,8 @@ impl fmt::Display for WordsFault {
             WordsFault::Steps => f.write_str("no such number of steps"),
             WordsFault::TooLong => f.write_str("more than 1073741823 words"),
             WordsFault::Keys(error) => fmt::Display::fmt(error, f),
-            WordsFault::First(place) => write!(f, "not of the keys: entry {place}"),
-            WordsFault::Word(place) => write!(f, "not of the keys: word {place}"),
+            WordsFault::First(index) => write!(f, "not of the keys: entry {index}"),
+            WordsFault::Word(index) => write!(f, "not of the keys: word {index}"),
         }
     }
 }
@@ -94,16 +94,16 @@ pub fn check<A: Address, T: Words>(
     let answers = ranges.answers.as_slice();
     let mut entries = Compared {
         words: first,
-        place: 0,
+        index: 0,
     };
-    let mut nodes = Compared { words, place: 0 };
+    let mut nodes = Compared { words, index: 0 };
     match put_table(keys, starts, answers, &mut entries, &mut nodes, steps) {
         Ok(()) => {
-            if entries.place < first.len() {
-                return Err(WordsFault::First(entries.place));
+            if entries.index < first.len() {
+                return Err(WordsFault::First(entries.index));
             }
-            if nodes.place < words.len() {
-                return Err(WordsFault::Word(nodes.place));
+            if nodes.index < words.len() {
+                return Err(WordsFault::Word(nodes.index));
             }
             Ok(())
         }

@@ -52,13 +52,18 @@ impl Address for Ipv6Halves {
     }
 
     #[inline(always)]
-    fn digit(self, shift: u32) -> u32 {
-        digit(self.number(), shift)
+    fn behind(self, count: u32) -> Ipv6Halves {
+        behind(self.high, self.low, count)
     }
 
     #[inline(always)]
-    fn upper(self) -> u64 {
-        self.high
+    fn part(self) -> u32 {
+        first_part(self.high, self.low)
+    }
+
+    #[inline(always)]
+    fn list_word(self) -> u32 {
+        list_bits(self.high, self.low)
     }
 }
 
@@ -68,14 +73,23 @@ fn first_bits(high: u64, _low: u64, shift: u32) -> u64 {
     high >> (shift - 66)
 }
 
-/// The six bits before the last `shift` of a number with two zeros behind it.
+/// The bits behind the first ones, and zeros behind them.
 #[inline(always)]
-fn digit(number: u128, shift: u32) -> u32 {
-    if shift == 0 {
-        return (number % 16) as u32 * 4;
+fn behind(high: u64, low: u64, count: u32) -> Ipv6Halves {
+    Ipv6Halves {
+        high: (high << count) + (low >> (64 - count)),
+        low: low << count,
     }
-    if shift == 1 {
-        return (number % 32) as u32 * 2;
-    }
-    ((number >> (shift - 2)) % 64) as u32
+}
+
+/// The first six bits.
+#[inline(always)]
+fn first_part(high: u64, _low: u64) -> u32 {
+    (high >> 58) as u32
+}
+
+/// The 32 bits before the last 82, which has the lower half and 16 bits of the higher one.
+#[inline(always)]
+fn list_bits(high: u64, _low: u64) -> u32 {
+    ((high >> 16) % (1 << 32)) as u32
 }

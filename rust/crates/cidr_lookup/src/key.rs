@@ -102,13 +102,13 @@ impl<A: Address> Key<A> {
 /// ```
 #[inline]
 pub fn first_refused<A: Address>(keys: &[Key<A>]) -> Option<usize> {
-    (0..keys.len()).find(|&place| !is_next(keys, place))
+    (0..keys.len()).find(|&index| !is_next(keys, index))
 }
 
 /// Whether a key is a network and comes after the one before it.
 #[inline]
-fn is_next<A: Address>(keys: &[Key<A>], place: usize) -> bool {
-    keys[place].is_network() && (place == 0 || keys[place - 1].precedes(&keys[place]))
+fn is_next<A: Address>(keys: &[Key<A>], index: usize) -> bool {
+    keys[index].is_network() && (index == 0 || keys[index - 1].precedes(&keys[index]))
 }
 
 /// The number whose last bits, so many, are set and no other.

@@ -6,6 +6,9 @@ use crate::words::{Sink, Stop};
 /// The most changes that a list may have.
 pub(crate) const MOST_CHANGES: usize = 31;
 
+/// How many steps may be left for the addresses of a list, so that those have the bits before its words in common.
+pub(crate) const MOST_LIST_STEPS: u32 = 19;
+
 /// Puts the words of a list: the answer of a range, and the changes to so many ranges behind it.
 #[inline]
 pub(crate) fn put_list<A: Address, S: Sink>(
@@ -31,9 +34,7 @@ fn put_starts<A: Address, S: Sink>(
     sink: &mut S,
 ) -> Result<(), Stop> {
     for at in 0..count {
-        let start = upper_of(starts, from + at);
-        sink.push((start % (1 << 32)) as u32)?;
-        sink.push((start >> 32) as u32)?;
+        sink.push(word_of(starts, from + at))?;
     }
     Ok(())
 }
@@ -53,8 +54,8 @@ fn put_answers<A: Address, S: Sink>(
     Ok(())
 }
 
-/// Where a range begins, by the bits before the last 66.
+/// The word of the change to a range.
 #[inline]
-fn upper_of<A: Address>(starts: &[A], range: usize) -> u64 {
-    starts[range].upper()
+fn word_of<A: Address>(starts: &[A], range: usize) -> u32 {
+    starts[range].list_word()
 }

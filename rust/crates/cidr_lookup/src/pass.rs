@@ -11,7 +11,7 @@ pub(crate) struct Pass {
     /// The number that the range begins with.
     pub(crate) start: u128,
     /// How many keys have been opened.
-    pub(crate) place: usize,
+    pub(crate) index: usize,
     /// How many are open, and one more, which stands for no key and comes first.
     pub(crate) depth: usize,
     /// The last number of each open key.
@@ -26,7 +26,7 @@ pub(crate) fn started<A: Address>(keys: &[Key<A>]) -> Pass {
     lasts[0] = ones(A::width());
     Pass {
         start: 0,
-        place: 0,
+        index: 0,
         depth: 1,
         lasts,
         ends: [0; MOST_OPEN],
@@ -37,16 +37,16 @@ pub(crate) fn started<A: Address>(keys: &[Key<A>]) -> Pass {
 /// the addresses that it passes was that of the last open key.
 pub(crate) fn goes_on<A: Address>(keys: &[Key<A>], pass: &mut Pass) -> bool {
     let last = pass.lasts[pass.depth - 1];
-    if pass.place < keys.len() {
-        let key = keys[pass.place];
+    if pass.index < keys.len() {
+        let key = keys[pass.index];
         let first = key.address.number();
         if first <= last {
             let depth = pass.depth;
             pass.lasts[depth] = key.last();
-            pass.ends[depth] = pass.place as u32 + 1;
+            pass.ends[depth] = pass.index as u32 + 1;
             pass.start = first;
             pass.depth = depth + 1;
-            pass.place += 1;
+            pass.index += 1;
             return true;
         }
     }

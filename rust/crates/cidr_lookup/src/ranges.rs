@@ -28,8 +28,8 @@ pub(crate) fn ranges_of<A: Address>(alloc: Global, keys: &[Key<A>]) -> Result<Ra
     let Ok(mut answers) = vec![in alloc; 0; most] else {
         return Err(TableError::NoMemory);
     };
-    if let Some(place) = first_refused(keys) {
-        return Err(TableError::Refused(place));
+    if let Some(index) = first_refused(keys) {
+        return Err(TableError::Refused(index));
     }
     let count = written(keys, starts.as_mut_slice(), answers.as_mut_slice());
     starts.truncate(count);
@@ -71,7 +71,7 @@ fn put_range<A: Address>(
 
 /// Writes a range.
 #[inline]
-fn put<A: Address>(starts: &mut [A], answers: &mut [u32], place: usize, start: u128, answer: u32) {
-    starts[place] = A::of(start);
-    answers[place] = answer;
+fn put<A: Address>(starts: &mut [A], answers: &mut [u32], index: usize, start: u128, answer: u32) {
+    starts[index] = A::of(start);
+    answers[index] = answer;
 }

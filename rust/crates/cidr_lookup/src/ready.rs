@@ -76,19 +76,19 @@ impl<C: Keyed, V> ReadyTable<C, V> {
         let key = Key::<C::Number>::of(asked);
         let first = self.words.first.as_slice();
         let words = self.words.words.as_slice();
-        let place = find(&first, &words, self.words.steps, key.address)?;
+        let index = find(&first, &words, self.words.steps, key.address)?;
         if key.len == C::Number::width() {
-            return Some(place);
+            return Some(index);
         }
-        self.shorter(asked, place)
+        self.shorter(asked, index)
     }
 
     /// The index of the longest match of a network whose first address has another, which may be the same.
     #[inline]
-    fn shorter(&self, asked: &C, place: usize) -> Option<usize> {
-        if let Some(row) = self.table.row(place) {
+    fn shorter(&self, asked: &C, index: usize) -> Option<usize> {
+        if let Some(row) = self.table.row(index) {
             if row.0.len() <= asked.len() {
-                return Some(place);
+                return Some(index);
             }
         }
         longest_match(&mut self.table.probe(), asked)
@@ -110,8 +110,8 @@ impl<C: Keyed, V> ReadyTable<C, V> {
     /// ```
     #[inline(always)]
     pub fn lookup(&self, asked: &C) -> Option<&(C, V)> {
-        let place = self.find(asked)?;
-        self.table.row(place)
+        let index = self.find(asked)?;
+        self.table.row(index)
     }
 
     /// The table, for all calls that only read.

@@ -10,6 +10,9 @@ pub(crate) const PLACE: u32 = 1 << 31;
 /// How many steps an address of 128 bits may take.
 const MOST_STEPS: u32 = 21;
 
+/// How many of the last bits of a number are zeros where a change of a list is. Shorter numbers have no lists.
+const LISTS: u32 = 82;
+
 /// The index of the longest of the keys that have an address, or `None` where none has it: the longest match of a
 /// forwarding table (RFC 1812, 5.2.4.3). The keys are not read.
 ///
@@ -36,7 +39,7 @@ const MOST_STEPS: u32 = 21;
 /// ```
 #[inline(always)]
 pub fn find<A: Address, T: Words>(first: &T, words: &T, steps: u32, address: A) -> Option<usize> {
-    row(found_value(first, words, steps, address))
+    row(value_by_steps(first, words, steps, address))
 }
 
 /// The index that a value says.
@@ -48,7 +51,19 @@ fn row(value: u32) -> Option<usize> {
     Some((value - 1) as usize)
 }
 
-/// The value that an address is led to.
+/// The value that an address is led to. IPv4 has a code of its own for each number of steps that is in use, since a shift by a
+/// constant is quicker.
+#[inline(always)]
+fn value_by_steps<A: Address, T: Words>(first: &T, words: &T, steps: u32, address: A) -> u32 {
+    match steps {
+        3 => found_value(first, words, 3, address),
+        4 => found_value(first, words, 4, address),
+        5 => found_value(first, words, 5, address),
+        _ => found_value(first, words, steps, address),
+    }
+}
+
+/// The value that an address is led to by so many steps.
 #[inline(always)]
 fn found_value<A: Address, T: Words>(first: &T, words: &T, steps: u32, address: A) -> u32 {
     address.number();
@@ -60,7 +75,7 @@ fn found_value<A: Address, T: Words>(first: &T, words: &T, steps: u32, address: 
     if shift >= width {
         return 0;
     }
-    if width - shift > 64 {
+    if width - shift > 31 {
         return 0;
     }
     let at = address.block(shift);
@@ -68,66 +83,59 @@ fn found_value<A: Address, T: Words>(first: &T, words: &T, steps: u32, address: 
         return 0;
     }
     let mut entry = first.word(at);
-    let mut left = shift;
+    let mut rest = address.behind(width - shift);
+    let mut end = words.len().saturating_sub(1);
     while entry >= PLACE {
-        if left < 6 {
+        let index = ((entry - PLACE) / 2) as usize;
+        if width > LISTS && entry % 2 == 1 {
+            return listed(words, index, address.list_word());
+        }
+        if index >= end {
             return 0;
         }
-        left -= 6;
-        let place = ((entry - PLACE) / 2) as usize;
-        if entry % 2 == 1 {
-            return listed(words, place, address.upper());
-        }
-        if place + 1 >= words.len() {
-            return 0;
-        }
-        let marks = u64::from(words.word(place + 1)) * (1 << 32) + u64::from(words.word(place));
-        let upto = marks >> (63 - address.digit(left));
-        let next = place + 1 + upto.count_ones() as usize;
+        end = index;
+        let marks = u64::from(words.word(index + 1)) * (1 << 32) + u64::from(words.word(index));
+        let upto = marks >> (63 - rest.part());
+        let next = index + 1 + upto.count_ones() as usize;
         if next >= words.len() {
             return 0;
         }
         entry = words.word(next);
+        rest = rest.behind(6);
     }
     entry
 }
 
-/// The value that the list at a place has for the numbers that begin so.
+/// The value that the list at a place has for the addresses with this word.
 #[inline(always)]
-fn listed<T: Words>(words: &T, place: usize, upper: u64) -> u32 {
-    if place >= words.len() {
+fn listed<T: Words>(words: &T, index: usize, address: u32) -> u32 {
+    if index >= words.len() {
         return 0;
     }
-    let count = words.word(place) as usize;
+    let count = words.word(index) as usize;
     if count > MOST_CHANGES {
         return 0;
     }
-    let starts = place + 1;
-    let values = starts + 2 * count;
+    let starts = index + 1;
+    let values = starts + count;
     if values + count >= words.len() {
         return 0;
     }
-    words.word(values + upto(words, starts, count, upper))
+    words.word(values + upto(words, starts, count, address))
 }
 
-/// How many of the changes of a list, which ascend, are at most a number.
+/// How many of the changes of a list, whose words ascend, are at most a word.
 #[inline(always)]
-fn upto<T: Words>(words: &T, starts: usize, count: usize, number: u64) -> usize {
+fn upto<T: Words>(words: &T, starts: usize, count: usize, word: u32) -> usize {
     let mut found = 0;
     let mut left = count;
     while left > 0 {
         let half = left - left / 2;
-        if change(words, starts, found + half - 1) <= number {
+        let change = words.word(starts + (found + half - 1));
+        if change <= word {
             found += half;
         }
         left /= 2;
     }
     found
-}
-
-/// Where a change of a list is.
-#[inline(always)]
-fn change<T: Words>(words: &T, starts: usize, at: usize) -> u64 {
-    let low = starts + 2 * at;
-    u64::from(words.word(low + 1)) * (1 << 32) + u64::from(words.word(low))
 }

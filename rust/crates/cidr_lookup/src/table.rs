@@ -40,7 +40,7 @@ impl fmt::Display for TableError {
     fn fmt(&self, f: &mut fmt::Formatter<'_>) -> fmt::Result {
         match self {
             TableError::TooMany => f.write_str("more than 2147483647 keys"),
-            TableError::Refused(place) => { write!(f, "no network, or out of order: key {place}") }
+            TableError::Refused(index) => { write!(f, "no network, or out of order: key {index}") }
             TableError::TooLarge => f.write_str("more than 1073741823 words"),
             TableError::NoMemory => f.write_str("out of memory"),
         }

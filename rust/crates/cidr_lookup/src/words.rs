@@ -92,23 +92,23 @@ impl Sink for Vec<u32> {
 pub(crate) struct Compared<'a, T> {
     pub(crate) words: &'a T,
     /// How many were put.
-    pub(crate) place: usize,
+    pub(crate) index: usize,
 }
 
 impl<T: Words> Sink for Compared<'_, T> {
     #[inline]
     fn len(&self) -> usize {
-        self.place.min(self.words.len())
+        self.index.min(self.words.len())
     }
 
     fn push(&mut self, word: u32) -> Result<(), Stop> {
-        if self.place >= self.words.len() {
+        if self.index >= self.words.len() {
             return Err(Stop::Refused);
         }
-        if self.words.word(self.place) != word {
+        if self.words.word(self.index) != word {
             return Err(Stop::Refused);
         }
-        self.place += 1;
+        self.index += 1;
         Ok(())
     }
 }

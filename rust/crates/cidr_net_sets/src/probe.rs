@@ -1,6 +1,6 @@
 //! The look-up in a set, whose comparisons are counted.
 
-use crate::search::place;
+use crate::search::index;
 use cidr::names::{BitString, NetworkBits};
 use cidr_table::{Count, Probe, is_inside};
 use core::cmp::Ordering;
@@ -86,6 +86,6 @@ impl<'a, C: NetworkBits> NetworkProbe<C> for Networks<'a, C> {
 /// ```
 #[inline]
 pub fn contains<C: NetworkBits, P: NetworkProbe<C>>(networks: &mut P, network: &C) -> bool {
-    let place = place(networks, network);
-    place > 0 && networks.contains_at(place - 1, network)
+    let index = index(networks, network);
+    index > 0 && networks.contains_at(index - 1, network)
 }

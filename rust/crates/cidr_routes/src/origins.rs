@@ -69,7 +69,6 @@ impl<C: Keyed> Payloads<C> {
     /// `TableError`, which tells what is wrong.
     pub fn new(alloc: Global, payloads: Vec<Payload<C>>) -> Result<Self, TableError> {
         let payloads = ascending(payloads);
-        know_order(payloads.as_slice());
         let above = or_no_memory(links(alloc, payloads.as_slice()))?;
         let ends = ready(alloc, or_no_memory(ends_of(alloc, payloads.as_slice()))?)?;
         Ok(Payloads {
@@ -212,9 +211,6 @@ fn ascending<T: Ord + Copy>(mut values: Vec<T>) -> Vec<T> {
     values.dedup();
     values
 }
-
-/// Payloads that ascend stand in the order of their networks, which a proof gets from the call.
-fn know_order<C: NetworkBits + Copy>(payloads: &[Payload<C>]) {}
 
 /// For each network how many payloads there are up to its last, where those of one network stand together.
 #[inline]

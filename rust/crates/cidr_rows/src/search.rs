@@ -20,27 +20,27 @@ pub fn longest<C: NetworkBits + Copy, K: Keys<C>>(rows: &K, asked: &C) -> Option
 /// `out`, as many as it has room for; what is behind them there stays. Returns how many they are, at most one more than the
 /// look-up key has bits.
 pub fn covering<C: NetworkBits + Copy, K: Keys<C>>(rows: &K, asked: &C, out: &mut [usize]) -> usize {
-    let Some(place) = longest_key(rows, asked) else {
+    let Some(index) = longest_key(rows, asked) else {
         return 0;
     };
-    let len = rows.key(place).len().min(asked.len());
+    let len = rows.key(index).len().min(asked.len());
     if len == 0 {
-        return put(out, 0, place);
+        return put(out, 0, index);
     }
     // The others are shorter.
     let mut shorter = *asked;
     shorter.clip(len - 1);
     let count = covering(rows, &shorter, out);
-    put(out, count, place)
+    put(out, count, index)
 }
 
-/// Writes an index at a place, if there is room for it, and returns the next place.
+/// Writes an index at another, if there is room for it, and returns the next one.
 #[inline]
-fn put(out: &mut [usize], place: usize, index: usize) -> usize {
-    if place < out.len() {
-        out[place] = index;
+fn put(out: &mut [usize], at: usize, index: usize) -> usize {
+    if at < out.len() {
+        out[at] = index;
     }
-    place + 1
+    at + 1
 }
 
 /// Which networks are in the outer one, that may be one of them: those from the first index on and before the second.
@@ -61,8 +61,8 @@ pub fn covered<C: NetworkBits + Copy, K: Keys<C>>(rows: &K, outer: &C) -> (usize
 /// How many keys come before this one.
 #[inline]
 fn lower_bound<C: Ord + Copy, K: Keys<C>>(rows: &K, key: &C) -> usize {
-    let (Ok(place) | Err(place)) = place_of(rows, key, rows.len());
-    place
+    let (Ok(index) | Err(index)) = place_of(rows, key, rows.len());
+    index
 }
 
 /// Where a key stands among the first `end`, or the index before which it would.
@@ -114,14 +114,16 @@ fn place_between<C: Ord + Copy, K: Keys<C>>(
     if found { Ok(low) } else { Err(low) }
 }
 
-/// The place of a key among the first `end`, which are all, or else most likely end not far behind it.
-#[inline]
+/// The index of a key among the first `end`: which are all; or else it comes before all, or most likely not far from the end.
 fn seek<C: Ord + Copy, K: Keys<C>>(rows: &K, key: &C, end: usize) -> Result<usize, usize> {
     if end == rows.len() {
-        place_of(rows, key, end)
-    } else {
-        place_back(rows, key, end)
+        return place_of(rows, key, end);
     }
+    let order = rows.key(0).cmp(key);
+    if order.is_lt() {
+        return place_back(rows, key, end);
+    }
+    if order.is_eq() { Ok(0) } else { Err(0) }
 }
 
 /// The index of the longest key that begins the look-up key, or `None` where none does.
@@ -131,16 +133,16 @@ fn longest_key<C: NetworkBits + Copy, K: Keys<C>>(rows: &K, asked: &C) -> Option
     let mut end = rows.len();
     while end > 0 {
         match seek(rows, &sought, end) {
-            Ok(place) => return Some(place),
+            Ok(index) => return Some(index),
             Err(0) => return None,
-            Err(place) => {
-                let before = rows.key(place - 1);
+            Err(index) => {
+                let before = rows.key(index - 1);
                 let shared = sought.shared_prefix_len(&before);
                 if shared == before.len() {
-                    return Some(place - 1);
+                    return Some(index - 1);
                 }
                 sought.clip(shared);
-                end = place - 1;
+                end = index - 1;
             }
         }
     }

@@ -1,13 +1,13 @@
 //! The look-ups of a set in a slice of its networks.
 
 use crate::probe::{Networks, contains};
-use crate::search::place;
+use crate::search::index;
 use cidr::NetworkBits;
 
-/// How many networks come before this one or are the same, by `place`.
+/// How many networks come before this one or are the same, by `index`.
 #[inline]
 pub fn upto<C: NetworkBits>(networks: &[C], network: &C) -> usize {
-    place(&mut Networks::new(networks), network)
+    index(&mut Networks::new(networks), network)
 }
 
 /// Whether one of the networks contains this one, by `contains`.

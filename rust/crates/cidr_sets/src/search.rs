@@ -5,7 +5,7 @@ use cidr_table::Probe;
 
 /// How many networks come before this one or are the same. Binary search: it makes at most as many comparisons as the
 /// number of networks has binary digits.
-pub fn place<C: NetworkBits, P: Probe<C>>(networks: &mut P, network: &C) -> usize {
+pub fn index<C: NetworkBits, P: Probe<C>>(networks: &mut P, network: &C) -> usize {
     let mut low = 0;
     let mut left = networks.len();
     while left > 0 {

@@ -35,8 +35,8 @@ pub fn longest_match<C: NetworkBits + Copy, P: Probe<C>>(rows: &mut P, asked: &C
         let step = rows.len() >> len.min(63);
         let tries = spare.saturating_sub(digits).min(digits);
         match search_back(rows, &clipped(asked, len), end, step, tries) {
-            Ok(place) => return Some(place),
-            Err(place) => end = place,
+            Ok(index) => return Some(index),
+            Err(index) => end = index,
         }
         spare -= tries;
         len -= 1;

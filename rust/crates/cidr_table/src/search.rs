@@ -93,7 +93,7 @@ pub fn search_back<C: Ord, P: Probe<C>>(
 /// `usize`, which tells what is wrong.
 pub fn shared_len<C: NetworkBits + Copy, P: Probe<C>>(
     rows: &mut P,
-    place: usize,
+    index: usize,
     asked: &C,
     most: usize,
 ) -> Result<usize, usize> {
@@ -102,7 +102,7 @@ pub fn shared_len<C: NetworkBits + Copy, P: Probe<C>>(
     while left > 0 {
         let next = left / 2;
         let mid = low + (left - next);
-        let order = rows.compare(place, &clipped(asked, mid));
+        let order = rows.compare(index, &clipped(asked, mid));
         if order.is_gt() {
             low = mid;
         } else if order.is_eq() {

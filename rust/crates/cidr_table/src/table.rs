@@ -131,8 +131,8 @@ impl<C: NetworkBits + Copy, V> LpmTable<C, V> {
     #[inline]
     pub fn get(&self, key: &C) -> Option<&V> {
         match self.find(key) {
-            Ok(place) => {
-                let row = &self.rows[place];
+            Ok(index) => {
+                let row = &self.rows[index];
                 Some(&row.1)
             }
             Err(_) => None,
@@ -162,12 +162,12 @@ impl<C: NetworkBits + Copy, V> LpmTable<C, V> {
     /// The key and the value, where memory runs out; the table stays as it was.
     pub fn insert(&mut self, key: C, value: V) -> Result<Option<V>, (C, V)> {
         match self.find(&key) {
-            Ok(place) => {
-                let row = &mut self.rows[place];
+            Ok(index) => {
+                let row = &mut self.rows[index];
                 Ok(Some(mem::replace(&mut row.1, value)))
             }
-            Err(place) => {
-                if let Err(refused) = self.rows.insert(place, (key, value)) {
+            Err(index) => {
+                if let Err(refused) = self.rows.insert(index, (key, value)) {
                     return Err(refused.value);
                 }
                 Ok(None)
@@ -192,8 +192,8 @@ impl<C: NetworkBits + Copy, V> LpmTable<C, V> {
     #[inline]
     pub fn remove(&mut self, key: &C) -> Option<V> {
         match self.find(key) {
-            Ok(place) => {
-                let (_, value) = self.rows.remove(place);
+            Ok(index) => {
+                let (_, value) = self.rows.remove(index);
                 Some(value)
             }
             Err(_) => None,
@@ -280,8 +280,8 @@ impl<C: NetworkBits + Copy, V> LpmTable<C, V> {
     /// # Ok::<(), Box<dyn std::error::Error>>(())
     /// ```
     #[inline]
-    pub fn row(&self, place: usize) -> Option<&(C, V)> {
-        self.rows.get(place)
+    pub fn row(&self, index: usize) -> Option<&(C, V)> {
+        self.rows.get(index)
     }
 
     /// The rows whose key is in the outer network, which may be a key itself, in the order of the keys: as they stand
@@ -309,8 +309,8 @@ impl<C: NetworkBits + Copy, V> LpmTable<C, V> {
 /// How many keys of rows that ascend come before this one.
 #[inline]
 fn lower_bound<C: NetworkBits, V>(rows: &[(C, V)], key: &C) -> usize {
-    let (Ok(place) | Err(place)) = search(&mut Rows::new(rows), key, rows.len());
-    place
+    let (Ok(index) | Err(index)) = search(&mut Rows::new(rows), key, rows.len());
+    index
 }
 
 /// Whether the key of a row is in the outer network.

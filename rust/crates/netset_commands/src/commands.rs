@@ -58,8 +58,8 @@ pub enum Command<'a> {
     Free(Option<Style<'a>>, Option<u64>, &'a str, u8, &'a [&'a str]),
     /// What is asked of an access list.
     Acl(Question<'a>, &'a str),
-    /// The networks of a prefix length inside a network, or inside the networks of a list.
-    Split(Option<Style<'a>>, &'a str, &'a str),
+    /// The networks of a prefix length inside a network, or inside the networks of a list; the length also as it is typed.
+    Split(Option<Style<'a>>, &'a str, &'a str, u8),
     /// What is found in the lists of these files.
     Check(&'a [&'a str]),
     /// The lines of the lists of these files that have an address.
@@ -179,7 +179,7 @@ impl<'a> Command<'a> {
             | Command::Look(_, list, _)
             | Command::Compile(_, list, _)
             | Command::Smallest(_, _, list)
-            | Command::Split(_, list, _)
+            | Command::Split(_, list, _, _)
             | Command::Describe(_, list) => names.push(*list)?,
             Command::Acl(_, _)
             | Command::Class(_)
@@ -219,7 +219,7 @@ impl<'a> Command<'a> {
     fn has_no_first_list(&self) -> bool {
         match self {
             Command::Free(_, _, pool, _, _) => is_network(pool),
-            Command::Split(_, operand, _) => is_network(operand),
+            Command::Split(_, operand, _, _) => is_network(operand),
             Command::Describe(what, operand) => is_no_list(*what, operand),
             Command::Lists(_, _)
             | Command::Styled(_, _, _)

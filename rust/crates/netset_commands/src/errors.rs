@@ -154,7 +154,7 @@ pub enum FileError {
     Hole,
     /// It has the first byte of a file of look-ups, with which no line begins, and not the others of its first word.
     Unlike,
-    /// It is of version 1, 2 or 3, which earlier releases wrote.
+    /// It is of version 1 to 4, which earlier releases wrote.
     Old,
     /// It is of another version that is not read, such as a newer one.
     Version,

@@ -2,14 +2,14 @@
 
 use cidr_support::string::String;
 use crate::commands::acl::acl;
-use crate::commands::arguments::{Parts, command_of, line_parts, reading_in, target_of};
+use crate::commands::arguments::{Given, Line, line_of, line_parts};
 use crate::commands::changes::diff;
 use crate::commands::check::check;
 use crate::commands::class::class;
 use crate::commands::combine::combination;
 use crate::commands::compile::{compile, same_file};
 use crate::commands::describe::describe;
-use crate::commands::free::{free, length_of};
+use crate::commands::free::free;
 use crate::commands::help::write_help;
 use crate::commands::inside::not_in;
 use crate::commands::look::look;
@@ -106,7 +106,9 @@ fn answer<'a, M: Memory, F: Sources, D: Folder, O: Sink>(
         Command::Free(style, most, pool, len, used) => {
             free(memory, sources, style, most, pool, len, used, out)
         }
-        Command::Split(style, operand, len) => split(memory, sources, style, operand, len, out),
+        Command::Split(style, operand, word, len) => {
+            split(memory, sources, style, operand, word, len, out)
+        }
         Command::Acl(asked, file) => acl(memory, sources, asked, file, out),
         Command::Check(files) => check(memory, sources, files, out),
         Command::Which(address, files) => which(memory, sources, address, files, out),
@@ -142,16 +144,13 @@ fn wrong_argument<'a>(command: Command<'a>) -> Option<CommandError<'a>> {
             Ok(_) => None,
             Err(e) => Some(e),
         },
-        Command::Split(_, _, len) => match length_of(len) {
-            Some(_) => None,
-            None => Some(CommandError::Argument(len, ArgumentError::Length)),
-        },
         Command::Compile(_, table, name) => same_file(table, name),
         Command::Lists(_, _)
         | Command::Styled(_, _, _)
         | Command::Diff(_, _, _)
         | Command::Same(_, _, _)
         | Command::Free(_, _, _, _, _)
+        | Command::Split(_, _, _, _)
         | Command::Acl(_, _)
         | Command::Check(_)
         | Command::Match(_, _, _)
@@ -316,19 +315,20 @@ fn answer_into<'a, M: Memory, F: Files, D: Folder, E: Sink>(
     }
 }
 
-/// Answers a command whose lists are read this way, to the file of a name where one is given, reports and returns the exit
-/// status.
-#[inline]
+/// Answers a line of arguments, to the file of a name where one is given, reports and returns the exit status.
 fn answer_to<'a, M: Memory, F: Files, D: Folder, O: Output, E: Sink>(
     memory: &mut M,
     files: &F,
     folder: &mut D,
-    reading: Reading,
-    target: Option<&'a str>,
-    command: Command<'a>,
+    line: Line<'a>,
     out: &mut O,
     err: &mut E,
 ) -> u8 {
+    let Line {
+        reading,
+        target,
+        command,
+    } = line;
     match target {
         None => answer_once(memory, files, folder, reading, command, out, err),
         Some(name) => answer_into(memory, files, folder, reading, name, command, err),
@@ -336,25 +336,18 @@ fn answer_to<'a, M: Memory, F: Files, D: Folder, O: Output, E: Sink>(
 }
 
 /// Answers a command and the parts of the words behind it, reports and returns the exit status.
+#[inline]
 fn answer_parts<M: Memory, F: Files, D: Folder, O: Output, E: Sink>(
     memory: &mut M,
     files: &F,
     folder: &mut D,
     verb: Verb,
-    parts: &Parts<'_>,
+    parts: Given<'_>,
     out: &mut O,
     err: &mut E,
 ) -> u8 {
-    match command_of(verb, parts) {
-        Ok(command) => match target_of(verb, parts) {
-            Ok(target) => match reading_in(verb, parts) {
-                Ok(reading) => {
-                    answer_to(memory, files, folder, reading, target, command, out, err)
-                }
-                Err(misuse) => report_misuse(&misuse, err),
-            },
-            Err(misuse) => report_misuse(&misuse, err),
-        },
+    match line_of(verb, parts) {
+        Ok(line) => answer_to(memory, files, folder, line, out, err),
         Err(misuse) => report_misuse(&misuse, err),
     }
 }
@@ -372,7 +365,7 @@ fn answer_texts<M: Memory, F: Files, D: Folder, O: Output, E: Sink>(
         return report(&Err(CommandError::NoMemory), false, err);
     };
     match line_parts(memory, words.as_slice()) {
-        Ok((verb, parts)) => answer_parts(memory, files, folder, verb, &parts, out, err),
+        Ok((verb, parts)) => answer_parts(memory, files, folder, verb, parts.given(), out, err),
         Err(UsageError::Misuse(misuse)) => report_misuse(&misuse, err),
         Err(UsageError::NoMemory) => report(&Err(CommandError::NoMemory), false, err),
     }

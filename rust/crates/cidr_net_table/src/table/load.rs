@@ -67,12 +67,12 @@ fn read_rows<C: PrefixBytes + Copy>(
     let mut rows = Vec::new(alloc);
     let mut rest = bytes;
     while !rest.is_empty() {
-        let place = rows.len();
+        let index = rows.len();
         let (key, used) = match C::from_prefix_bytes(rest) {
             Ok(read) => read,
-            Err(e) => return Err(LoadError::Prefix(place, e)),
+            Err(e) => return Err(LoadError::Prefix(index, e)),
         };
-        if rows.push((key, place)).is_err() {
+        if rows.push((key, index)).is_err() {
             return Err(LoadError::NoMemory);
         }
         rest = &rest[used..];

@@ -219,9 +219,9 @@ fn with_room<C>(alloc: Global, these: &[C], those: &[C]) -> Result<Vec<C>, Alloc
 /// The first of the networks that lie in one that none of them contains.
 #[inline]
 fn first_inside<C: NetworkBits + Copy>(networks: &[C], outer: &C) -> Option<C> {
-    let place = upto(networks, outer);
-    if place < networks.len() && is_inside(&networks[place], outer) {
-        Some(networks[place])
+    let index = upto(networks, outer);
+    if index < networks.len() && is_inside(&networks[index], outer) {
+        Some(networks[index])
     } else {
         None
     }

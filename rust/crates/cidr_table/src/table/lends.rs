@@ -21,7 +21,7 @@ impl<C: NetworkBits + Copy, V> LpmTable<C, V> {
     #[inline]
     pub fn get_mut(&mut self, key: &C) -> Option<&mut V> {
         match self.find(key) {
-            Ok(place) => Some(self.value_at(place)),
+            Ok(index) => Some(self.value_at(index)),
             Err(_) => None,
         }
     }
@@ -66,9 +66,9 @@ impl<C: NetworkBits + Copy, V> LpmTable<C, V> {
     /// # Ok::<(), Box<dyn std::error::Error>>(())
     /// ```
     #[inline]
-    pub fn value_mut(&mut self, place: usize) -> Option<&mut V> {
-        if place < self.len() {
-            Some(self.value_at(place))
+    pub fn value_mut(&mut self, index: usize) -> Option<&mut V> {
+        if index < self.len() {
+            Some(self.value_at(index))
         } else {
             None
         }
@@ -93,8 +93,8 @@ impl<C: NetworkBits + Copy, V> LpmTable<C, V> {
 
     /// The value of the row at an index, which there is.
     #[inline]
-    fn value_at(&mut self, place: usize) -> &mut V {
-        let row = &mut self.rows[place];
+    fn value_at(&mut self, index: usize) -> &mut V {
+        let row = &mut self.rows[index];
         &mut row.1
     }
 }
@@ -102,8 +102,8 @@ impl<C: NetworkBits + Copy, V> LpmTable<C, V> {
 /// Calls `write` with each key and its value.
 #[inline]
 fn write_each<C, V, F: FnMut(&C, &mut V)>(rows: &mut [(C, V)], mut write: F) {
-    for place in 0..rows.len() {
-        let row = &mut rows[place];
+    for index in 0..rows.len() {
+        let row = &mut rows[index];
         write(&row.0, &mut row.1);
     }
 }

@@ -49,8 +49,8 @@ fn longest<'a, C: NetworkBits + Copy, V>(rows: &'a [(C, V)], asked: &C) -> Optio
 #[inline]
 fn upto<C: NetworkBits, V>(rows: &[(C, V)], end: usize, asked: &C) -> usize {
     match search(&mut Rows::new(rows), asked, end) {
-        Ok(place) => place + 1,
-        Err(place) => place,
+        Ok(index) => index + 1,
+        Err(index) => index,
     }
 }
 
@@ -60,7 +60,7 @@ fn upto_back<C: NetworkBits, V>(rows: &[(C, V)], end: usize, asked: &C) -> usize
     // Of keys that are spread evenly, about `step` begin with the same bits.
     let step = rows.len() >> asked.len().min(63);
     match search_back(&mut Rows::new(rows), asked, end, step, 64) {
-        Ok(place) => place + 1,
-        Err(place) => place,
+        Ok(index) => index + 1,
+        Err(index) => index,
     }
 }

@@ -7,9 +7,7 @@ use crate::commands::matching::has;
 use crate::commands::operations::Operation;
 use crate::commands::picking::{Picking, picking_of, place_of, seeking_of};
 use crate::commands::single::Single;
-use crate::commands::table::{
-    Verb, commands, most_of, name_of, needed_of, options_of, takes_value,
-};
+use crate::commands::table::{Verb, commands, name_of, options_of, row_of, takes_value};
 use crate::commands::{Command, Reading, bits_of, reading_of};
 use crate::errors::{Misfit, Misuse, UsageError};
 use cidr::Family;
@@ -38,6 +36,22 @@ pub struct Parts<'a> {
     /// The options with a value, each with its value behind it.
     pub values: Vec<&'a str>,
     pub operands: Vec<&'a str>,
+}
+
+/// The same, lent to what reads them.
+#[derive(Clone, Copy)]
+pub struct Given<'a> {
+    pub options: &'a [&'a str],
+    pub values: &'a [&'a str],
+    pub operands: &'a [&'a str],
+}
+
+/// A line of arguments: how lists are read, the file that the answer is written to, if one is named, and the command.
+#[derive(Clone, Copy)]
+pub struct Line<'a> {
+    pub reading: Reading,
+    pub target: Option<&'a str>,
+    pub command: Command<'a>,
 }
 
 /// Whether a word is an option, and no operand: `-` and something behind it.
@@ -109,6 +123,16 @@ impl<'a> Parts<'a> {
             options: Vec::new(alloc),
             values: Vec::new(alloc),
             operands: Vec::new(alloc),
+        }
+    }
+
+    /// They, lent.
+    #[inline]
+    pub fn given(&self) -> Given<'_> {
+        Given {
+            options: self.options.as_slice(),
+            values: self.values.as_slice(),
+            operands: self.operands.as_slice(),
         }
     }
 
@@ -244,11 +268,13 @@ fn parts_of<'a, M: Memory>(
     }
 }
 
-/// The name of a command, which `-h` and `--help` are other names of.
+/// The name of a command: `-h` and `--help` are other names of `help`, and `nets` of `merge`.
 #[inline]
 fn full_name(word: &str) -> &str {
     if word == "-h" || word == "--help" {
         "help"
+    } else if word == "nets" {
+        "merge"
     } else {
         word
     }
@@ -421,13 +447,11 @@ fn some_style<'a>(
     Ok(Some(style))
 }
 
-/// How networks are written, if one of the options says it.
-fn chosen_style<'a>(
-    command: Verb,
-    name: Option<&'a str>,
-    prefix: Option<&'a str>,
-    suffix: Option<&'a str>,
-) -> Result<Option<Style<'a>>, Misuse<'a>> {
+/// How networks are written, if one of the options with a value says it.
+fn style_in_values<'a>(command: Verb, values: &[&'a str]) -> Result<Option<Style<'a>>, Misuse<'a>> {
+    let name = option_value(command, "--format", values)?;
+    let prefix = option_value(command, "--prefix", values)?;
+    let suffix = option_value(command, "--suffix", values)?;
     match (name, prefix, suffix) {
         (None, None, None) => Ok(None),
         (None, None, Some(_)) => some_style(command, Format::Plain, prefix, suffix),
@@ -439,41 +463,20 @@ fn chosen_style<'a>(
     }
 }
 
-/// How networks are written, by the options with a value.
-#[inline]
-fn style_in_values<'a>(command: Verb, values: &[&'a str]) -> Result<Option<Style<'a>>, Misuse<'a>> {
-    let name = option_value(command, "--format", values)?;
-    let prefix = option_value(command, "--prefix", values)?;
-    let suffix = option_value(command, "--suffix", values)?;
-    chosen_style(command, name, prefix, suffix)
-}
-
-/// The format of lines of a name.
-#[inline]
-fn named_line_format<'a>(command: Verb, name: &'a str) -> Result<LineFormat, Misuse<'a>> {
-    if name == "plain" {
-        return Ok(LineFormat::Plain);
-    }
-    if name == "json" {
-        return Ok(LineFormat::Json);
-    }
-    Err(misused(command, Misfit::NoLineFormat, name))
-}
-
-/// How lines are written: as text, unless an option says otherwise.
-#[inline]
-fn chosen_line_format<'a>(command: Verb, name: Option<&'a str>) -> Result<LineFormat, Misuse<'a>> {
-    match name {
-        None => Ok(LineFormat::Plain),
-        Some(name) => named_line_format(command, name),
-    }
-}
-
-/// The same by the options with a value.
-#[inline]
+/// How lines are written: as text, unless an option with a value says otherwise.
 fn line_format_in<'a>(command: Verb, values: &[&'a str]) -> Result<LineFormat, Misuse<'a>> {
-    let name = option_value(command, "--format", values)?;
-    chosen_line_format(command, name)
+    match option_value(command, "--format", values)? {
+        None => Ok(LineFormat::Plain),
+        Some(name) => {
+            if name == "plain" {
+                return Ok(LineFormat::Plain);
+            }
+            if name == "json" {
+                return Ok(LineFormat::Json);
+            }
+            Err(misused(command, Misfit::NoLineFormat, name))
+        }
+    }
 }
 
 /// The command of an operation on lists; `not` may be inside a network.
@@ -489,19 +492,6 @@ fn made_command<'a>(
         (None, Some(style)) => Command::Styled(style, operation, files),
         (Some(net), style) => Command::NotIn(style, net, files),
     }
-}
-
-/// The command of an operation on lists, by the options with a value.
-#[inline]
-fn lists_command<'a>(
-    operation: Operation,
-    values: &[&'a str],
-    files: &'a [&'a str],
-) -> Result<Command<'a>, Misuse<'a>> {
-    let verb = Verb::Lists(operation);
-    let net = option_value(verb, "--in", values)?;
-    let style = style_in_values(verb, values)?;
-    Ok(made_command(operation, net, style, files))
 }
 
 /// The prefix length that an argument is.
@@ -550,126 +540,46 @@ fn most_by<'a>(all: bool, count: Option<&'a str>) -> Result<Option<u64>, Misuse<
     }
 }
 
-/// How many networks `free` is to tell at most, by its options.
-#[inline]
-fn most_in<'a>(parts: &'a Parts<'a>) -> Result<Option<u64>, Misuse<'a>> {
-    let count = option_value(Verb::Free, "--count", parts.values.as_slice())?;
-    most_by(has(parts.options.as_slice(), "--all"), count)
-}
-
-/// The command `free`.
-fn free_command<'a>(parts: &'a Parts<'a>) -> Result<Command<'a>, Misuse<'a>> {
-    let operands = parts.operands.as_slice();
-    let len = length_by(operand_or(operands, 1, ""))?;
-    let most = most_in(parts)?;
-    let style = style_in_values(Verb::Free, parts.values.as_slice())?;
-    Ok(Command::Free(
-        style,
-        most,
-        operand_or(operands, 0, ""),
-        len,
-        operands_from(operands, 2),
-    ))
-}
-
-/// The command `split`.
-#[inline]
-fn split_command<'a>(parts: &'a Parts<'a>) -> Result<Command<'a>, Misuse<'a>> {
-    let operands = parts.operands.as_slice();
-    let style = style_in_values(Verb::Split, parts.values.as_slice())?;
-    Ok(Command::Split(
-        style,
-        operand_or(operands, 0, ""),
-        operand_or(operands, 1, ""),
-    ))
-}
-
-/// The command `diff`.
-#[inline]
-fn diff_command<'a>(parts: &'a Parts<'a>) -> Result<Command<'a>, Misuse<'a>> {
-    let operands = parts.operands.as_slice();
-    let format = line_format_in(Verb::Diff, parts.values.as_slice())?;
-    Ok(Command::Diff(
-        format,
-        operand_or(operands, 0, ""),
-        operand_or(operands, 1, ""),
-    ))
-}
-
-/// That an option with a value is not given; the error is that it does not go with another one.
-#[inline]
-fn not_given<'a>(
-    command: Verb,
-    option: &'static str,
-    why: Misfit,
-    found: Option<&'a str>,
-) -> Result<(), Misuse<'a>> {
-    match found {
-        None => Ok(()),
-        Some(_) => Err(misused(command, why, option)),
-    }
-}
-
-/// The same by the options with a value.
+/// That an option with a value is not given: it does not go with another one of `acl`.
 #[inline]
 fn without_value<'a>(
-    command: Verb,
     option: &'static str,
     why: Misfit,
     values: &[&'a str],
 ) -> Result<(), Misuse<'a>> {
-    let found = option_value(command, option, values)?;
-    not_given(command, option, why, found)
+    match option_value(Verb::Acl, option, values)? {
+        None => Ok(()),
+        Some(_) => Err(misused(Verb::Acl, why, option)),
+    }
 }
 
-/// Of an access list which addresses are permitted, in a style.
-#[inline]
-fn permitted_in<'a>(values: &[&'a str]) -> Result<Question<'a>, Misuse<'a>> {
-    let style = style_in_values(Verb::Acl, values)?;
-    Ok(Question::Permitted(style))
-}
-
-/// The rules that no address reaches, which have no style.
-#[inline]
-fn shadowed_in<'a>(values: &[&'a str]) -> Result<Question<'a>, Misuse<'a>> {
-    without_value(Verb::Acl, "--format", Misfit::WithShadowed, values)?;
-    without_value(Verb::Acl, "--prefix", Misfit::WithShadowed, values)?;
-    without_value(Verb::Acl, "--suffix", Misfit::WithShadowed, values)?;
-    Ok(Question::Shadowed)
-}
-
-/// What it permits and the list of another file does not, whose lines have a format.
-#[inline]
-fn compared_in<'a>(old: &'a str, values: &[&'a str]) -> Result<Question<'a>, Misuse<'a>> {
-    let format = line_format_in(Verb::Acl, values)?;
-    without_value(Verb::Acl, "--prefix", Misfit::WithDiff, values)?;
-    without_value(Verb::Acl, "--suffix", Misfit::WithDiff, values)?;
-    Ok(Question::Compared(format, old))
-}
-
-/// What is asked of an access list, by whether `--shadowed` is given and by the value of `--diff`.
-#[inline]
+/// What is asked of an access list, by whether `--shadowed` is given and by the value of `--diff`: which addresses are
+/// permitted, in a style; the rules that no address reaches, which have no style; or what it permits and the list of another
+/// file does not, whose lines have a format.
 fn question_by<'a>(
     shadowed: bool,
     old: Option<&'a str>,
     values: &[&'a str],
 ) -> Result<Question<'a>, Misuse<'a>> {
     match (shadowed, old) {
-        (false, None) => permitted_in(values),
-        (true, None) => shadowed_in(values),
-        (false, Some(old)) => compared_in(old, values),
+        (false, None) => {
+            let style = style_in_values(Verb::Acl, values)?;
+            Ok(Question::Permitted(style))
+        }
+        (true, None) => {
+            without_value("--format", Misfit::WithShadowed, values)?;
+            without_value("--prefix", Misfit::WithShadowed, values)?;
+            without_value("--suffix", Misfit::WithShadowed, values)?;
+            Ok(Question::Shadowed)
+        }
+        (false, Some(old)) => {
+            let format = line_format_in(Verb::Acl, values)?;
+            without_value("--prefix", Misfit::WithDiff, values)?;
+            without_value("--suffix", Misfit::WithDiff, values)?;
+            Ok(Question::Compared(format, old))
+        }
         (true, Some(_)) => Err(misused(Verb::Acl, Misfit::Extra, "--shadowed")),
     }
-}
-
-/// The command `acl`.
-#[inline]
-fn acl_command<'a>(parts: &'a Parts<'a>) -> Result<Command<'a>, Misuse<'a>> {
-    let operands = parts.operands.as_slice();
-    let shadowed = has(parts.options.as_slice(), "--shadowed");
-    let old = option_value(Verb::Acl, "--diff", parts.values.as_slice())?;
-    let question = question_by(shadowed, old, parts.values.as_slice())?;
-    Ok(Command::Acl(question, operand_or(operands, 0, "")))
 }
 
 /// The command `help`, of the command that an operand names, or of all.
@@ -701,13 +611,10 @@ fn column_by<'a>(number: &'a str, separator: Option<&'a str>) -> Result<Column, 
 
 /// The field that is read of each line, if one is told: by the value of `--field`, whether `--any` is given, and the value
 /// of `--separator`.
-fn field_by<'a>(
-    command: Verb,
-    number: Option<&'a str>,
-    any: bool,
-    separator: Option<&'a str>,
-) -> Result<Option<Column>, Misuse<'a>> {
-    match (number, any, separator) {
+fn field_in<'a>(command: Verb, parts: Given<'a>) -> Result<Option<Column>, Misuse<'a>> {
+    let number = option_value(command, "--field", parts.values)?;
+    let separator = option_value(command, "--separator", parts.values)?;
+    match (number, has(parts.options, "--any"), separator) {
         (None, _, None) => Ok(None),
         (None, _, Some(_)) => Err(misused(command, Misfit::NoField, "--separator")),
         (Some(number), false, separator) => {
@@ -716,19 +623,6 @@ fn field_by<'a>(
         }
         (Some(_), true, _) => Err(misused(command, Misfit::Anywhere, "--field")),
     }
-}
-
-/// The same by the parts of a line.
-fn field_in<'a>(command: Verb, parts: &'a Parts<'a>) -> Result<Option<Column>, Misuse<'a>> {
-    let values = parts.values.as_slice();
-    let number = option_value(command, "--field", values)?;
-    let separator = option_value(command, "--separator", values)?;
-    field_by(
-        command,
-        number,
-        has(parts.options.as_slice(), "--any"),
-        separator,
-    )
 }
 
 /// The command `match`, of several files where there is a third operand, and else of one or of the standard input.
@@ -745,14 +639,6 @@ fn match_by<'a>(picking: Picking, operands: &'a [&'a str]) -> Command<'a> {
             operands_from(operands, 1),
         ),
     }
-}
-
-/// The command `match` with the field by which it picks lines.
-#[inline]
-fn match_command<'a>(parts: &'a Parts<'a>) -> Result<Command<'a>, Misuse<'a>> {
-    let column = field_in(Verb::Match, parts)?;
-    let picking = picking_of(parts.options.as_slice(), column);
-    Ok(match_by(picking, parts.operands.as_slice()))
 }
 
 /// The layout of the rows of tables in a form of this name.
@@ -788,12 +674,12 @@ fn named_list_form<'a>(
 }
 
 /// The form of the lists that a command reads.
-fn list_form_in<'a>(command: Verb, parts: &'a Parts<'a>) -> Result<ListForm, Misuse<'a>> {
-    let options = parts.options.as_slice();
+fn list_form_in<'a>(command: Verb, parts: Given<'a>) -> Result<ListForm, Misuse<'a>> {
+    let options = parts.options;
     if asks_help(options) || takes_value(command, "--table-separator") {
         return Ok(ListForm::Networks(bits_of(options)));
     }
-    match option_value(command, "--form", parts.values.as_slice())? {
+    match option_value(command, "--form", parts.values)? {
         Some(name) => named_list_form(command, options, name),
         None => Ok(ListForm::Networks(bits_of(options))),
     }
@@ -801,9 +687,9 @@ fn list_form_in<'a>(command: Verb, parts: &'a Parts<'a>) -> Result<ListForm, Mis
 
 /// How a command reads lists.
 #[inline]
-pub fn reading_in<'a>(command: Verb, parts: &'a Parts<'a>) -> Result<Reading, Misuse<'a>> {
+fn reading_in<'a>(command: Verb, parts: Given<'a>) -> Result<Reading, Misuse<'a>> {
     let form = list_form_in(command, parts)?;
-    Ok(reading_of(form, parts.options.as_slice()))
+    Ok(reading_of(form, parts.options))
 }
 
 /// What parts the fields of lines, or what is told where it is not one byte.
@@ -840,12 +726,15 @@ fn place_by(number: &str) -> Option<u64> {
     place_of(number)
 }
 
-/// The layout of rows of fields of which two are told by their numbers.
-fn columns_by<'a>(
+/// The layout of rows of fields, of which two may be told by their numbers.
+fn fields_by<'a>(
     command: Verb,
     separator: Separator,
-    numbers: &'a str,
+    numbers: Option<&'a str>,
 ) -> Result<RowLayout, Misuse<'a>> {
+    let Some(numbers) = numbers else {
+        return Ok(RowLayout::Fields(separator));
+    };
     let (network, value) = split_numbers(numbers);
     match (place_by(network), place_by(value)) {
         (Some(network), Some(value)) => Ok(RowLayout::Columns(RowColumns {
@@ -857,64 +746,31 @@ fn columns_by<'a>(
     }
 }
 
-/// The layout of rows of fields.
-#[inline]
-fn fields_by<'a>(
-    command: Verb,
-    separator: Separator,
-    numbers: Option<&'a str>,
-) -> Result<RowLayout, Misuse<'a>> {
-    match numbers {
-        None => Ok(RowLayout::Fields(separator)),
-        Some(numbers) => columns_by(command, separator, numbers),
-    }
-}
-
-/// The layout of rows in a form of this name, with which goes neither of the other two options.
-#[inline]
-fn form_by<'a>(
-    command: Verb,
-    name: &'a str,
-    separator: Option<&'a str>,
-    numbers: Option<&'a str>,
-) -> Result<RowLayout, Misuse<'a>> {
-    match (separator, numbers) {
-        (None, None) => named_layout(command, name),
-        (Some(_), _) => Err(misused(command, Misfit::WithForm, "--table-separator")),
-        (None, Some(_)) => Err(misused(command, Misfit::WithForm, "--table-fields")),
-    }
-}
-
-/// How the rows of a table are laid out, by the values of `--form`, `--table-separator` and `--table-fields`.
-#[inline]
+/// How the rows of a table are laid out, by the values of `--form`, `--table-separator` and `--table-fields`: the first goes
+/// with none of the others.
 fn layout_by<'a>(
     command: Verb,
     name: Option<&'a str>,
     separator: Option<&'a str>,
     numbers: Option<&'a str>,
 ) -> Result<RowLayout, Misuse<'a>> {
-    match name {
-        Some(name) => form_by(command, name, separator, numbers),
-        None => {
+    match (name, separator, numbers) {
+        (Some(name), None, None) => named_layout(command, name),
+        (Some(_), Some(_), _) => Err(misused(command, Misfit::WithForm, "--table-separator")),
+        (Some(_), None, Some(_)) => Err(misused(command, Misfit::WithForm, "--table-fields")),
+        (None, separator, numbers) => {
             let separator = separator_by(Misfit::NotOneByte, name_of(command), separator)?;
             fields_by(command, separator, numbers)
         }
     }
 }
 
-/// The same by the options with a value.
-#[inline]
-fn layout_in<'a>(command: Verb, values: &[&'a str]) -> Result<RowLayout, Misuse<'a>> {
+/// How the rows of a table are read, whose values are told in the format that is asked for.
+fn form_in<'a>(command: Verb, values: &[&'a str]) -> Result<RowForm, Misuse<'a>> {
     let name = option_value(command, "--form", values)?;
     let separator = option_value(command, "--table-separator", values)?;
     let numbers = option_value(command, "--table-fields", values)?;
-    layout_by(command, name, separator, numbers)
-}
-
-/// How the rows of a table are read, whose values are told in the format that is asked for.
-#[inline]
-fn form_in<'a>(command: Verb, values: &[&'a str]) -> Result<RowForm, Misuse<'a>> {
-    let layout = layout_in(command, values)?;
+    let layout = layout_by(command, name, separator, numbers)?;
     let format = line_format_in(command, values)?;
     Ok(RowForm {
         layout,
@@ -931,88 +787,72 @@ fn may_keep<'a>(format: LineFormat, keeps: bool) -> Result<(), Misuse<'a>> {
     }
 }
 
-/// The command `look`, of a table and a file or the standard input.
-fn look_by<'a>(
-    column: Option<Column>,
-    form: RowForm,
-    parts: &'a Parts<'a>,
-) -> Result<Command<'a>, Misuse<'a>> {
-    let options = parts.options.as_slice();
-    let operands = parts.operands.as_slice();
-    may_keep(form.values, has(options, "--keep"))?;
-    Ok(Command::Look(
-        seeking_of(options, column, form),
-        operand_or(operands, 0, ""),
-        operand_or(operands, 1, "-"),
-    ))
-}
-
-/// The command `look` with the field that it looks up and how the rows of its table are read.
-#[inline]
-fn look_command<'a>(parts: &'a Parts<'a>) -> Result<Command<'a>, Misuse<'a>> {
-    let column = field_in(Verb::Look, parts)?;
-    let form = form_in(Verb::Look, parts.values.as_slice())?;
-    look_by(column, form, parts)
-}
-
-/// The command `compile` with how the rows of its table are read.
-#[inline]
-fn compile_command<'a>(parts: &'a Parts<'a>) -> Result<Command<'a>, Misuse<'a>> {
-    let operands = parts.operands.as_slice();
-    let form = form_in(Verb::Compile, parts.values.as_slice())?;
-    Ok(Command::Compile(
-        form,
-        operand_or(operands, 0, ""),
-        operand_or(operands, 1, ""),
-    ))
-}
-
-/// The command `same` with how the rows of its tables are read.
-#[inline]
-fn same_command<'a>(parts: &'a Parts<'a>) -> Result<Command<'a>, Misuse<'a>> {
-    let operands = parts.operands.as_slice();
-    let form = form_in(Verb::Same, parts.values.as_slice())?;
-    Ok(Command::Same(
-        form,
-        operand_or(operands, 0, ""),
-        operand_or(operands, 1, ""),
-    ))
-}
-
-/// The command `smallest` with whether rows may be holes, and how the rows of its table are read.
-#[inline]
-fn smallest_command<'a>(parts: &'a Parts<'a>) -> Result<Command<'a>, Misuse<'a>> {
-    let operands = parts.operands.as_slice();
-    let holes = has(parts.options.as_slice(), "--holes");
-    let form = form_in(Verb::Smallest, parts.values.as_slice())?;
-    Ok(Command::Smallest(holes, form, operand_or(operands, 0, "")))
-}
-
 /// The command with as many operands as it takes.
-fn verb_command<'a>(verb: Verb, parts: &'a Parts<'a>) -> Result<Command<'a>, Misuse<'a>> {
-    let operands = parts.operands.as_slice();
+fn verb_command<'a>(verb: Verb, parts: Given<'a>) -> Result<Command<'a>, Misuse<'a>> {
+    let Given {
+        options,
+        values,
+        operands,
+    } = parts;
+    let first = operand_or(operands, 0, "");
+    let second = operand_or(operands, 1, "");
     match verb {
-        Verb::Lists(operation) => lists_command(operation, parts.values.as_slice(), operands),
-        Verb::Diff => diff_command(parts),
-        Verb::Same => same_command(parts),
-        Verb::Free => free_command(parts),
-        Verb::Acl => acl_command(parts),
-        Verb::Check => Ok(Command::Check(operands)),
-        Verb::Which => {
-            Ok(Command::Which(operand_or(operands, 0, ""), operands_from(operands, 1)))
+        Verb::Lists(operation) => {
+            let verb = Verb::Lists(operation);
+            let net = option_value(verb, "--in", values)?;
+            let style = style_in_values(verb, values)?;
+            Ok(made_command(operation, net, style, operands))
         }
-        Verb::Match => match_command(parts),
-        Verb::Look => look_command(parts),
-        Verb::Compile => compile_command(parts),
-        Verb::Smallest => smallest_command(parts),
-        Verb::Describe(what) => Ok(Command::Describe(what, operand_or(operands, 0, ""))),
-        Verb::Class => Ok(Command::Class(operand_or(operands, 0, ""))),
-        Verb::Show => Ok(Command::Single(Single::Show(operand_or(operands, 0, "")))),
-        Verb::Split => split_command(parts),
-        Verb::Nth => Ok(Command::Single(Single::Nth(
-            operand_or(operands, 0, ""),
-            operand_or(operands, 1, ""),
-        ))),
+        Verb::Diff => {
+            let format = line_format_in(Verb::Diff, values)?;
+            Ok(Command::Diff(format, first, second))
+        }
+        Verb::Same => {
+            let form = form_in(Verb::Same, values)?;
+            Ok(Command::Same(form, first, second))
+        }
+        Verb::Free => {
+            let len = length_by(second)?;
+            let count = option_value(Verb::Free, "--count", values)?;
+            let most = most_by(has(options, "--all"), count)?;
+            let style = style_in_values(Verb::Free, values)?;
+            Ok(Command::Free(style, most, first, len, operands_from(operands, 2)))
+        }
+        Verb::Acl => {
+            let old = option_value(Verb::Acl, "--diff", values)?;
+            let asked = question_by(has(options, "--shadowed"), old, values)?;
+            Ok(Command::Acl(asked, first))
+        }
+        Verb::Check => Ok(Command::Check(operands)),
+        Verb::Which => Ok(Command::Which(first, operands_from(operands, 1))),
+        Verb::Match => {
+            let column = field_in(Verb::Match, parts)?;
+            Ok(match_by(picking_of(options, column), operands))
+        }
+        Verb::Look => {
+            let column = field_in(Verb::Look, parts)?;
+            let form = form_in(Verb::Look, values)?;
+            may_keep(form.values, has(options, "--keep"))?;
+            let seeking = seeking_of(options, column, form);
+            Ok(Command::Look(seeking, first, operand_or(operands, 1, "-")))
+        }
+        Verb::Compile => {
+            let form = form_in(Verb::Compile, values)?;
+            Ok(Command::Compile(form, first, second))
+        }
+        Verb::Smallest => {
+            let form = form_in(Verb::Smallest, values)?;
+            Ok(Command::Smallest(has(options, "--holes"), form, first))
+        }
+        Verb::Describe(what) => Ok(Command::Describe(what, first)),
+        Verb::Class => Ok(Command::Class(first)),
+        Verb::Show => Ok(Command::Single(Single::Show(first))),
+        Verb::Split => {
+            let style = style_in_values(Verb::Split, values)?;
+            let len = length_by(second)?;
+            Ok(Command::Split(style, first, second, len))
+        }
+        Verb::Nth => Ok(Command::Single(Single::Nth(first, second))),
         Verb::Help => help_command(operands),
         Verb::Version => Ok(Command::Version),
     }
@@ -1027,40 +867,39 @@ fn asks_help(options: &[&str]) -> bool {
 /// The name of the first operand that is missing.
 #[inline]
 fn missing_operand(command: Verb, operands: &[&str]) -> Option<&'static str> {
-    needed_of(command).get(operands.len()).copied()
+    row_of(command).needed.get(operands.len()).copied()
 }
 
 /// The first operand that is too many.
 #[inline]
 fn extra_operand<'a>(command: Verb, operands: &[&'a str]) -> Option<&'a str> {
-    let most = most_of(command)?;
+    let most = row_of(command).most?;
     operands.get(most).copied()
 }
 
 /// The command that the parts of a line are.
-pub fn command_of<'a>(command: Verb, parts: &'a Parts<'a>) -> Result<Command<'a>, Misuse<'a>> {
-    if asks_help(parts.options.as_slice()) {
+fn command_of<'a>(command: Verb, parts: Given<'a>) -> Result<Command<'a>, Misuse<'a>> {
+    if asks_help(parts.options) {
         return Ok(Command::Help(Some(command)));
     }
-    let operands = parts.operands.as_slice();
-    if let Some(name) = missing_operand(command, operands) {
+    if let Some(name) = missing_operand(command, parts.operands) {
         return Err(misused(command, Misfit::Missing, name));
     }
-    if let Some(word) = extra_operand(command, operands) {
+    if let Some(word) = extra_operand(command, parts.operands) {
         return Err(misused(command, Misfit::Extra, word));
     }
     verb_command(command, parts)
 }
 
-/// The file that the answer is written to, by whether `-k` and `--skip-bad` are given: the latter goes with none.
-#[inline]
-fn target_by<'a>(
-    command: Verb,
-    keeps: bool,
-    skips: bool,
-    target: Option<&'a str>,
-) -> Result<Option<&'a str>, Misuse<'a>> {
-    match (keeps, skips, target) {
+/// The file that the answer is written to, if one is named: none goes with `--skip-bad`, nor does `-k`. The page of a command
+/// is written to the standard output.
+fn target_of<'a>(command: Verb, parts: Given<'a>) -> Result<Option<&'a str>, Misuse<'a>> {
+    if asks_help(parts.options) {
+        return Ok(None);
+    }
+    let target = option_value(command, "-o", parts.values)?;
+    let keeps = has(parts.options, "-k");
+    match (keeps, has(parts.options, "--skip-bad"), target) {
         (_, false, _) => Ok(target),
         (true, true, _) => Err(misused(command, Misfit::Skipping, "-k")),
         (false, true, Some(_)) => Err(misused(command, Misfit::Skipping, "-o")),
@@ -1068,17 +907,14 @@ fn target_by<'a>(
     }
 }
 
-/// The file that the answer is written to, if one is named. The page of a command is written to the standard output.
-pub fn target_of<'a>(command: Verb, parts: &Parts<'a>) -> Result<Option<&'a str>, Misuse<'a>> {
-    if asks_help(parts.options.as_slice()) {
-        return Ok(None);
-    }
-    let target = option_value(command, "-o", parts.values.as_slice())?;
-    let options = parts.options.as_slice();
-    target_by(
-        command,
-        has(options, "-k"),
-        has(options, "--skip-bad"),
+/// The line of a command and its parts.
+pub fn line_of<'a>(command: Verb, parts: Given<'a>) -> Result<Line<'a>, Misuse<'a>> {
+    let made = command_of(command, parts)?;
+    let target = target_of(command, parts)?;
+    let reading = reading_in(command, parts)?;
+    Ok(Line {
+        reading,
         target,
-    )
+        command: made,
+    })
 }

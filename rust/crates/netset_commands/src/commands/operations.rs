@@ -7,8 +7,6 @@ use cidr_lists::sets::{Form, Step};
 pub enum Operation {
     /// The addresses of all lists.
     Merge,
-    /// The same.
-    Nets,
     /// Those of the first list that no other has.
     Minus,
     /// Those that each list has.
@@ -38,13 +36,10 @@ pub fn form_of(operation: Operation) -> Form {
 }
 
 /// What each list after the first does.
+#[inline]
 pub fn step_of(operation: Operation) -> Step {
     match operation {
-        Operation::Merge
-        | Operation::Nets
-        | Operation::Not
-        | Operation::Ranges
-        | Operation::Count => Step::Union,
+        Operation::Merge | Operation::Not | Operation::Ranges | Operation::Count => Step::Union,
         Operation::Minus => Step::Difference,
         Operation::And => Step::Intersection,
     }

@@ -1,6 +1,6 @@
 //! The networks of a prefix length inside a network, or inside the networks of a list.
 
-use crate::commands::free::{length_of, tell_free, write_inside};
+use crate::commands::free::{tell_free, write_inside};
 use crate::errors::{ArgumentError, CommandError};
 use crate::input::files::Sources;
 use crate::input::operands::read_listed;
@@ -10,22 +10,10 @@ use cidr_io::memory::Memory;
 use cidr_io::sink::{OutputFailed, Sink};
 use cidr_lists::formats::Style;
 
-/// Whether there are networks of prefix length `len` inside a network.
+/// Whether there is no network of prefix length `len` inside a network.
 #[inline]
-fn has_subnets(network: &IpCidr, len: u8) -> bool {
-    network.network_length() <= len && len <= network.family().len()
-}
-
-/// The prefix length of networks inside a network that an argument is, or `None` where it is none or there are none.
-fn inner_length(network: &IpCidr, len: &str) -> Option<u8> {
-    let Ok(len) = len.parse::<u8>() else {
-        return None;
-    };
-    if has_subnets(network, len) {
-        Some(len)
-    } else {
-        None
-    }
+fn has_none(network: &IpCidr, len: u8) -> bool {
+    len < network.network_length() || network.family().len() < len
 }
 
 /// Writes the networks of a prefix length inside a network, and flushes. An output that has failed before gets nothing.
@@ -47,13 +35,14 @@ fn write_subnets<S: Sink>(
 fn split_network<'a, S: Sink>(
     style: Option<Style<'_>>,
     network: &IpCidr,
-    len: &'a str,
+    word: &'a str,
+    len: u8,
     out: &mut S,
 ) -> Result<Verdict, CommandError<'a>> {
-    match inner_length(network, len) {
-        Some(bits) => by_output(Verdict::Yes, write_subnets(out, style, network, bits)),
-        None => Err(CommandError::Argument(len, ArgumentError::Length)),
+    if has_none(network, len) {
+        return Err(CommandError::Argument(word, ArgumentError::Length));
     }
+    by_output(Verdict::Yes, write_subnets(out, style, network, len))
 }
 
 /// The networks inside those of the list of a file.
@@ -63,28 +52,26 @@ fn split_list<'a, M: Memory, F: Sources, O: Sink>(
     sources: &F,
     style: Option<Style<'_>>,
     file: &'a str,
-    len: &'a str,
+    len: u8,
     out: &mut O,
 ) -> Result<Verdict, CommandError<'a>> {
-    let Some(bits) = length_of(len) else {
-        return Err(CommandError::Argument(len, ArgumentError::Length));
-    };
     let sets = read_listed(memory, sources, file)?;
-    tell_free(style, &sets, bits, None, out)
+    tell_free(style, &sets, len, None, out)
 }
 
-/// The command `split`.
+/// The command `split`, of a prefix length with the word that it is told in.
 #[inline]
 pub fn split<'a, M: Memory, F: Sources, O: Sink>(
     memory: &mut M,
     sources: &F,
     style: Option<Style<'_>>,
     operand: &'a str,
-    len: &'a str,
+    word: &'a str,
+    len: u8,
     out: &mut O,
 ) -> Result<Verdict, CommandError<'a>> {
     match operand.parse::<IpCidr>() {
-        Ok(network) => split_network(style, &network, len, out),
+        Ok(network) => split_network(style, &network, word, len, out),
         Err(_) => split_list(memory, sources, style, operand, len, out),
     }
 }

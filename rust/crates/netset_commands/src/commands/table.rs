@@ -28,9 +28,8 @@ pub enum Verb {
 }
 
 /// The commands, in their order on the page.
-pub static COMMANDS: [Verb; 25] = [
+pub static COMMANDS: [Verb; 24] = [
     Verb::Lists(Operation::Merge),
-    Verb::Lists(Operation::Nets),
     Verb::Lists(Operation::Minus),
     Verb::Lists(Operation::And),
     Verb::Lists(Operation::Not),
@@ -57,9 +56,7 @@ pub static COMMANDS: [Verb; 25] = [
 ];
 
 const MERGE: &str =
-    "netset merge [FILE..]   the shortest list of networks that has the addresses of all the lists\n";
-
-const NETS: &str = "netset nets [FILE..]    the same as merge\n";
+    "netset merge [FILE..]   the shortest list of networks that has the addresses of all the lists\nnetset nets [FILE..]    the same as merge\n";
 
 const MINUS: &str = "netset minus A B..      the addresses of A that no other list has\n";
 
@@ -160,209 +157,148 @@ pub fn commands() -> &'static [Verb] {
     &COMMANDS
 }
 
-/// The name of a command.
-pub fn name_of(command: Verb) -> &'static str {
+/// What is said of a command.
+#[derive(Clone, Copy)]
+pub struct Row {
+    pub name: &'static str,
+    /// Its options that have no value.
+    pub options: &'static [&'static str],
+    /// Those that have one.
+    values: &'static [&'static str],
+    /// The operands that it needs, by their names on the page.
+    pub needed: &'static [&'static str],
+    /// How many operands it takes at most; `None` where any more may follow.
+    pub most: Option<usize>,
+    /// What the page says of it.
+    pub about: &'static str,
+}
+
+/// The options without a value of the commands that read lists of networks, of the others that read lists, and of all others.
+const LIST_OPTIONS: &[&str] = &["--host-bits", "--masks", "-k", "--skip-bad", "-h", "--help"];
+
+const KEEP_OPTIONS: &[&str] = &["-k", "--skip-bad", "-h", "--help"];
+
+const HELP_OPTIONS: &[&str] = &["-h", "--help"];
+
+/// The options with a value of the commands that write networks: the form of lists, how networks are written, and the file that
+/// the answer is written to.
+const LIST_VALUES: &[&str] = &["--form", "--format", "--prefix", "--suffix", "-o"];
+
+/// The operands of the commands that need two lists.
+const TWO_LISTS: &[&str] = &["A", "B"];
+
+/// The row of a command.
+pub fn row_of(command: Verb) -> Row {
     match command {
-        Verb::Lists(Operation::Merge) => "merge",
-        Verb::Lists(Operation::Nets) => "nets",
-        Verb::Lists(Operation::Minus) => "minus",
-        Verb::Lists(Operation::And) => "and",
-        Verb::Lists(Operation::Not) => "not",
-        Verb::Lists(Operation::Ranges) => "ranges",
-        Verb::Lists(Operation::Count) => "count",
-        Verb::Diff => "diff",
-        Verb::Same => "same",
-        Verb::Free => "free",
-        Verb::Acl => "acl",
-        Verb::Check => "check",
-        Verb::Which => "which",
-        Verb::Match => "match",
-        Verb::Look => "look",
-        Verb::Compile => "compile",
-        Verb::Smallest => "smallest",
-        Verb::Describe(Description::Zones) => "reverse",
-        Verb::Describe(Description::Masks) => "mask",
-        Verb::Class => "class",
-        Verb::Show => "show",
-        Verb::Split => "split",
-        Verb::Nth => "nth",
-        Verb::Help => "help",
-        Verb::Version => "--version",
+        Verb::Lists(Operation::Merge) => Row {
+            name: "merge", options: LIST_OPTIONS, values: LIST_VALUES,
+            needed: &[], most: None, about: MERGE,
+        },
+        Verb::Lists(Operation::Minus) => Row {
+            name: "minus", options: LIST_OPTIONS, values: LIST_VALUES,
+            needed: TWO_LISTS, most: None, about: MINUS,
+        },
+        Verb::Lists(Operation::And) => Row {
+            name: "and", options: LIST_OPTIONS, values: LIST_VALUES,
+            needed: TWO_LISTS, most: None, about: AND,
+        },
+        Verb::Lists(Operation::Not) => Row {
+            name: "not", options: LIST_OPTIONS, values: &["--in", "--form", "--format", "--prefix", "--suffix", "-o"],
+            needed: &[], most: None, about: NOT,
+        },
+        Verb::Lists(Operation::Ranges) => Row {
+            name: "ranges", options: LIST_OPTIONS, values: &["--form", "-o"],
+            needed: &[], most: None, about: RANGES,
+        },
+        Verb::Lists(Operation::Count) => Row {
+            name: "count", options: LIST_OPTIONS, values: &["--form", "-o"],
+            needed: &[], most: None, about: COUNT,
+        },
+        Verb::Diff => Row {
+            name: "diff", options: LIST_OPTIONS, values: &["--form", "--format", "-o"],
+            needed: TWO_LISTS, most: Some(2), about: DIFF,
+        },
+        Verb::Same => Row {
+            name: "same", options: &["--table-header", "--host-bits", "--masks", "-k", "--skip-bad", "-h", "--help"],
+            values: &["--form", "--table-separator", "--table-fields", "-o"], needed: TWO_LISTS, most: Some(2), about: SAME,
+        },
+        Verb::Free => Row {
+            name: "free", options: &["--all", "--host-bits", "--masks", "-k", "--skip-bad", "-h", "--help"],
+            values: &["--count", "--form", "--format", "--prefix", "--suffix", "-o"],
+            needed: &["POOL", "LEN"], most: None, about: FREE,
+        },
+        Verb::Acl => Row {
+            name: "acl", options: &["--shadowed", "--host-bits", "--masks", "-h", "--help"],
+            values: &["--diff", "--format", "--prefix", "--suffix", "-o"], needed: &["RULES"], most: Some(1), about: ACL,
+        },
+        Verb::Check => Row { name: "check", options: KEEP_OPTIONS, values: &[], needed: &[], most: None, about: CHECK },
+        Verb::Which => Row { name: "which", options: KEEP_OPTIONS, values: &[], needed: &["ADDR"], most: None, about: WHICH },
+        Verb::Match => Row {
+            name: "match", options: &["--any", "--header", "-v", "-c", "-q", "--host-bits", "--masks", "-k", "--skip-bad", "-h", "--help"],
+            values: &["--field", "--separator", "--form"], needed: &["LIST"], most: None, about: MATCH,
+        },
+        Verb::Look => Row {
+            name: "look", options: &["--any", "--header", "--keep", "--table-header", "--host-bits", "--masks", "-k", "--skip-bad", "-h", "--help"],
+            values: &["--field", "--separator", "--form", "--table-separator", "--table-fields", "--format"],
+            needed: &["TABLE"], most: Some(2), about: LOOK,
+        },
+        Verb::Compile => Row {
+            name: "compile", options: &["--table-header", "--host-bits", "--masks", "-k", "-h", "--help"],
+            values: &["--form", "--table-separator", "--table-fields"], needed: &["TABLE", "OUT"], most: Some(2), about: COMPILE,
+        },
+        Verb::Smallest => Row {
+            name: "smallest", options: &["--holes", "--table-header", "--host-bits", "--masks", "-k", "--skip-bad", "-h", "--help"],
+            values: &["--form", "--table-separator", "--table-fields", "-o"], needed: &["TABLE"], most: Some(1), about: SMALLEST,
+        },
+        Verb::Describe(Description::Zones) => Row {
+            name: "reverse", options: LIST_OPTIONS, values: &["--form", "-o"],
+            needed: &["NET|FILE"], most: Some(1), about: REVERSE,
+        },
+        Verb::Describe(Description::Masks) => Row {
+            name: "mask", options: LIST_OPTIONS, values: &["--form", "-o"],
+            needed: &["NET|LEN|MASK|FILE"], most: Some(1), about: MASK,
+        },
+        Verb::Class => Row {
+            name: "class", options: HELP_OPTIONS, values: &[],
+            needed: &["ADDR|FILE"], most: Some(1), about: CLASS,
+        },
+        Verb::Show => Row { name: "show", options: HELP_OPTIONS, values: &[], needed: &["HOST"], most: Some(1), about: SHOW },
+        Verb::Split => Row {
+            name: "split", options: LIST_OPTIONS, values: LIST_VALUES,
+            needed: &["NET|FILE", "LEN"], most: Some(2), about: SPLIT,
+        },
+        Verb::Nth => Row {
+            name: "nth", options: HELP_OPTIONS, values: &[],
+            needed: &["NET", "INDEX"], most: Some(2), about: NTH,
+        },
+        Verb::Help => Row { name: "help", options: HELP_OPTIONS, values: &[], needed: &[], most: Some(1), about: HELP },
+        Verb::Version => Row {
+            name: "--version", options: HELP_OPTIONS, values: &[],
+            needed: &[], most: Some(0), about: VERSION,
+        },
     }
+}
+
+/// The name of a command.
+#[inline]
+pub fn name_of(command: Verb) -> &'static str {
+    row_of(command).name
 }
 
 /// The options of a command that have no value.
+#[inline]
 pub fn options_of(command: Verb) -> &'static [&'static str] {
-    match command {
-        Verb::Lists(_) | Verb::Diff | Verb::Describe(_) | Verb::Split => {
-            &["--host-bits", "--masks", "-k", "--skip-bad", "-h", "--help"]
-        }
-        Verb::Same => &[
-            "--table-header",
-            "--host-bits",
-            "--masks",
-            "-k",
-            "--skip-bad",
-            "-h",
-            "--help",
-        ],
-        Verb::Compile => &[
-            "--table-header",
-            "--host-bits",
-            "--masks",
-            "-k",
-            "-h",
-            "--help",
-        ],
-        Verb::Smallest => &[
-            "--holes",
-            "--table-header",
-            "--host-bits",
-            "--masks",
-            "-k",
-            "--skip-bad",
-            "-h",
-            "--help",
-        ],
-        Verb::Free => &[
-            "--all",
-            "--host-bits",
-            "--masks",
-            "-k",
-            "--skip-bad",
-            "-h",
-            "--help",
-        ],
-        Verb::Acl => &["--shadowed", "--host-bits", "--masks", "-h", "--help"],
-        Verb::Check | Verb::Which => &["-k", "--skip-bad", "-h", "--help"],
-        Verb::Look => &[
-            "--any",
-            "--header",
-            "--keep",
-            "--table-header",
-            "--host-bits",
-            "--masks",
-            "-k",
-            "--skip-bad",
-            "-h",
-            "--help",
-        ],
-        Verb::Match => &[
-            "--any",
-            "--header",
-            "-v",
-            "-c",
-            "-q",
-            "--host-bits",
-            "--masks",
-            "-k",
-            "--skip-bad",
-            "-h",
-            "--help",
-        ],
-        Verb::Class | Verb::Show | Verb::Nth | Verb::Help | Verb::Version => &["-h", "--help"],
-    }
-}
-
-/// The options of a command that have a value: the network of `not --in`, how networks and look-ups are written, how many networks
-/// `free --count` tells, the access list of `acl --diff`, the field that `match` and `look` read, how lists and the rows of
-/// tables are read, and where the answer is written.
-fn values_of(command: Verb) -> &'static [&'static str] {
-    match command {
-        Verb::Lists(Operation::Not) => {
-            &["--in", "--form", "--format", "--prefix", "--suffix", "-o"]
-        }
-        Verb::Lists(Operation::Ranges) | Verb::Lists(Operation::Count) | Verb::Describe(_) => {
-            &["--form", "-o"]
-        }
-        Verb::Diff => &["--form", "--format", "-o"],
-        Verb::Lists(_) | Verb::Split => &["--form", "--format", "--prefix", "--suffix", "-o"],
-        Verb::Free => &[
-            "--count", "--form", "--format", "--prefix", "--suffix", "-o",
-        ],
-        Verb::Acl => &["--diff", "--format", "--prefix", "--suffix", "-o"],
-        Verb::Match => &["--field", "--separator", "--form"],
-        Verb::Look => &[
-            "--field",
-            "--separator",
-            "--form",
-            "--table-separator",
-            "--table-fields",
-            "--format",
-        ],
-        Verb::Compile => &["--form", "--table-separator", "--table-fields"],
-        Verb::Same | Verb::Smallest => &["--form", "--table-separator", "--table-fields", "-o"],
-        _ => &[],
-    }
+    row_of(command).options
 }
 
 /// Whether a command has an option with a value.
 #[inline]
 pub fn takes_value(command: Verb, option: &str) -> bool {
-    has(values_of(command), option)
-}
-
-/// The names of the operands that a command needs.
-pub fn needed_of(command: Verb) -> &'static [&'static str] {
-    match command {
-        Verb::Lists(Operation::Minus) | Verb::Lists(Operation::And) | Verb::Diff | Verb::Same => &[
-            "A", "B",
-        ],
-        Verb::Free => &["POOL", "LEN"],
-        Verb::Acl => &["RULES"],
-        Verb::Which => &["ADDR"],
-        Verb::Match => &["LIST"],
-        Verb::Look | Verb::Smallest => &["TABLE"],
-        Verb::Compile => &["TABLE", "OUT"],
-        Verb::Describe(Description::Zones) => &["NET|FILE"],
-        Verb::Describe(Description::Masks) => &["NET|LEN|MASK|FILE"],
-        Verb::Class => &["ADDR|FILE"],
-        Verb::Show => &["HOST"],
-        Verb::Split => &["NET|FILE", "LEN"],
-        Verb::Nth => &["NET", "INDEX"],
-        Verb::Lists(_) | Verb::Check | Verb::Help | Verb::Version => &[],
-    }
-}
-
-/// How many operands a command takes at most; `None` where any more may follow.
-#[inline]
-pub fn most_of(command: Verb) -> Option<usize> {
-    match command {
-        Verb::Lists(_) | Verb::Free | Verb::Check | Verb::Which | Verb::Match => None,
-        Verb::Diff | Verb::Same | Verb::Look | Verb::Compile | Verb::Split | Verb::Nth => Some(2),
-        Verb::Acl | Verb::Smallest | Verb::Describe(_) | Verb::Class | Verb::Show | Verb::Help =>
-            Some(1),
-        Verb::Version => Some(0),
-    }
+    has(row_of(command).values, option)
 }
 
 /// What the page says of a command.
+#[inline]
 pub fn about_of(command: Verb) -> &'static str {
-    match command {
-        Verb::Lists(Operation::Merge) => MERGE,
-        Verb::Lists(Operation::Nets) => NETS,
-        Verb::Lists(Operation::Minus) => MINUS,
-        Verb::Lists(Operation::And) => AND,
-        Verb::Lists(Operation::Not) => NOT,
-        Verb::Lists(Operation::Ranges) => RANGES,
-        Verb::Lists(Operation::Count) => COUNT,
-        Verb::Diff => DIFF,
-        Verb::Same => SAME,
-        Verb::Free => FREE,
-        Verb::Acl => ACL,
-        Verb::Check => CHECK,
-        Verb::Which => WHICH,
-        Verb::Match => MATCH,
-        Verb::Look => LOOK,
-        Verb::Compile => COMPILE,
-        Verb::Smallest => SMALLEST,
-        Verb::Describe(Description::Zones) => REVERSE,
-        Verb::Describe(Description::Masks) => MASK,
-        Verb::Class => CLASS,
-        Verb::Show => SHOW,
-        Verb::Split => SPLIT,
-        Verb::Nth => NTH,
-        Verb::Help => HELP,
-        Verb::Version => VERSION,
-    }
+    row_of(command).about
 }

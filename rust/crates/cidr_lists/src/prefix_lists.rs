@@ -1,0 +1,335 @@
+//! Prefix lists as Cisco IOS and FRR write them.
+
+use cidr_support::vec::Vec;
+use crate::columns::parts_of;
+use crate::errors::LineError;
+use crate::payloads::{network_of, number_of};
+use crate::route_errors::{RouteError, RouteListError};
+use crate::rules::action_of;
+use crate::texts::line_len;
+use cidr::{Family, IpCidr, Ipv4Cidr, Ipv6Cidr, NetworkBits};
+use cidr_io::lines::is_too_long;
+use cidr_io::shown::byte_excerpt;
+use cidr_routes::lists::Row;
+use cidr_sets::access::Action;
+use cidr_support::alloc::{AllocError, Global};
+
+/// A row of a prefix list.
+#[derive(Clone, Copy, Debug)]
+pub struct ListRow {
+    /// The number behind `seq`.
+    pub number: Option<u32>,
+    /// What the row does with the networks that it is about.
+    pub action: Action,
+    /// It is about networks in this one.
+    pub network: IpCidr,
+    /// The least prefix length of these in bits: that behind `ge`, or else that of the network.
+    pub low: u8,
+    /// The greatest: that behind `le`, or else the full one behind `ge`, and that of the network without.
+    pub high: u8,
+}
+
+/// A row of a prefix list of one family.
+#[derive(Clone, Copy, Debug)]
+pub struct NumberedRow<C: NetworkBits + Copy> {
+    /// The number behind `seq`, which says where it stands in the list.
+    pub number: Option<u32>,
+    /// The row.
+    pub row: Row<C>,
+}
+
+/// The rows of a prefix list of one name, those of each family in the order of their lines.
+pub struct NumberedRows {
+    /// Those of IPv4.
+    pub v4: Vec<NumberedRow<Ipv4Cidr>>,
+    /// Those of IPv6.
+    pub v6: Vec<NumberedRow<Ipv6Cidr>>,
+}
+
+/// The number behind a word, if a text begins with it, and the rest.
+fn option_in<'a>(word: &[u8], text: &'a [u8]) -> Result<(Option<u32>, &'a [u8]), RouteError> {
+    let (first, behind) = parts_of(text);
+    if first == word {
+        let (digits, rest) = parts_of(behind);
+        return match number_of(digits) {
+            Some(number) => Ok((Some(number), rest)),
+            None => Err(bad_number(digits)),
+        };
+    }
+    Ok((None, text))
+}
+
+/// The error of a number that is missing, or none.
+#[inline]
+fn bad_number(digits: &[u8]) -> RouteError {
+    if digits.is_empty() {
+        RouteError::Line(LineError::NoField)
+    } else {
+        RouteError::NoNumber(byte_excerpt(digits))
+    }
+}
+
+/// The lengths of a row, if they are in order.
+fn lengths_by(network: &IpCidr, ge: Option<u32>, le: Option<u32>) -> Option<(u8, u8)> {
+    let len = u32::from(network.network_length());
+    let width = u32::from(network.family().len());
+    let low = ge.unwrap_or(len);
+    let high = match le {
+        Some(le) => le,
+        None => match ge {
+            Some(_) => width,
+            None => len,
+        },
+    };
+    if len <= low && low <= high && high <= width {
+        Some((low as u8, high as u8))
+    } else {
+        None
+    }
+}
+
+/// The lengths of a row, by what stands behind its network, of which the number behind `ge` is read and the rest is left.
+fn lengths_behind(
+    network: &IpCidr,
+    text: &[u8],
+    ge: Option<u32>,
+    rest: &[u8],
+) -> Result<(u8, u8), RouteError> {
+    match option_in(b"le", rest) {
+        Err(e) => Err(e),
+        Ok(le) => {
+            if le.1.is_empty() {
+                match lengths_by(network, ge, le.0) {
+                    Some(lengths) => Ok(lengths),
+                    None => Err(RouteError::NoLengths(byte_excerpt(text))),
+                }
+            } else {
+                let (word, _) = parts_of(le.1);
+                Err(RouteError::NoWord(byte_excerpt(word)))
+            }
+        }
+    }
+}
+
+/// The lengths of a row, by what stands behind its network.
+#[inline]
+fn lengths_of(network: &IpCidr, text: &[u8]) -> Result<(u8, u8), RouteError> {
+    match option_in(b"ge", text) {
+        Err(e) => Err(e),
+        Ok(ge) => lengths_behind(network, text, ge.0, ge.1),
+    }
+}
+
+/// The network of a row of a family.
+fn network_in(family: Family, word: &[u8]) -> Result<IpCidr, RouteError> {
+    match network_of(word) {
+        Err(e) => Err(e),
+        Ok(network) => {
+            if network.family() == family {
+                Ok(network)
+            } else {
+                Err(RouteError::OtherFamily(byte_excerpt(word)))
+            }
+        }
+    }
+}
+
+/// The row of a number and an action, by what stands behind these.
+fn network_row(
+    family: Family,
+    number: Option<u32>,
+    action: Action,
+    text: &[u8],
+) -> Result<ListRow, RouteError> {
+    let (word, rest) = parts_of(text);
+    match network_in(family, word) {
+        Err(e) => Err(e),
+        Ok(network) => match lengths_of(&network, rest) {
+            Err(e) => Err(e),
+            Ok((low, high)) => Ok(ListRow {
+                number,
+                action,
+                network,
+                low,
+                high,
+            }),
+        },
+    }
+}
+
+/// The error of a word that is missing or another one.
+#[inline]
+fn bad_word(word: &[u8]) -> RouteError {
+    if word.is_empty() {
+        RouteError::Line(LineError::NoField)
+    } else {
+        RouteError::NoWord(byte_excerpt(word))
+    }
+}
+
+/// The row of a number, by what stands behind it.
+#[inline]
+fn action_row(family: Family, number: Option<u32>, text: &[u8]) -> Result<ListRow, RouteError> {
+    let (word, rest) = parts_of(text);
+    match action_of(word) {
+        None => Err(bad_word(word)),
+        Some(action) => network_row(family, number, action, rest),
+    }
+}
+
+/// The row that stands behind a name.
+#[inline]
+fn number_row(family: Family, text: &[u8]) -> Result<ListRow, RouteError> {
+    match option_in(b"seq", text) {
+        Err(e) => Err(e),
+        Ok((number, rest)) => action_row(family, number, rest),
+    }
+}
+
+/// The row and the name that stand behind the word of a list.
+fn name_row(family: Family, text: &[u8]) -> Result<(ListRow, &[u8]), RouteError> {
+    let (name, rest) = parts_of(text);
+    if name.is_empty() {
+        return Err(RouteError::Line(LineError::NoField));
+    }
+    match number_row(family, rest) {
+        Err(e) => Err(e),
+        Ok(row) => Ok((row, name)),
+    }
+}
+
+/// The family that a word is.
+#[inline]
+fn family_of(word: &[u8]) -> Option<Family> {
+    if word == b"ip".as_slice() {
+        return Some(Family::Ipv4);
+    }
+    if word == b"ipv6".as_slice() {
+        return Some(Family::Ipv6);
+    }
+    None
+}
+
+/// Whether a word is that of a list.
+#[inline]
+fn is_list_word(word: &[u8]) -> bool {
+    word == b"prefix-list".as_slice()
+}
+
+/// The row and the name that stand behind the word of a family.
+#[inline]
+fn list_row(family: Family, text: &[u8]) -> Result<(ListRow, &[u8]), RouteError> {
+    let (word, rest) = parts_of(text);
+    if is_list_word(word) {
+        return name_row(family, rest);
+    }
+    Err(bad_word(word))
+}
+
+/// Whether a line without white space at both ends is empty or a comment.
+#[inline]
+fn is_no_row(text: &[u8]) -> bool {
+    match text {
+        [] => true,
+        [first, ..] => *first == b'!' || *first == b'#',
+    }
+}
+
+/// The row of a prefix list that a line says, and the name of the list; `None` for a line that is blank or a comment, which
+/// begins with `!` or `#`. Of `ip prefix-list OURS seq 5 permit 10.0.0.0/8 ge 16` the lengths are 16 to 32. A line of more than
+/// 1 MiB is for the caller to find.
+///
+/// The first error is that of the first word that is wrong, from the front: `NoField` where it is missing, and `NoWord`; behind
+/// `seq`, `ge` and `le` it is `NoNumber`; of the network `NoField`, `Quoted`, `NotUtf8` or `NoNetwork`, where a set bit after the
+/// prefix is an error, or `OtherFamily`; and last `NoLengths`, where the lengths are not in this order: that of
+/// the network, that behind `ge`, that behind `le`, the full one. Neighbours may be equal. It takes time in the length of the line and
+/// allocates nothing.
+pub fn row_of(line: &[u8]) -> Result<Option<(ListRow, &[u8])>, RouteError> {
+    let text = line.trim_ascii();
+    if is_no_row(text) {
+        return Ok(None);
+    }
+    let (word, rest) = parts_of(text);
+    match family_of(word) {
+        None => Err(bad_word(word)),
+        Some(family) => match list_row(family, rest) {
+            Err(e) => Err(e),
+            Ok(row) => Ok(Some(row)),
+        },
+    }
+}
+
+/// The row of a network of one family.
+fn numbered<C: NetworkBits + Copy>(row: &ListRow, network: C) -> NumberedRow<C> {
+    NumberedRow {
+        number: row.number,
+        row: Row {
+            action: row.action,
+            network,
+            low: row.low,
+            high: row.high,
+        },
+    }
+}
+
+/// Adds the row that a line says, if it says one of the list of this name.
+fn add_row_line(
+    name: &[u8],
+    number: u64,
+    line: &[u8],
+    rows: &mut NumberedRows,
+) -> Result<(), RouteListError> {
+    if is_too_long(line) {
+        return Err(RouteListError::Line(number, RouteError::Line(LineError::TooLong)));
+    }
+    match row_of(line) {
+        Ok(None) => Ok(()),
+        Ok(Some((row, list))) => {
+            rows.push_of(name, &row, list)?;
+            Ok(())
+        }
+        Err(e) => Err(RouteListError::Line(number, e)),
+    }
+}
+
+impl NumberedRows {
+    /// No rows. It allocates nothing.
+    #[inline]
+    pub fn new(alloc: Global) -> NumberedRows {
+        NumberedRows {
+            v4: Vec::new(alloc),
+            v6: Vec::new(alloc),
+        }
+    }
+
+    /// Adds the row of a list behind those of its family, if the list has this name. After an error, which is that there is no
+    /// memory, what was added isn't told.
+    pub fn push_of(&mut self, name: &[u8], row: &ListRow, list: &[u8]) -> Result<(), AllocError> {
+        if list != name {
+            return Ok(());
+        }
+        match row.network {
+            IpCidr::V4(network) => self.v4.push(numbered(row, network))?,
+            IpCidr::V6(network) => self.v6.push(numbered(row, network))?,
+        }
+        Ok(())
+    }
+
+    /// The rows of the list of a name that a text says, by [`row_of`] of each line: those of other lists are read and passed
+    /// over. The error is that of the first line in error, with its number from 1 on, where one of more than 1 MiB is
+    /// `TooLong`; `NoMemory` may come before it. It takes time in the length of the text.
+    pub fn of_text(alloc: Global, name: &[u8], text: &[u8]) -> Result<NumberedRows, RouteListError> {
+        let mut rows = NumberedRows::new(alloc);
+        let mut rest = text;
+        let mut number = 1;
+        loop {
+            let (line, behind) = rest.split_at(line_len(rest));
+            add_row_line(name, number, line, &mut rows)?;
+            let Some((_, next)) = behind.split_first() else {
+                return Ok(rows);
+            };
+            rest = next;
+            number += 1;
+        }
+    }
+}
