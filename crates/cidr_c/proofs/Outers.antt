@@ -27,14 +27,14 @@ flipped p q r h = bit_cmp_total.antisymm q p ∙ ap ordering_reverse h
 shortened : (a p o : List Bool) → BeginsWith a p → BeginsWith a o → length p < length o → BeginsWith o p
 shortened a p o h k lt = ap (take (length p)) (sym k) ∙ (take-take (length p) (length o) a (omega (arith, lt)) ∙ h)
 
-module _ {C : Type 0} (bits : C → List Bool) (rows : List (C × ℕ)) (ordered : AreRowsInOrder bits rows) (outers : List ℕ) (place end : ℕ)
-    (row : C × ℕ) (here : slice_get rows place ≡ Some row) where
+module _ {C : Type 0} (bits : C → List Bool) (rows : List (C × ℕ)) (ordered : AreRowsInOrder bits rows) (outers : List ℕ) (inner end : ℕ)
+    (row : C × ℕ) (here : slice_get rows inner ≡ Some row) where
   -- the row before `end` isn't around this one: on to what is around that
-  pub on_to_outer : (other : C × ℕ) → 0 < end → end ≤ place → slice_get rows (end - 1) ≡ Some other → ¬ (AreBitsInside (bits row.0) (bits other.0))
+  pub on_to_outer : (other : C × ℕ) → 0 < end → end ≤ inner → slice_get rows (end - 1) ≡ Some other → ¬ (AreBitsInside (bits row.0) (bits other.0))
       → IsOuter bits rows (end - 1) (get_or outers (end - 1) 0)
-      → ((k : ℕ) (row other : C × ℕ) → end ≤ k → k < place → slice_get rows place ≡ Some row → slice_get rows k ≡ Some other
+      → ((k : ℕ) (row other : C × ℕ) → end ≤ k → k < inner → slice_get rows inner ≡ Some row → slice_get rows k ≡ Some other
       → ¬ (AreBitsInside (bits row.0) (bits other.0)))
-      → (k : ℕ) (row other : C × ℕ) → get_or outers (end - 1) 0 ≤ k → k < place → slice_get rows place ≡ Some row → slice_get rows k ≡ Some other
+      → (k : ℕ) (row other : C × ℕ) → get_or outers (end - 1) 0 ≤ k → k < inner → slice_get rows inner ≡ Some row → slice_get rows k ≡ Some other
       → ¬ (AreBitsInside (bits row.0) (bits other.0))
   on_to_outer other some upto there not its before k row' one from lt here' at larger =
       let same : row ≡ row' = same_Some row row' (sym here ∙ here') in
@@ -47,7 +47,7 @@ module _ {C : Type 0} (bits : C → List Bool) (rows : List (C × ℕ)) (ordered
           | inr apart ↦
               let big : AreBitsInside (bits row.0) (bits one.0) = subst (λ (r : C × ℕ). AreBitsInside (bits r.0) (bits one.0)) (sym same) larger in
               let low = not_less_back (bits one.0) (bits other.0) (ordered k (end - 1) one other (omega arith) at there).0 in
-              let high = (ordered (end - 1) place other row (omega arith) there here).0 in
+              let high = (ordered (end - 1) inner other row (omega arith) there here).0 in
               let begins : BeginsWith (bits other.0) (bits one.0) = begins_between (bits one.0) (bits row.0) (bits other.0) big.0 low high in
               elim (cases_lt (length (bits one.0)) (length (bits other.0))) [
                 | inl shorter ↦ its.last k other one from (omega arith) there at (begins, shorter)
@@ -60,7 +60,7 @@ module _ {C : Type 0} (bits : C → List Bool) (rows : List (C × ℕ)) (ordered
 
 -- the index at the row that is around is that of the smallest network around
 module _ (networks : List AnyIpCidr) (rows : List (AnyIpCidr × ℕ)) (ordered : AreRowsInOrder any_bits rows) (are : AreRowsOfList networks rows)
-    (place end : ℕ) (row : AnyIpCidr × ℕ) (here : slice_get rows place ≡ Some row) (outer : IsOuter any_bits rows place end) where
+    (inner end : ℕ) (row : AnyIpCidr × ℕ) (here : slice_get rows inner ≡ Some row) (outer : IsOuter any_bits rows inner end) where
   -- where another network around this one stands
   stands : (i : ℕ) (other : AnyIpCidr) → slice_get networks i ≡ Some other → IsAround row.0 other
       → (k : ℕ) × (slice_get rows k ≡ Some (other, i)) × (k < end)
@@ -68,8 +68,8 @@ module _ (networks : List AnyIpCidr) (rows : List (AnyIpCidr × ℕ)) (ordered :
       let c = (are (other, i)).1 there in
       let k = c.0 in
       let at : slice_get rows k ≡ Some (other, i) = slice_get-get_or rows k (other, i) c.1 ∙ ap Some c.2 in
-      elim (cases_lt k place) [
-        | inr behind ↦ absurd (not_inside_behind (any_bits row.0) (any_bits other) (ordered place k row (other, i) behind here at).0 around)
+      elim (cases_lt k inner) [
+        | inr behind ↦ absurd (not_inside_behind (any_bits row.0) (any_bits other) (ordered inner k row (other, i) behind here at).0 around)
         | inl before ↦ elim (cases_lt k end) [
           | inl lt ↦ (k, at, lt)
           | inr ge ↦ absurd (outer.last k row (other, i) ge before here at around)
@@ -82,7 +82,7 @@ module _ (networks : List AnyIpCidr) (rows : List (AnyIpCidr × ℕ)) (ordered :
     λ i other there around. let s = stands i other there around in omega (arith, s.2, none.0),
   )
   nearest_index index (inr some) =
-      let within : end - 1 < length rows = omega (arith, some.0, outer.upto, slice_get_within rows place row here) in
+      let within : end - 1 < length rows = omega (arith, some.0, outer.upto, slice_get_within rows inner row here) in
       let last : AnyIpCidr × ℕ = get_or rows (end - 1) row in
       let at : slice_get rows (end - 1) ≡ Some last = slice_get-get_or rows (end - 1) row within in
       let is : index ≡ last.1 = some.1 last at in
@@ -109,11 +109,11 @@ pub outers_more : {C : Type 0} (bits : C → List Bool) (rows : List (C × ℕ))
     → IsOuter bits rows n end → AreOuters bits rows (outers ++ end ∷ []) (n + 1)
 outers_more bits rows outers n end are one = record {
   size = omega (arith, length_push outers end, are.size);
-  each = λ place lt. elim (cases_lt place n) [
+  each = λ inner lt. elim (cases_lt inner n) [
     | inl before ↦
-        subst (IsOuter bits rows place) (sym (get_or_append_left outers (end ∷ []) 0 place (omega (arith, before, are.size)))) (are.each place before)
+        subst (IsOuter bits rows inner) (sym (get_or_append_left outers (end ∷ []) 0 inner (omega (arith, before, are.size)))) (are.each inner before)
     | inr past ↦
-        let at : place ≡ n = omega (arith, lt, past) in
+        let at : inner ≡ n = omega (arith, lt, past) in
         subst (λ (k : ℕ). IsOuter bits rows k (get_or (outers ++ end ∷ []) k 0)) (sym at)
         (subst (IsOuter bits rows n) (sym (get_or_push outers end 0 n are.size)) one)
   ];

@@ -10,17 +10,17 @@ use Rattle.cidr_c.specs.declared.nested.Nested.{Nested}
 
 module _ {C : Type 0} (bits : C → List Bool) (rows : List (C × ℕ)) where
   -- the last of the rows before one whose network that of this one is inside is the last of the first `end`, or there is none
-  pub record IsOuter (place end : ℕ) : Type 0 where
-    pub upto : end ≤ place
-    pub around : 0 < end → (row outer : C × ℕ) → slice_get rows place ≡ Some row → slice_get rows (end - 1) ≡ Some outer
+  pub record IsOuter (inner end : ℕ) : Type 0 where
+    pub upto : end ≤ inner
+    pub around : 0 < end → (row outer : C × ℕ) → slice_get rows inner ≡ Some row → slice_get rows (end - 1) ≡ Some outer
         → AreBitsInside (bits row.0) (bits outer.0)
-    pub last : (k : ℕ) (row other : C × ℕ) → end ≤ k → k < place → slice_get rows place ≡ Some row → slice_get rows k ≡ Some other
+    pub last : (k : ℕ) (row other : C × ℕ) → end ≤ k → k < inner → slice_get rows inner ≡ Some row → slice_get rows k ≡ Some other
         → ¬ (AreBitsInside (bits row.0) (bits other.0))
 
   -- those of the first n rows
   pub record AreOuters (outers : List ℕ) (n : ℕ) : Type 0 where
     pub size : length outers ≡ n
-    pub each : (place : ℕ) → place < n → IsOuter place (slice_index_or outers place 0)
+    pub each : (inner : ℕ) → inner < n → IsOuter inner (slice_index_or outers inner 0)
 
 -- the index of the last of the first `end` rows, or that which stands for none
 abbrev pub IsIndexBefore : {C : Type 0} → List (C × ℕ) → ℕ → ℕ → Type 0

@@ -62,15 +62,15 @@ fn is_smaller_inside<C: BitString>(network: &C, outer: &C) -> bool
 
 /// How many rows there are up to the smallest network around that of a row, by those of the rows before it: it may be inside the
 /// one before it, or else inside what that is inside.
-fn outer_of<C: NetworkBits>(rows: &[(C, usize)], outers: &[usize], place: usize) -> usize
+fn outer_of<C: NetworkBits>(rows: &[(C, usize)], outers: &[usize], inner: usize) -> usize
     requires rows { AreRowsInOrder C.bits rows.now }
-    requires place { place < length rows.now }
-    requires before { AreOuters C.bits rows.now outers.now place }
-    ensures { IsOuter C.bits rows.now place result }
+    requires inner { inner < length rows.now }
+    requires before { AreOuters C.bits rows.now outers.now inner }
+    ensures { IsOuter C.bits rows.now inner result }
 {
-    let mut end = place;
+    let mut end = inner;
     while end > 0 {
-        if is_smaller_inside(&rows[place].0, &rows[end - 1].0) {
+        if is_smaller_inside(&rows[inner].0, &rows[end - 1].0) {
             return end;
         }
         end = outers[end - 1];
@@ -84,8 +84,8 @@ fn outers_of<C: NetworkBits>(alloc: Global, rows: &[(C, usize)]) -> Result<Vec<u
     ensures { IfOk result (λ outers. AreOuters C.bits rows.now outers.items (length rows.now)) }
 {
     let mut outers = Vec::with_capacity(alloc, rows.len())?;
-    for place in 0..rows.len() {
-        let outer = outer_of(rows, outers.as_slice(), place);
+    for inner in 0..rows.len() {
+        let outer = outer_of(rows, outers.as_slice(), inner);
         outers.push(outer)?;
     }
     Ok(outers)
@@ -113,8 +113,8 @@ fn put_nearest(rows: &[(AnyIpCidr, usize)], outers: &[usize], out: &mut [usize])
     ensures behind { (many : ℕ) → ((row : Network × ℕ) (k : ℕ) → slice_get rows.now k ≡ Some row → row.1 < many)
         → drop many out.new ≡ drop many out.old }
 {
-    for place in 0..rows.len() {
-        out[rows[place].1] = index_before(rows, outers[place]);
+    for inner in 0..rows.len() {
+        out[rows[inner].1] = index_before(rows, outers[inner]);
     }
 }
 

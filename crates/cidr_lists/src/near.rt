@@ -85,11 +85,11 @@ fn is_same<C: NetworkBits>(one: &C, other: &C) -> bool
 }
 
 /// The row at an index.
-fn row_at<C: Copy>(rows: &[(C, usize)], place: usize) -> (C, usize)
-    requires { place < length rows.now }
-    ensures { slice_get rows.now place ≡ Some result }
+fn row_at<C: Copy>(rows: &[(C, usize)], index: usize) -> (C, usize)
+    requires { index < length rows.now }
+    ensures { slice_get rows.now index ≡ Some result }
 {
-    rows[place]
+    rows[index]
 }
 
 /// The last row.
@@ -203,16 +203,16 @@ fn pass<C: NetworkExt>(
     near: &mut [Near],
     nest: &mut Vec<(C, usize)>,
     rows: &[(C, usize)],
-    place: usize,
+    index: usize,
 ) -> Result<(), AllocError>
     requires rows { AreRows rows.now (length near.old) }
     requires ascending { AreRowsInOrder C.bits rows.now }
-    requires within { place < length rows.now }
-    requires passed { IsPassed C.bits (take place rows.now) near.old nest.old.items }
-    ensures passed { OnOk result (IsPassed C.bits (take (place + 1) rows.now) near.new nest.new.items) }
+    requires within { index < length rows.now }
+    requires passed { IsPassed C.bits (take index rows.now) near.old nest.old.items }
+    ensures passed { OnOk result (IsPassed C.bits (take (index + 1) rows.now) near.new nest.new.items) }
     ensures others { AreOthersSame rows.now near.old near.new }
 {
-    let row = row_at(rows, place);
+    let row = row_at(rows, index);
     let closed = close(nest, &row.0);
     let outer = last_of(nest.as_slice());
     if let Some(first) = same_of(outer, &row.0) {
@@ -243,8 +243,8 @@ fn keep<C: NetworkExt>(
     ensures others { AreOthersSame rows.now near.old near.new }
 {
     let mut nest = Vec::new(alloc);
-    for place in 0..rows.len() {
-        pass(near, &mut nest, rows, place)?;
+    for index in 0..rows.len() {
+        pass(near, &mut nest, rows, index)?;
     }
     Ok(())
 }

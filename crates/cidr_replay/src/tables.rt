@@ -72,13 +72,13 @@ fn rows(rows: &[(AnyIpCidr, usize)], answer: &mut Answer) {
     answer.more(&']');
 }
 
-/// Appends the row of the longest match behind its place, or `none`.
+/// Appends the row of the longest match behind its index, or `none`.
 fn matched(table: &Table, asked: &AnyIpCidr, answer: &mut Answer) {
-    let Some(place) = longest_match(&mut table.probe(), asked) else {
+    let Some(index) = longest_match(&mut table.probe(), asked) else {
         return answer.show(&"none");
     };
-    if let Some((key, value)) = table.row(place) {
-        answer.show(&format_args!("{place}@{}={value}", key.with_length()));
+    if let Some((key, value)) = table.row(index) {
+        answer.show(&format_args!("{index}@{}={value}", key.with_length()));
     }
 }
 
@@ -95,8 +95,8 @@ pub fn load(kind: &str, tokens: &mut Tokens<'_>, answer: &mut Answer) -> Option<
             }
             Some(())
         }
-        Err(LoadError::Prefix(place, error)) => {
-            answer.show(&format_args!("err Prefix {place}"));
+        Err(LoadError::Prefix(index, error)) => {
+            answer.show(&format_args!("err Prefix {index}"));
             errors::of_prefix(&error, answer);
             Some(())
         }
@@ -110,11 +110,11 @@ pub fn cover(kind: &str, tokens: &mut Tokens<'_>, answer: &mut Answer) -> Option
         return None;
     }
     let mut table = Table::new(tokens.alloc);
-    for place in 0..usize::MAX {
+    for index in 0..usize::MAX {
         let Some(word) = tokens.word() else {
             break;
         };
-        table.set(word.parse().ok()?, place).ok()?;
+        table.set(word.parse().ok()?, index).ok()?;
     }
     let mut networks = vec![in tokens.alloc; AnyIpCidr::Any; table.len()].ok()?;
     let count = table.least_cover(networks.as_mut_slice());

@@ -373,21 +373,21 @@ pub fn line_parts<'a, M: Memory>(
 }
 
 /// The operand at an index, counted from 0, or what stands for it.
-fn operand_or<'a>(operands: &[&'a str], place: usize, otherwise: &'a str) -> &'a str
-    ensures { result.now ≡ operand_or (texts operands.now) place otherwise.now }
+fn operand_or<'a>(operands: &[&'a str], index: usize, otherwise: &'a str) -> &'a str
+    ensures { result.now ≡ operand_or (texts operands.now) index otherwise.now }
 {
-    match operands.get(place) {
+    match operands.get(index) {
         Some(operand) => operand,
         None => otherwise,
     }
 }
 
-/// The operands from a place on.
-pub fn operands_from<'a>(operands: &'a [&'a str], place: usize) -> &'a [&'a str]
-    ensures { texts result.now ≡ drop place (texts operands.now) }
+/// The operands from an index on, counted from 0.
+pub fn operands_from<'a>(operands: &'a [&'a str], index: usize) -> &'a [&'a str]
+    ensures { texts result.now ≡ drop index (texts operands.now) }
 {
-    if place < operands.len() {
-        &operands[place..]
+    if index < operands.len() {
+        &operands[index..]
     } else {
         &[]
     }

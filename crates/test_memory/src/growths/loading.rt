@@ -15,10 +15,10 @@ fn loaded(alloc: Global, bytes: &[u8]) -> Result<Places, LoadError> {
     }
 }
 
-/// Whether a list is refused for the prefix at this place.
-fn is_refused(loaded: Result<Places, LoadError>, place: usize) -> bool {
+/// Whether a list is refused for the prefix at this index.
+fn is_refused(loaded: Result<Places, LoadError>, index: usize) -> bool {
     match loaded {
-        Err(LoadError::Prefix(at, _)) => at == place,
+        Err(LoadError::Prefix(at, _)) => at == index,
         _ => false,
     }
 }
@@ -30,7 +30,7 @@ pub fn load(alloc: Global) -> Result<bool, AllocError> {
         return Err(AllocError);
     };
     let third = match two.row(2) {
-        Some((network, place)) => *network == block(0x0a01_0000, 16) && *place == 1,
+        Some((network, index)) => *network == block(0x0a01_0000, 16) && *index == 1,
         None => false,
     };
     let wrong = is_refused(loaded(alloc, &[8, 10, 33]), 1);

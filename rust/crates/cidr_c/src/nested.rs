@@ -42,10 +42,10 @@ fn is_smaller_inside<C: BitString>(network: &C, outer: &C) -> bool {
 
 /// How many rows there are up to the smallest network around that of a row, by those of the rows before it: it may be inside the
 /// one before it, or else inside what that is inside.
-fn outer_of<C: NetworkBits>(rows: &[(C, usize)], outers: &[usize], place: usize) -> usize {
-    let mut end = place;
+fn outer_of<C: NetworkBits>(rows: &[(C, usize)], outers: &[usize], inner: usize) -> usize {
+    let mut end = inner;
     while end > 0 {
-        if is_smaller_inside(&rows[place].0, &rows[end - 1].0) {
+        if is_smaller_inside(&rows[inner].0, &rows[end - 1].0) {
             return end;
         }
         end = outers[end - 1];
@@ -57,8 +57,8 @@ fn outer_of<C: NetworkBits>(rows: &[(C, usize)], outers: &[usize], place: usize)
 #[inline]
 fn outers_of<C: NetworkBits>(alloc: Global, rows: &[(C, usize)]) -> Result<Vec<usize>, AllocError> {
     let mut outers = Vec::with_capacity(alloc, rows.len())?;
-    for place in 0..rows.len() {
-        let outer = outer_of(rows, outers.as_slice(), place);
+    for inner in 0..rows.len() {
+        let outer = outer_of(rows, outers.as_slice(), inner);
         outers.push(outer)?;
     }
     Ok(outers)
@@ -77,8 +77,8 @@ fn index_before(rows: &[(AnyIpCidr, usize)], end: usize) -> usize {
 /// Puts the index of the smallest network around each at the index of its own row.
 #[inline]
 fn put_nearest(rows: &[(AnyIpCidr, usize)], outers: &[usize], out: &mut [usize]) {
-    for place in 0..rows.len() {
-        out[rows[place].1] = index_before(rows, outers[place]);
+    for inner in 0..rows.len() {
+        out[rows[inner].1] = index_before(rows, outers[inner]);
     }
 }
 

@@ -73,8 +73,8 @@ fn is_same<C: NetworkBits>(one: &C, other: &C) -> bool {
 
 /// The row at an index.
 #[inline]
-fn row_at<C: Copy>(rows: &[(C, usize)], place: usize) -> (C, usize) {
-    rows[place]
+fn row_at<C: Copy>(rows: &[(C, usize)], index: usize) -> (C, usize) {
+    rows[index]
 }
 
 /// The last row.
@@ -171,9 +171,9 @@ fn pass<C: NetworkExt>(
     near: &mut [Near],
     nest: &mut Vec<(C, usize)>,
     rows: &[(C, usize)],
-    place: usize,
+    index: usize,
 ) -> Result<(), AllocError> {
-    let row = row_at(rows, place);
+    let row = row_at(rows, index);
     let closed = close(nest, &row.0);
     let outer = last_of(nest.as_slice());
     if let Some(first) = same_of(outer, &row.0) {
@@ -200,8 +200,8 @@ fn keep<C: NetworkExt>(
     rows: &[(C, usize)],
 ) -> Result<(), AllocError> {
     let mut nest = Vec::new(alloc);
-    for place in 0..rows.len() {
-        pass(near, &mut nest, rows, place)?;
+    for index in 0..rows.len() {
+        pass(near, &mut nest, rows, index)?;
     }
     Ok(())
 }

@@ -5,8 +5,8 @@ use Rattle.cidr_c.proofs.nested.outer_of.Given as goal
 -- none of the rows from `end` on is around this one
 abbrev pub invariant-loop-end : goal.invariant-loop-end
 invariant-loop-end g l = record {
-  upto : l.end ≤ l.place;
-  last : (k : ℕ) (row other : g.row.C.Denot × ℕ) → l.end ≤ k → k < l.place → slice_get l.rows l.place ≡ Some row → slice_get l.rows k ≡ Some other
+  upto : l.end ≤ l.inner;
+  last : (k : ℕ) (row other : g.row.C.Denot × ℕ) → l.end ≤ k → k < l.inner → slice_get l.rows l.inner ≡ Some row → slice_get l.rows k ≡ Some other
       → ¬ (AreBitsInside (g.C.BitString.bits row.0) (g.C.BitString.bits other.0));
 }
 

@@ -3,9 +3,9 @@ use Rattle.cidr_c.specs.Nested.{AreOuters}
 use Rattle.cidr_c.proofs.Outers.{outers_more}
 use Rattle.cidr_c.proofs.nested.outers_of.Goals as goal
 
-pub loop-place-preserved : goal.loop-place-preserved
-loop-place-preserved g c =
+pub loop-inner-preserved : goal.loop-inner-preserved
+loop-inner-preserved g c =
     let bits = g.C.BitString.bits in
     let rows = c.args.rows.now in
-    subst (λ (outers : List ℕ). AreOuters bits rows outers (c.loop-place.place + 1)) (sym c.in_ok-push.ensures.items)
-    (outers_more bits rows c.loop-place.outers.items c.loop-place.place c.outer_of-outer.result c.loop-place.invariant c.outer_of-outer.ensures)
+    subst (λ (outers : List ℕ). AreOuters bits rows outers (c.loop-inner.inner + 1)) (sym c.in_ok-push.ensures.items)
+    (outers_more bits rows c.loop-inner.outers.items c.loop-inner.inner c.outer_of-outer.result c.loop-inner.invariant c.outer_of-outer.ensures)

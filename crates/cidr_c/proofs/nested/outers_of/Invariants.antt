@@ -1,5 +1,5 @@
 use Rattle.cidr_c.specs.Nested.{AreOuters}
 use Rattle.cidr_c.proofs.nested.outers_of.Given as goal
 
-abbrev pub invariant-loop-place : goal.invariant-loop-place
-invariant-loop-place g l = AreOuters g.C.BitString.bits l.rows l.outers.items l.place
+abbrev pub invariant-loop-inner : goal.invariant-loop-inner
+invariant-loop-inner g l = AreOuters g.C.BitString.bits l.rows l.outers.items l.inner

@@ -325,18 +325,18 @@ pub fn line_parts<'a, M: Memory>(
 
 /// The operand at an index, counted from 0, or what stands for it.
 #[inline]
-fn operand_or<'a>(operands: &[&'a str], place: usize, otherwise: &'a str) -> &'a str {
-    match operands.get(place) {
+fn operand_or<'a>(operands: &[&'a str], index: usize, otherwise: &'a str) -> &'a str {
+    match operands.get(index) {
         Some(operand) => operand,
         None => otherwise,
     }
 }
 
-/// The operands from a place on.
+/// The operands from an index on, counted from 0.
 #[inline]
-pub fn operands_from<'a>(operands: &'a [&'a str], place: usize) -> &'a [&'a str] {
-    if place < operands.len() {
-        &operands[place..]
+pub fn operands_from<'a>(operands: &'a [&'a str], index: usize) -> &'a [&'a str] {
+    if index < operands.len() {
+        &operands[index..]
     } else {
         &[]
     }

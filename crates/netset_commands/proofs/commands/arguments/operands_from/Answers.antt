@@ -4,6 +4,6 @@ use Rattle.std.proofs.lemmas.List.{take_rest}
 use Rattle.netset_commands.specs.Table.{texts}
 use Rattle.netset_commands.proofs.commands.arguments.operands_from.Goals as goal
 
-pub returns-then-place-operands : goal.returns-then-place-operands
-returns-then-place-operands c =
-    ap texts (take_rest c.args.operands.now c.args.place) ∙ sym (drop-map (λ (word : Bor (List ℕ)). word.now) c.args.place c.args.operands.now)
+pub returns-then-index-operands : goal.returns-then-index-operands
+returns-then-index-operands c =
+    ap texts (take_rest c.args.operands.now c.args.index) ∙ sym (drop-map (λ (word : Bor (List ℕ)). word.now) c.args.index c.args.operands.now)
