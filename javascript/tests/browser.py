@@ -1,12 +1,15 @@
 #!/usr/bin/env python3
 """browser.py OUT: the package in Chromium: without a policy, under one that allows WebAssembly and one that does not, and in a
-Worker; and then the page. Without Chromium it says so."""
+Worker; then the tests that run in Node too, that of the calls where OUT/calls has what calls.py has printed; and then the page.
+Without Chromium it says so."""
 import pathlib
 import sys
 
 import driver
 import page
 
+# of the tests that run in Node too the words of the command line; all strings would take 4 s more
+TESTS = {"calls": ["/pcidr", "/calls"], "vectors": ["/pcidr", "every", "10"], "memory": ["/pcidr"]}
 POLICIES = {"/none": None, "/strict": "script-src 'self'", "/wasm": "default-src 'self'; script-src 'self' 'wasm-unsafe-eval'; worker-src 'self'"}
 LOAD = """const { load } = await import('/pcidr/pcidr.js');
 const { NetworkSet } = await load();
@@ -22,11 +25,32 @@ return await new Promise((done, wrong) => {
     worker.postMessage(['10.0.0.0/9', '10.128.0.0/9']);
 });"""
 
+TEST = """const [test, words] = args, lines = [];
+globalThis.words = words;
+console.log = (line) => lines.push(line);
+await import(`/tests/${test}.mjs`).catch((error) => lines.push(`FAILED: ${test}.mjs: ${error}`));
+return lines"""
 
-def tried(browser, folder):
+
+def tested(browser, folder, base):
+    """Those tests of the package in that folder, each in a page of its own; how many fail."""
+    tests, wrong = folder / "tests", 0
+    tests.symlink_to(pathlib.Path(__file__).resolve().parent)
+    for test, words in TESTS.items():
+        if test == "calls" and not (folder / "calls").exists():
+            continue
+        browser.go(base + "/none")
+        lines = browser.wait(TEST, test, words)["ok"]
+        wrong += lines[-1].startswith("FAILED")
+        print(*(f"in Chromium: {line}" for line in lines), sep="\n")
+    tests.unlink()
+    return wrong
+
+
+def tried(browser, folder, base):
     """The package in that folder; how many policies it does not meet."""
     (folder / "worker.js").write_text(WORK)
-    base, wrong = driver.served(str(folder), POLICIES), 0
+    wrong = 0
     for path in POLICIES:
         browser.go(base + path)
         loaded, worked = browser.wait(LOAD), None
@@ -50,7 +74,8 @@ def main():
         return 0
     browser = driver.Browser(1000, 640)  # a larger window costs more of each picture
     try:
-        wrong = tried(browser, folder) + page.tried(browser, (folder / "plan.html").as_uri())
+        base = driver.served(str(folder), POLICIES)
+        wrong = tried(browser, folder, base) + tested(browser, folder, base) + page.tried(browser, (folder / "plan.html").as_uri())
         print(f"Chromium took {browser.seconds():.0f} s of processor time")
     finally:
         browser.close()

@@ -1,10 +1,9 @@
-// node memory.mjs PACKAGE: memory is refused at each growth of it in turn. A call that gets none throws a NoMemoryError, what there was
+// node memory.mjs PACKAGE, and in a page: memory is refused at each growth of it in turn. A call that gets none throws a NoMemoryError, what there was
 // stays as it was, and the next call is answered rightly.
-import { readFileSync } from "node:fs";
-import { pathToFileURL } from "node:url";
+import { is_same, package_, read } from "./here.mjs";
 
-const { errors, loadSync } = await import(`${pathToFileURL(process.argv[2])}/pcidr.js`);
-const whole = readFileSync(`${process.argv[2]}/pcidr.wasm`);
+const { errors, loadSync } = await import(`${package_}/pcidr.js`);
+const whole = await read(`${package_}/pcidr.wasm`);
 
 /** A number of the binary format, and how many bytes it has. */
 function leb(at) {
@@ -27,7 +26,7 @@ function withGivenMemory() {
     }
     // an import: the module "m", the name "m", a memory of at least so many pages
     const given = [1, 1, 109, 1, 109, 2, 0, ...asLeb(least)];
-    return [new WebAssembly.Module(Buffer.concat(parts.map((part) => part ?? Buffer.from([2, ...asLeb(given.length), ...given])))), least];
+    return [new WebAssembly.Module(Uint8Array.from(parts.flatMap((part) => [...(part ?? [2, ...asLeb(given.length), ...given])]))), least];
 }
 const [module, least] = withGivenMemory();
 let most, memory; // how many pages the memory may have, and the last one
@@ -65,7 +64,7 @@ function run(pages) {
             refused++;
         }
         const right = table.lookup("10.200.0.1")[1] === 1 && table.lookup("11.0.0.0") === null && String(small.intersection(["10.64.0.0/10", "192.0.2.7"])) === "10.64.0.0/10,192.0.2.7";
-        if (!right || Buffer.compare(kept, list.toValues())) throw new Error(`wrong after a call without memory, at ${pages} pages: ${call}`);
+        if (!right || !is_same(kept, list.toValues())) throw new Error(`wrong after a call without memory, at ${pages} pages: ${call}`);
     }
     return refused;
 }

@@ -1,10 +1,9 @@
-// node vectors.mjs PACKAGE: what the package says of 200,000 strings, whose sums are those of vectors.txt, which vectors.py has made with
-// Python's `ipaddress`. With a number behind it, it prints the lines of that block, as `vectors.py show` does.
-import { createHash } from "node:crypto";
-import { readFileSync } from "node:fs";
-import { pathToFileURL } from "node:url";
+// node vectors.mjs PACKAGE, and in a page: what the package says of 200,000 strings, whose sums are those of vectors.txt, which
+// vectors.py has made with Python's `ipaddress`. With a number behind it, it prints the lines of that block, as `vectors.py show` does;
+// with `every 10` it takes every tenth block only.
+import { given, package_, read, subtle } from "./here.mjs";
 
-const { load, PcidrError } = await import(`${pathToFileURL(process.argv[2])}/pcidr.js`);
+const { load, PcidrError } = await import(`${package_}/pcidr.js`);
 const { Network } = await load();
 const EACH = 1000;
 Error.stackTraceLimit = 0; // 40,000 strings are refused
@@ -64,17 +63,20 @@ function* block(number) {
         before = n;
     }
 }
-if (process.argv[3] !== undefined) {
-    process.stdout.write([...block(Number(process.argv[3]))].join(""));
+const utf8 = new TextEncoder();
+if (given.length === 1) {
+    console.log([...block(Number(given[0]))].join("").trimEnd());
 } else {
-    const sums = readFileSync(new URL("vectors.txt", import.meta.url), "utf8").trim().split("\n");
-    let networks = 0, wrong = 0;
-    sums.forEach((sum, number) => {
+    const sums = new TextDecoder().decode(await read(new URL("vectors.txt", import.meta.url))).trim().split("\n");
+    const every = Number(given[1] ?? 1);
+    let blocks = 0, networks = 0, wrong = 0;
+    for (let number = 0; number < sums.length; number += every, blocks++) {
         const lines = [...block(number)];
         networks += lines.filter((line) => !line.endsWith(" -\n")).length;
-        const got = createHash("sha256").update(lines.join("")).digest("hex").slice(0, 32);
-        if (got !== sum && wrong++ < 5) console.log(`block ${number} differs: compare \`vectors.py show ${number}\` with \`vectors.mjs PACKAGE ${number}\``);
-    });
-    console.log(`${EACH * sums.length} strings, ${networks} of them networks: ${wrong} of ${sums.length} blocks differ from Python's ipaddress`);
-    process.exit(wrong ? 1 : 0);
+        const digest = new Uint8Array(await subtle.digest("SHA-256", utf8.encode(lines.join("")))).subarray(0, 16);
+        const got = Array.from(digest, (byte) => byte.toString(16).padStart(2, "0")).join("");
+        if (got !== sums[number] && wrong++ < 5) console.log(`block ${number} differs: compare \`vectors.py show ${number}\` with \`vectors.mjs PACKAGE ${number}\``);
+    }
+    console.log(`${EACH * blocks} strings, ${networks} of them networks: ${wrong} of ${blocks} blocks differ from Python's ipaddress`);
+    if (wrong) throw new Error("not as ipaddress");
 }
