@@ -20,6 +20,7 @@ HOST_BITS_CLEARED = 1
 HOST_BITS_REFUSED_WITH_MASKS = 2
 HOST_BITS_CLEARED_WITH_MASKS = 3
 NO_INDEX = 0xFFFFFFFFFFFFFFFF
+LENGTHS = 130
 NO_ROW = 0xFFFFFFFF
 
 
@@ -211,11 +212,11 @@ contains:add overlaps:add is_sibling_of:add spanning:addd compare:add compare_ho
 difference:aecececf symmetric_difference:aecececf union_in_place:aecfec intersection_in_place:aecfec difference_in_place:aecfec
 complement:aecdecf is_subset:aececn is_disjoint:aececn summarize:addecf ranges:aececf count_ipv4:aeck count_ipv6:aeck nth_ipv4:aeciid
 nth_ipv6:aeciid first_free:aecjd best_free:aecjd contains_each:aececec longest_match_each:aececec nearest_each:aecec sort_order:aececf
-table_order:aececf rows_find:aecdf rows_longest:aecdf rows_covered:aecdff rows_covering:aecdecf rows_insert:aecfdf rows_remove:aecfdf
-covering:aecdecf covered:aecdecf permits:aecd permitted:aececf shadowed:aececf deciding:aecdecf smallest:aececf forwards_same:aececn
-ipv4_table_build:aecececo ipv6_table_build:aecececo ipv4_table_check:aecececa ipv6_table_check:aecececa ipv4_table_lookup:aececpd
-ipv6_table_lookup:aececpd ipv4_table_lookup_each:aececpecec ipv6_table_lookup_each:aececpecec file_open:aecq file_check:aec
-file_lookup:aecqdr file_lookup_each:aecqecec set_has:aecqd set_has_each:aecqecec file_write:aececececf set_write:aececf
+table_order:aececf rows_find:aecdf rows_lengths:aecec rows_longest:aececdf rows_covered:aecdff rows_covering:aecdecf rows_insert:aececfdf
+rows_remove:aecfdf covering:aecdecf covered:aecdecf permits:aecd permitted:aececf shadowed:aececf deciding:aecdecf smallest:aececf
+forwards_same:aececn ipv4_table_build:aecececo ipv6_table_build:aecececo ipv4_table_check:aecececa ipv6_table_check:aecececa
+ipv4_table_lookup:aececpd ipv6_table_lookup:aececpd ipv4_table_lookup_each:aececpecec ipv6_table_lookup_each:aececpecec file_open:aecq
+file_check:aec file_lookup:aecqdr file_lookup_each:aecqecec set_has:aecqd set_has_each:aecqecec file_write:aececececf set_write:aececf
 """
 
 

@@ -649,9 +649,9 @@ typedef struct {
     PyObject_HEAD
     int kind;              /* of what it finds rows */
     PyObject *kept;        /* what has the memory, or null once the collector has it; of rows that change their networks */
-    PyObject *rows[2];     /* of each family; of rows that change their list, and what has their number */
-    const void *places[2]; /* of a table those of each family; of rows that change their number; of a file its bytes, and it */
-    size_t size;           /* of a file, in bytes */
+    PyObject *rows[2];     /* of each family; of rows that change their list, and what has their number and lengths */
+    const void *places[2]; /* of a table those of each family; of rows that change their number and lengths; of a file its bytes, and it */
+    size_t size;           /* of a file, in bytes; of rows that change how many lengths there are */
 } finder;
 
 static PyTypeObject *finder_type;
@@ -694,7 +694,7 @@ static PyObject *row_around(finder *it, const pcidr_value *network) {
     Py_buffer memory; /* which may be another one at each call */
     size_t index;
     if (PyObject_GetBuffer(it->kept, &memory, PyBUF_SIMPLE)) return NULL;
-    uint32_t code = rows_longest(memory.buf, *(const size_t *)it->places[0], network, &index);
+    uint32_t code = rows_longest(memory.buf, *(const size_t *)it->places[0], it->places[1], it->size, network, &index);
     PyBuffer_Release(&memory);
     PyObject *row = code ? Py_None : PyList_GetItem(it->rows[0], (Py_ssize_t)index);
     Py_XINCREF(row);

@@ -22,7 +22,7 @@ if TYPE_CHECKING:
     R = TypeVar("R")
 
 _find, _longest, _insert, _remove = map(calls.quick, ("rows_find", "rows_longest", "rows_insert", "rows_remove"))
-_covering, _covered = map(calls.quick, ("rows_covering", "rows_covered"))
+_covering, _covered, _add_lengths = map(calls.quick, ("rows_covering", "rows_covered", "rows_lengths"))
 _SIZE = ctypes.sizeof(Value)
 _tuple: Any = tuple  # of any type, which `map` gives away
 _list: Any = list
@@ -37,6 +37,9 @@ def _words(memory: Any) -> memoryview:
 # above 1, so that there is no place of that number.
 _ENDS = (ctypes.c_size_t * 2)()
 _end, _FIRST, _SECOND = _words(_ENDS).__getitem__, byref(_ENDS), byref(_ENDS, ctypes.sizeof(ctypes.c_size_t))
+# Which lengths networks may have, of all that there are.
+_ALL_LENGTHS = ctypes.c_size_t(130)
+_Lengths = ctypes.c_uint8 * _ALL_LENGTHS.value
 # A network is in so many at the most: `any`, and of IPv6 one of each prefix length.
 _ROOM = (ctypes.c_size_t * 130)()
 _places, _MOST = _words(_ROOM).__getitem__, ctypes.c_size_t(len(_ROOM))
@@ -54,23 +57,24 @@ class Rows:
     """Networks that ascend, in an array, and what has the rows by the same indexes. The library finds all; what it finds and the row
     at it are of one moment, also where the rows change."""
 
-    __slots__ = ("rows", "_networks", "_count")
+    __slots__ = ("rows", "_networks", "_count", "_lengths")
 
     def __init__(self, networks: Values, size: int, rows: Any) -> None:
         """Of so many of the networks."""
-        self.rows, self._networks, self._count = rows, networks, ctypes.c_size_t(size)
+        self.rows, self._networks, self._count, self._lengths = rows, networks, ctypes.c_size_t(size), _Lengths()
+        _add_lengths(networks, self._count, self._lengths, _ALL_LENGTHS)
 
     def find(self, network: Value) -> Any:
         """The row of exactly this network, or None."""
-        return self._one(_find, network)
+        return self._one(_find, self._networks, self._count, byref(network))
 
     def longest(self, network: Value) -> Any:
         """The row of the longest network that this one is in, or None."""
-        return self._one(_longest, network)
+        return self._one(_longest, self._networks, self._count, self._lengths, _ALL_LENGTHS, byref(network))
 
-    def _one(self, call: Call, network: Value) -> Any:
+    def _one(self, call: Call, *arguments: object) -> Any:
         try:
-            return _at(self.rows.__getitem__, call, self._networks, self._count, byref(network))
+            return _at(self.rows.__getitem__, call, *arguments)
         except IndexError:
             return None
 
@@ -110,7 +114,8 @@ class ChangingRows(Rows):
         super().__init__(room, size, rows)
         self._room, self._counted, self._added = ctypes.c_size_t(len(room)), byref(self._count), count(added)
         # what looks up one network in C, where there is the extension
-        self.find_row: Any = finder and finder(OF_ROWS, room, rows, self._count, ctypes.addressof(self._count), 0, 0)
+        held = self._count, self._lengths
+        self.find_row: Any = finder and finder(OF_ROWS, room, rows, held, *map(ctypes.addressof, held), _ALL_LENGTHS.value)
 
     @classmethod
     def ordered(cls, networks: Values, rows: list[Any]) -> ChangingRows:
@@ -157,7 +162,7 @@ class ChangingRows(Rows):
             if found is not None:
                 return found
             try:
-                _at(self.rows.insert, _insert, *self._all(network), given=((row,),))
+                _at(self.rows.insert, _insert, *self._all(network, self._lengths, _ALL_LENGTHS), given=((row,),))
                 return row
             except IndexError:  # there is no room, or another one has come
                 if self._count.value == self._room.value:
@@ -183,8 +188,8 @@ class ChangingRows(Rows):
         except IndexError:
             return None
 
-    def _all(self, network: Value) -> tuple[Any, ...]:
-        return self._networks, self._room, self._counted, byref(network)
+    def _all(self, network: Value, *lengths: object) -> tuple[Any, ...]:
+        return self._networks, self._room, *lengths, self._counted, byref(network)
 
     def _moment(self) -> tuple[bytes, list[Any]]:
         """The bytes of the networks and the rows of one moment."""

@@ -326,7 +326,7 @@ class NetworkSet:
         if value.tag in ADDRESS_TAGS:
             return self._stored.has(value)
         held = self._values
-        return calls.rows_longest(held, len(held), value, ctypes.c_size_t()) == Code.OK
+        return calls.rows_longest(held, len(held), None, 0, value, ctypes.c_size_t()) == Code.OK
 
     def isdisjoint(self, other: AnySet) -> bool:
         """Whether no address is in both."""

@@ -715,8 +715,20 @@ uint32_t pcidr_table_order(const pcidr_value *networks, size_t networks_len, siz
  * asked value is no network, and then `index` is as it was. */
 uint32_t pcidr_rows_find(const pcidr_value *networks, size_t networks_len, const pcidr_value *asked, size_t *index);
 
-/* The longest network that a network or an address is in: 0 and its index. Errors: NONE, NO_VALUE; `index` is then as it was. */
-uint32_t pcidr_rows_longest(const pcidr_value *networks, size_t networks_len, const pcidr_value *asked, size_t *index);
+/* Which lengths the networks may have stands in an array of bytes beside them, so that a longest match is not sought among lengths
+ * that none has: at index 0 for `any`, and at one more than the prefix length for a network of either family. 0 there says that no
+ * network has it. PCIDR_LENGTHS bytes reach all lengths; of one that the array does not reach it says nothing, so that of networks
+ * whose lengths are not known it has none, or NULL. Put zeros there before the first network: `pcidr_rows_insert` adds its length,
+ * and `pcidr_rows_lengths` those of all networks of an array. Where a network goes, its length stays: that costs time alone. */
+#define PCIDR_LENGTHS 130
+
+/* Adds the lengths of all networks: the others stay. Returns 0. */
+uint32_t pcidr_rows_lengths(const pcidr_value *networks, size_t networks_len, uint8_t *lengths, size_t lengths_len);
+
+/* The longest network that a network or an address is in, of those lengths: 0 and its index. Errors: NONE, NO_VALUE; `index` is then
+ * as it was. */
+uint32_t pcidr_rows_longest(const pcidr_value *networks, size_t networks_len, const uint8_t *lengths, size_t lengths_len,
+                            const pcidr_value *asked, size_t *index);
 
 /* The networks that are in a network, which may be one of them: those from index `from` on and before index `to`. Errors:
  * NO_VALUE, and both are then as they were. */
@@ -729,9 +741,10 @@ uint32_t pcidr_rows_covering(const pcidr_value *networks, size_t networks_len, c
                              size_t *count);
 
 /* Puts a network, with all of its bytes, in its place among the first `count` of an array: the networks from there on move by one,
- * `count` becomes one more, and `index` where it stands. Errors: PRESENT where it stands there already, and `index` is where;
+ * `count` becomes one more, `index` where it stands, and its length is added to `lengths`. Errors: PRESENT where it stands there already, and `index` is where;
  * NO_VALUE; NO_ROOM where the array has no room for one more, or not even for `count`. Then all else is as it was. */
-uint32_t pcidr_rows_insert(pcidr_value *networks, size_t networks_len, size_t *count, const pcidr_value *network, size_t *index);
+uint32_t pcidr_rows_insert(pcidr_value *networks, size_t networks_len, uint8_t *lengths, size_t lengths_len, size_t *count,
+                           const pcidr_value *network, size_t *index);
 
 /* Takes a network out of the first `count` of an array: the networks behind it move by one, `count` becomes one less, and `index`
  * where it stood. What is behind all but one stays, the last one of them too. Errors: NONE where it isn't there, NO_VALUE, and

@@ -25,12 +25,13 @@ found_here networks n m i e h =
     let there : get_or (map any_bits keys) i (any_bits n) ≡ any_bits (get_or keys i n) = get_or-map any_bits keys i n (any_bits n) h.within in
     subst (λ (x : AnyIpCidr). get_or keys i x ≡ x) e (any_determined (get_or keys i n) n (sym there ∙ exact))
 
-pub longest_told : (networks : List CValue) (n : AnyIpCidr) (r : Option ℕ) → IfSome r (λ i. i < length (map network_in networks))
-    → (Ascend networks → IsLongestMatch any_bits (any_bits n) (map network_in networks) r)
-    → MatchOption r (Ascend networks → IsLongestMatch any_bits (any_bits n) (map network_in networks) None)
-    (λ i. (i < length networks) × (Ascend networks → IsLongestAt any_bits (any_bits n) (map network_in networks) i))
-longest_told networks n (Some i) within told = (omega (arith, within, length-map networks network_in), told)
-longest_told networks n None within told = told
+pub longest_told : (networks : List CValue) (IsReady : Type 0) (n : AnyIpCidr) (r : Option ℕ)
+    → IfSome r (λ i. i < length (map network_in networks))
+    → (IsReady → IsLongestMatch any_bits (any_bits n) (map network_in networks) r)
+    → MatchOption r (IsReady → IsLongestMatch any_bits (any_bits n) (map network_in networks) None)
+    (λ i. (i < length networks) × (IsReady → IsLongestAt any_bits (any_bits n) (map network_in networks) i))
+longest_told networks IsReady n (Some i) within told = (omega (arith, within, length-map networks network_in), told)
+longest_told networks IsReady n None within told = told
 
 -- what a room with enough places has at its front
 front : (indexes room : List ℕ) → length indexes ≤ length room → take (length indexes) (put_in indexes room) ≡ indexes

@@ -554,19 +554,33 @@ static void rows(void) {
     WANT(pcidr_rows_find(NULL, 0, &inner, &index) == PCIDR_NONE && index == 0);
     index = 77;
     WANT(pcidr_rows_find(networks, 5, &bad, &index) == PCIDR_NO_VALUE && index == 77);
-    WANT(pcidr_rows_longest(networks, 5, &other, &index) == PCIDR_NONE && index == 77);
-    WANT(pcidr_rows_longest(networks, 5, &bad, &index) == PCIDR_NO_VALUE && index == 77);
-    WANT(pcidr_rows_longest(networks, 5, &address, &index) == PCIDR_OK && index == 3);
-    WANT(pcidr_rows_longest(networks, 5, &inner, &index) == PCIDR_OK && index == 2);
+    WANT(pcidr_rows_longest(networks, 5, NULL, 0, &other, &index) == PCIDR_NONE && index == 77);
+    WANT(pcidr_rows_longest(networks, 5, NULL, 0, &bad, &index) == PCIDR_NO_VALUE && index == 77);
+    WANT(pcidr_rows_longest(networks, 5, NULL, 0, &address, &index) == PCIDR_OK && index == 3);
+    WANT(pcidr_rows_longest(networks, 5, NULL, 0, &inner, &index) == PCIDR_OK && index == 2);
     address = value("10.128.0.1");
-    WANT(pcidr_rows_longest(networks, 5, &address, &index) == PCIDR_OK && index == 0);
+    WANT(pcidr_rows_longest(networks, 5, NULL, 0, &address, &index) == PCIDR_OK && index == 0);
+    uint8_t lengths[PCIDR_LENGTHS + 1] = {0}, few[10] = {0};
+    lengths[PCIDR_LENGTHS] = 7, lengths[129] = 5;
+    WANT(pcidr_rows_lengths(networks, 5, lengths, PCIDR_LENGTHS) == PCIDR_OK);
+    for (int length = 0; length <= PCIDR_LENGTHS; length++) {
+        int is_there = length == 9 || length == 10 || length == 17 || length == 25 || length == 33;
+        WANT(lengths[length] == (length == PCIDR_LENGTHS ? 7 : length == 129 ? 5 : is_there));
+    }
+    WANT(pcidr_rows_lengths(networks, 5, few, sizeof few) == PCIDR_OK && few[9] == 1 && few[8] == 0);
+    WANT(pcidr_rows_longest(networks, 5, lengths, PCIDR_LENGTHS, &address, &index) == PCIDR_OK && index == 0);
+    WANT(pcidr_rows_longest(networks, 5, lengths, PCIDR_LENGTHS, &inner, &index) == PCIDR_OK && index == 2);
+    WANT(pcidr_rows_longest(networks, 5, few, sizeof few, &inner, &index) == PCIDR_OK && index == 2);
+    index = 77;
+    WANT(pcidr_rows_longest(networks, 5, lengths, PCIDR_LENGTHS, &other, &index) == PCIDR_NONE && index == 77);
+    index = 0;
     WANT(pcidr_rows_covered(networks, 5, &networks[1], &index, &to) == PCIDR_OK && index == 1 && to == 4);
     WANT(pcidr_rows_covered(networks, 5, &inner, &index, &to) == PCIDR_OK && index == 3 && to == 4);
     WANT(pcidr_rows_covered(networks, 5, &other, &index, &to) == PCIDR_OK && index == 4 && to == 4);
     index = 77;
     WANT(pcidr_rows_covered(networks, 5, &bad, &index, &to) == PCIDR_NO_VALUE && index == 77 && to == 4);
     networks[0] = networks[4], networks[2].low |= 1, networks[3] = bad; /* in no order, and no networks */
-    WANT(pcidr_rows_longest(networks, 5, &inner, &index) != PCIDR_NO_VALUE && index <= 77);
+    WANT(pcidr_rows_longest(networks, 5, NULL, 0, &inner, &index) != PCIDR_NO_VALUE && index <= 77);
     WANT(pcidr_rows_covered(networks, 5, &inner, &index, &to) == PCIDR_OK && index <= to && to <= 5);
 }
 
@@ -576,14 +590,17 @@ static void changing_rows(void) {
     pcidr_value networks[4], sorted[3] = {value("any"), value("10.0.0.0/8"), value("10.1.2.0/24")};
     pcidr_value address = value("10.1.2.3"), other = value("10.1.0.0/16"), bad = none;
     size_t count = 0, index = 77, indexes[4] = {9, 9, 9, 9}, found = 7;
+    uint8_t lengths[PCIDR_LENGTHS] = {0}, few[2] = {0};
     for (int i = 0; i < 4; i++) {
         pcidr_value network = value(texts[i]);
-        WANT(pcidr_rows_insert(networks, 4, &count, &network, &index) == PCIDR_OK && count == (size_t)i + 1);
-        WANT(pcidr_rows_insert(networks, 4, &count, &network, &index) == PCIDR_PRESENT && count == (size_t)i + 1);
+        WANT(pcidr_rows_insert(networks, 4, lengths, PCIDR_LENGTHS, &count, &network, &index) == PCIDR_OK);
+        WANT(count == (size_t)i + 1 && lengths[network.tag == 255 ? 0 : network.tag < 64 ? network.tag + 1 : network.tag - 63] == 1);
+        WANT(pcidr_rows_insert(networks, 4, few, 2, &count, &network, &index) == PCIDR_PRESENT && count == (size_t)i + 1);
     }
     WANT(index == 1 && memcmp(networks, sorted, sizeof sorted) == 0);
-    WANT(pcidr_rows_insert(networks, 4, &count, &other, &index) == PCIDR_NO_ROOM && count == 4 && index == 1);
-    WANT(pcidr_rows_insert(networks, 4, &count, &bad, &index) == PCIDR_NO_VALUE && index == 1);
+    WANT(pcidr_rows_insert(networks, 4, lengths, PCIDR_LENGTHS, &count, &other, &index) == PCIDR_NO_ROOM && count == 4 && index == 1);
+    WANT(pcidr_rows_insert(networks, 4, few, 2, &count, &bad, &index) == PCIDR_NO_VALUE && index == 1);
+    WANT(lengths[17] == 0 && lengths[0] == 1 && lengths[1] == 1 && lengths[9] == 1 && lengths[25] == 1 && !few[0] && !few[1]);
     WANT(pcidr_rows_covering(networks, 4, &address, indexes, 2, &found) == PCIDR_NO_ROOM && found == 3 && indexes[0] == 9);
     WANT(pcidr_rows_covering(networks, 4, &bad, indexes, 4, &found) == PCIDR_NO_VALUE && found == 3 && indexes[0] == 9);
     WANT(pcidr_rows_covering(networks, 4, &address, indexes, 4, &found) == PCIDR_OK && found == 3);

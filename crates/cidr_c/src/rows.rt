@@ -1,15 +1,20 @@
 //! Rows that change, in an array of the caller: networks that ascend, each once, as `pcidr_compare` has them. A call costs as
 //! many comparisons as a few searches by halving, and allocates nothing. Of networks in another order it finds some index that
 //! there is, or none; of a value that is no network the bits after its prefix do not count.
-ghost use Rattle.std.specs.Prelude.{map};
+//!
+//! Beside them the caller keeps which lengths they may have, so that a longest match is not sought among others: a byte for each,
+//! at 0 for `any` and else at one more than the prefix length, of either family, which is 0 where no network has it.
+ghost use Rattle.std.specs.Prelude.{◌≡◌, map};
+ghost use Rattle.cidr.specs.either.IpNetwork.{any_bits};
+ghost use Rattle.cidr_rows.specs.Lengths.{AreLengthsAdded};
 ghost use Rattle.cidr_c.specs.calls.Rows.{AreCovered, AreCoveringFound, IsLongestFound, IsPlaceFound, IsRowInserted, IsRowRemoved};
 ghost use Rattle.cidr_c.specs.model.Values.{network_in};
 
 use crate::codes::{NO_ROOM, NO_VALUE, NONE, OK, PRESENT};
 use crate::finding::{put_list, put_plain};
 use crate::values::{CValue, network_at, value_network};
-use cidr::AnyIpCidr;
-use cidr_rows::{Keys, covered, covering, find, insert, longest, remove};
+use cidr::{AnyIpCidr, BitString};
+use cidr_rows::{Keys, add_length, add_lengths, covered, covering, find, insert, longest, remove};
 
 /// So many networks can begin the bits of one: those of each length up to its own, of 129 at most.
 const MOST: usize = 130;
@@ -52,13 +57,32 @@ pub extern "C" fn pcidr_rows_find(networks: &[CValue], asked: &CValue, index: &m
     }
 }
 
-/// The longest network that a network, or an address, is in: 0 and its index, or the number of none.
+/// Says of the lengths of all networks that there may be such: 0.
 #[unsafe(no_mangle)]
-pub extern "C" fn pcidr_rows_longest(networks: &[CValue], asked: &CValue, index: &mut usize) -> u32
-    ensures { IsLongestFound networks.now asked.now index.old index.new result }
+pub extern "C" fn pcidr_rows_lengths(networks: &[CValue], lengths: &mut [u8]) -> u32
+    ensures added { AreLengthsAdded any_bits (map network_in networks.now) lengths.old lengths.new }
+    ensures code { result ≡ 0 }
+{
+    add_lengths(&NetworkKeys { values: networks }, lengths);
+    OK
+}
+
+/// The longest network that a network, or an address, is in, of those lengths that there may be: 0 and its index, or the number of
+/// none.
+#[unsafe(no_mangle)]
+pub extern "C" fn pcidr_rows_longest(
+    networks: &[CValue],
+    lengths: &[u8],
+    asked: &CValue,
+    index: &mut usize,
+) -> u32
+    ensures { IsLongestFound networks.now lengths.now asked.now index.old index.new result }
 {
     match value_network(asked) {
-        Some(asked) => put_plain(longest(&NetworkKeys { values: networks }, &asked), index),
+        Some(asked) => {
+            let found = longest(&NetworkKeys { values: networks }, lengths, &asked);
+            put_plain(found, index)
+        }
         None => NO_VALUE,
     }
 }
@@ -101,16 +125,17 @@ pub extern "C" fn pcidr_rows_covering(
     put_list(&indexes[..found], out, count)
 }
 
-/// Puts a network in its place among the first `count`, and those from there on move by one: 0 and its index. Or the number of
-/// one that stands there already, and its index.
+/// Puts a network in its place among the first `count`, and those from there on move by one, and says that there may be networks
+/// of its length: 0 and its index. Or the number of one that stands there already, and its index.
 #[unsafe(no_mangle)]
 pub extern "C" fn pcidr_rows_insert(
     networks: &mut [CValue],
+    lengths: &mut [u8],
     count: &mut usize,
     network: &CValue,
     index: &mut usize,
 ) -> u32
-    ensures { IsRowInserted networks.old networks.new count.old count.new network.now index.old index.new result }
+    ensures { IsRowInserted networks.old networks.new lengths.old lengths.new count.old count.new network.now index.old index.new result }
 {
     if networks.len() < *count {
         return NO_ROOM;
@@ -128,6 +153,7 @@ pub extern "C" fn pcidr_rows_insert(
         return NO_ROOM;
     }
     insert(networks, *count, found, *network);
+    add_length(lengths, network_at(network).len());
     *count += 1;
     *index = found;
     OK

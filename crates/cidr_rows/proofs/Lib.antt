@@ -2,6 +2,7 @@
 pub mod ByBits
 pub mod Halving
 pub mod Shortening
+pub mod KnownLengths
 pub mod Insides
 pub mod Around
 pub mod Moves

@@ -1,6 +1,6 @@
 -- The longest match: each search leaves fewer keys, and fewer bits to begin.
 use Rattle.std.proofs.Common.{◌≡◌, sym, ◌∙◌, ap, subst, arith, inl, inr, ℕ, ◌-◌, ◌<◌, ◌≤◌, Bool, List, length, get_or, take}
-use Rattle.std.proofs.lemmas.Bool.{cases_eq}
+use Rattle.std.proofs.lemmas.Bool.{cases_eq, cases_lt}
 use Rattle.std.proofs.lemmas.List.{take-take, get_or_default}
 use Rattle.std.proofs.lemmas.Option.{slice_get-get_or}
 use Rattle.std.specs.List.{Contains}
@@ -15,6 +15,7 @@ use Rattle.cidr_table.specs.model.Prefixes.{IsLongestAt}
 use Rattle.cidr_table.proofs.Beginnings.{bits_exact, begins_length}
 use Rattle.cidr_table.proofs.Halves.{begins_itself, begins_begins}
 use Rattle.cidr_table.proofs.Reached.{reached_gap}
+use Rattle.cidr_rows.specs.Lengths.{AreLengths, MayHave}
 
 -- a list that is shared whole
 pub whole : (a p : List Bool) (n : ℕ) → n ≡ length p → IsSharedLength a p n → BeginsWith a p
@@ -75,18 +76,46 @@ module _ {C : Type 0} (cmp : C → C → Ordering) (bits : C → List Bool) (ord
         begins_length (bits (get_or keys (i - 1) asked)) (bits k) (rw same at there);
   }
 
-  -- it does not: then what contains them contains what both share
-  pub shorter : (i n : ℕ) → 0 < i → BelongsAt cmp keys sought end i → ¬ (BeginsWith (bits sought) (bits (get_or keys (i - 1) asked)))
+  -- it does not: then what contains them is before it, and is no longer than what both share
+  before_shared : (i n : ℕ) → 0 < i → BelongsAt cmp keys sought end i → ¬ (BeginsWith (bits sought) (bits (get_or keys (i - 1) asked)))
       → IsSharedLength (bits sought) (bits (get_or keys (i - 1) asked)) n
       → (j : ℕ) → j < length keys → BeginsWith (bits asked) (bits (get_or keys j asked))
-      → (j < i - 1) × BeginsWith (take n (bits sought)) (bits (get_or keys j asked))
-  shorter i n some h other shared j l b =
+      → (j < i - 1) × (length (bits (get_or keys j asked)) ≤ n) × BeginsWith (bits sought) (bits (get_or keys j asked))
+  before_shared i n some h other shared j l b =
       let m = left j l b in
-      let r = reached i h in
-      let p = bits (get_or keys j asked) in (
+      let r = reached i h in (
         elim (cases_eq j (i - 1)) [
           | inl e ↦ absurd (other (rw e at m.1))
           | inr ne ↦ omega (arith, r.before j m.0 m.1)
         ],
-        take-take (length p) n (bits sought) (shared.longest p m.1 (r.chained j m.0 m.1)) ∙ m.1,
+        shared.longest (bits (get_or keys j asked)) m.1 (r.chained j m.0 m.1),
+        m.1,
       )
+
+  module _ (lengths : List ℕ) (known : AreLengths bits keys lengths) where
+    may_have : (j : ℕ) → j < length keys → MayHave lengths (length (bits (get_or keys j asked)))
+    may_have j l = known (get_or keys j asked) (j, l, get_or_default keys j (get_or keys j asked) asked l)
+
+    -- of the lengths up to that keys may have one at most
+    pub shorter : (i n len : ℕ) → 0 < i → BelongsAt cmp keys sought end i → ¬ (BeginsWith (bits sought) (bits (get_or keys (i - 1) asked)))
+        → IsSharedLength (bits sought) (bits (get_or keys (i - 1) asked)) n
+        → ((m : ℕ) → len < m → m ≤ n → ¬ (MayHave lengths m))
+        → (j : ℕ) → j < length keys → BeginsWith (bits asked) (bits (get_or keys j asked))
+        → (j < i - 1) × BeginsWith (take len (bits sought)) (bits (get_or keys j asked))
+    shorter i n len some h other shared none j l b =
+        let m = before_shared i n some h other shared j l b in
+        let p = bits (get_or keys j asked) in
+        let fits : length p ≤ len = elim (cases_lt len (length p)) [
+          | inl lt ↦ absurd (none (length p) lt m.1 (may_have j l))
+          | inr le ↦ le
+        ] in
+        (m.0, take-take (length p) len (bits sought) fits ∙ m.2)
+
+    -- or none
+    pub no_shorter : (i n : ℕ) → 0 < i → BelongsAt cmp keys sought end i → ¬ (BeginsWith (bits sought) (bits (get_or keys (i - 1) asked)))
+        → IsSharedLength (bits sought) (bits (get_or keys (i - 1) asked)) n
+        → ((m : ℕ) → m ≤ n → ¬ (MayHave lengths m)) → (k : C) → Contains keys k → ¬ (BeginsWith (bits asked) (bits k))
+    no_shorter i n some h other shared none k c b =
+        let same : get_or keys c.0 asked ≡ k = get_or_default keys c.0 asked k c.1 ∙ c.2 in
+        let m = before_shared i n some h other shared c.0 c.1 (rw same b) in
+        none (length (bits (get_or keys c.0 asked))) m.1 (may_have c.0 c.1)

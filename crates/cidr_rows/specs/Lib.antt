@@ -1,3 +1,4 @@
 pub mod Around
 pub mod Between
+pub mod Lengths
 pub mod Moved

@@ -4,9 +4,11 @@
 #![tactic(auto)]
 
 mod keys;
+mod lengths;
 mod moving;
 mod search;
 
 pub use keys::Keys;
+pub use lengths::{add_length, add_lengths};
 pub use moving::{insert, remove};
 pub use search::{covered, covering, find, longest};

@@ -7,8 +7,10 @@ ghost use Rattle.cidr_table.specs.internal.Places.{IsLowerBound, IsPlace};
 ghost use Rattle.cidr_table.specs.model.Prefixes.{IsLongestMatch};
 ghost use Rattle.cidr_rows.specs.Around.{AreCoveringPut};
 ghost use Rattle.cidr_rows.specs.Between.{IsBetween};
+ghost use Rattle.cidr_rows.specs.Lengths.{AreLengths};
 
 use crate::keys::Keys;
+use crate::lengths::longest_length;
 use cidr::{BitString, NetworkBits};
 use cidr_table::is_inside;
 
@@ -22,12 +24,19 @@ pub fn find<C: NetworkBits + Copy, K: Keys<C>>(rows: &K, key: &C) -> Result<usiz
 }
 
 /// The index of the longest network that the look-up key is in, or `None` where it is in none.
-pub fn longest<C: NetworkBits + Copy, K: Keys<C>>(rows: &K, asked: &C) -> Option<usize>
+///
+/// Only lengths that networks may have are searched for: `lengths` has 0 at the index of a length that none has. Of a length that
+/// it does not reach it tells nothing, so that an empty one is right of all networks.
+pub fn longest<C: NetworkBits + Copy, K: Keys<C>>(
+    rows: &K,
+    lengths: &[u8],
+    asked: &C,
+) -> Option<usize>
     ensures within { IfSome result (λ i. i < length (K.keys rows.now)) }
-    ensures longest { IsStrictlySortedBy bit_cmp (map C.bits (K.keys rows.now))
+    ensures longest { IsStrictlySortedBy bit_cmp (map C.bits (K.keys rows.now)) → AreLengths C.bits (K.keys rows.now) lengths.now
         → IsLongestMatch C.bits (C.bits asked.now) (K.keys rows.now) result }
 {
-    longest_key(rows, asked)
+    longest_key(rows, lengths, asked)
 }
 
 /// The indexes of all networks that the look-up key is in, ascending, and so the shortest network first: at the beginning of
@@ -36,7 +45,7 @@ pub fn longest<C: NetworkBits + Copy, K: Keys<C>>(rows: &K, asked: &C) -> Option
 pub fn covering<C: NetworkBits + Copy, K: Keys<C>>(rows: &K, asked: &C, out: &mut [usize]) -> usize
     ensures { AreCoveringPut C.bits (C.bits asked.now) (K.keys rows.now) out.old out.new result }
 {
-    let Some(index) = longest_key(rows, asked) else {
+    let Some(index) = longest_key(rows, &[], asked) else {
         return 0;
     };
     let len = rows.key(index).len().min(asked.len());
@@ -172,9 +181,13 @@ fn seek<C: Ord + Copy, K: Keys<C>>(rows: &K, key: &C, end: usize) -> Result<usiz
 }
 
 /// The index of the longest key that begins the look-up key, or `None` where none does.
-fn longest_key<C: NetworkBits + Copy, K: Keys<C>>(rows: &K, asked: &C) -> Option<usize>
+fn longest_key<C: NetworkBits + Copy, K: Keys<C>>(
+    rows: &K,
+    lengths: &[u8],
+    asked: &C,
+) -> Option<usize>
     ensures within { IfSome result (λ i. i < length (K.keys rows.now)) }
-    ensures longest { IsStrictlySortedBy C.cmp (K.keys rows.now)
+    ensures longest { IsStrictlySortedBy C.cmp (K.keys rows.now) → AreLengths C.bits (K.keys rows.now) lengths.now
         → IsLongestMatch C.bits (C.bits asked.now) (K.keys rows.now) result }
 {
     // The keys that the look-up key is in are among the first `end`, and `sought` is in them, too.
@@ -190,7 +203,8 @@ fn longest_key<C: NetworkBits + Copy, K: Keys<C>>(rows: &K, asked: &C) -> Option
                 if shared == before.len() {
                     return Some(index - 1);
                 }
-                sought.clip(shared);
+                let len = longest_length(lengths, shared)?;
+                sought.clip(len);
                 end = index - 1;
             }
         }

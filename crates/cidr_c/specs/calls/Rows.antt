@@ -1,5 +1,5 @@
 -- Rows in arrays of the caller, whose networks ascend.
-use Rattle.std.specs.Prelude.{◌≡◌, ◌≢◌, ◌⊎◌, ◌↔◌, ℕ, ◌+◌, ◌<◌, ◌≤◌, All, Bool, List, length, map, take, drop, slice_index_or, None}
+use Rattle.std.specs.Prelude.{◌≡◌, ◌≢◌, ◌⊎◌, ◌↔◌, ℕ, ◌+◌, ◌<◌, ◌≤◌, All, Bool, List, length, map, take, drop, slice_index_or, slice_set, None}
 use Rattle.std.specs.List.Sorted.{IsStrictlySortedBy}
 use Rattle.std.specs.declared.cmp.Ordering.TheVariants.{Less, Greater}
 use Rattle.cidr.specs.either.IpNetwork.{any_bits}
@@ -8,6 +8,7 @@ use Rattle.cidr.specs.model.Network.{BeginsWith}
 use Rattle.cidr_table.specs.model.Prefixes.{IsLongestAt, IsLongestMatch}
 use Rattle.cidr_c.specs.calls.Calls.{IsAnyValue, IsSought}
 use Rattle.cidr_rows.specs.Around.{AreCovering}
+use Rattle.cidr_rows.specs.Lengths.{AreLengths}
 use Rattle.cidr_rows.specs.Moved.{with_row, without_row}
 use Rattle.cidr_c.specs.model.Codes.{no_room, no_such, no_value, present}
 use Rattle.cidr_c.specs.model.Values.{IsNetworkValue, network_in}
@@ -20,6 +21,10 @@ rows_bits networks = map any_bits (map network_in networks)
 -- each comes before those behind it
 abbrev pub Ascend : List CValue → Type 0
 Ascend networks = IsStrictlySortedBy bit_cmp (rows_bits networks)
+
+-- they do, and have only lengths that there may be
+abbrev pub AscendWith : List CValue → List ℕ → Type 0
+AscendWith networks lengths = Ascend networks × AreLengths any_bits (map network_in networks) lengths
 
 -- the networks before the index come before the asked one, and those from there on behind it
 pub record BelongsBefore (networks : List CValue) (asked : CValue) (index : ℕ) : Type 0 where
@@ -38,12 +43,12 @@ pub record IsPlaceFound (networks : List CValue) (asked : CValue) (index index_n
   pub codes : (code ≡ 0) ⊎ ((code ≡ no_such) ⊎ (code ≡ no_value))
 
 -- the longest match: 0 and its index; or the number of none, or of what the call does not take, and the index is as it was
-abbrev pub IsLongestFound : List CValue → CValue → ℕ → ℕ → ℕ → Type 0
-IsLongestFound networks asked =
+abbrev pub IsLongestFound : List CValue → List ℕ → CValue → ℕ → ℕ → ℕ → Type 0
+IsLongestFound networks lengths asked =
     IsSought (IsNetworkValue asked)
-    (Ascend networks → IsLongestMatch any_bits (any_bits (network_in asked)) (map network_in networks) None)
+    (AscendWith networks lengths → IsLongestMatch any_bits (any_bits (network_in asked)) (map network_in networks) None)
     IsAnyValue (λ (i : ℕ). i)
-    (λ i. (i < length networks) × (Ascend networks → IsLongestAt any_bits (any_bits (network_in asked)) (map network_in networks) i))
+    (λ i. (i < length networks) × (AscendWith networks lengths → IsLongestAt any_bits (any_bits (network_in asked)) (map network_in networks) i))
 
 -- what is in a network: 0, and the networks from the first index on and before the second; or the number of what the call does
 -- not take, and the indexes are as they were
@@ -68,13 +73,14 @@ pub record AreCoveringFound (networks : List CValue) (asked : CValue) (old new :
   pub codes : (code ≡ 0) ⊎ ((code ≡ no_room) ⊎ (code ≡ no_value))
   pub stays : code ≢ 0 → new ≡ old
 
--- one more network among the first `count`: 0, the array with it and its index, before which all come before it, and from which on
--- all come behind it; or the number of one that stands there already, and its index; or the number of another error. After an error
+-- one more network among the first `count`, of a length that there may be: 0, the array with it and its index, before which all come
+-- before it, and from which on all come behind it; or the number of one that stands there already, and its index; or the number of another error. After an error
 -- all else is as it was
-pub record IsRowInserted (networks new : List CValue) (count count_new : ℕ) (network : CValue) (index index_new code : ℕ) : Type 0 where
+pub record IsRowInserted (networks new : List CValue) (lengths lengths_new : List ℕ) (count count_new : ℕ) (network : CValue) (index index_new code : ℕ) : Type 0 where
   pub taken : (code ≡ 0) ⊎ (code ≡ present) → IsNetworkValue network × (count ≤ length networks)
   pub put : code ≡ 0 → (index_new ≤ count) × (count < length networks) × (new ≡ with_row networks count index_new network)
       × (count_new ≡ count + 1)
+  pub added : code ≡ 0 → lengths_new ≡ slice_set lengths (length (any_bits (network_in network))) 1
   pub place : code ≡ 0 → Ascend (take count networks) → BelongsBefore (take count networks) network index_new
   pub within : code ≡ present → index_new < count
   pub here : code ≡ present → Ascend (take count networks)
@@ -83,7 +89,7 @@ pub record IsRowInserted (networks new : List CValue) (count count_new : ℕ) (n
       × (Ascend (take count networks) → (i : ℕ) × BelongsBefore (take count networks) network i))
   pub refused : code ≡ no_value → ¬ (IsNetworkValue network)
   pub codes : (code ≡ 0) ⊎ ((code ≡ present) ⊎ ((code ≡ no_room) ⊎ (code ≡ no_value)))
-  pub stays : code ≢ 0 → (new ≡ networks) × (count_new ≡ count)
+  pub stays : code ≢ 0 → (new ≡ networks) × (lengths_new ≡ lengths) × (count_new ≡ count)
   pub index_stays : code ≢ 0 → code ≢ present → index_new ≡ index
 
 -- one less: 0, the array without it, and the index where it stood; or the number of none, or of another error, and all is as it was

@@ -487,8 +487,13 @@ pub unsafe extern "C" fn pcidr_rows_find(networks: *const CValue, networks_len: 
 }
 
 #[no_mangle]
-pub unsafe extern "C" fn pcidr_rows_longest(networks: *const CValue, networks_len: usize, asked: *const CValue, index: *mut usize) -> u32 {
-    crate::rows::pcidr_rows_longest(slice(networks, networks_len), &*asked, &mut *index)
+pub unsafe extern "C" fn pcidr_rows_lengths(networks: *const CValue, networks_len: usize, lengths: *mut u8, lengths_len: usize) -> u32 {
+    crate::rows::pcidr_rows_lengths(slice(networks, networks_len), slice_mut(lengths, lengths_len))
+}
+
+#[no_mangle]
+pub unsafe extern "C" fn pcidr_rows_longest(networks: *const CValue, networks_len: usize, lengths: *const u8, lengths_len: usize, asked: *const CValue, index: *mut usize) -> u32 {
+    crate::rows::pcidr_rows_longest(slice(networks, networks_len), slice(lengths, lengths_len), &*asked, &mut *index)
 }
 
 #[no_mangle]
@@ -502,8 +507,8 @@ pub unsafe extern "C" fn pcidr_rows_covering(networks: *const CValue, networks_l
 }
 
 #[no_mangle]
-pub unsafe extern "C" fn pcidr_rows_insert(networks: *mut CValue, networks_len: usize, count: *mut usize, network: *const CValue, index: *mut usize) -> u32 {
-    crate::rows::pcidr_rows_insert(slice_mut(networks, networks_len), &mut *count, &*network, &mut *index)
+pub unsafe extern "C" fn pcidr_rows_insert(networks: *mut CValue, networks_len: usize, lengths: *mut u8, lengths_len: usize, count: *mut usize, network: *const CValue, index: *mut usize) -> u32 {
+    crate::rows::pcidr_rows_insert(slice_mut(networks, networks_len), slice_mut(lengths, lengths_len), &mut *count, &*network, &mut *index)
 }
 
 #[no_mangle]

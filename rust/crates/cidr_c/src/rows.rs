@@ -1,12 +1,15 @@
 //! Rows that change, in an array of the caller: networks that ascend, each once, as `pcidr_compare` has them. A call costs as
 //! many comparisons as a few searches by halving, and allocates nothing. Of networks in another order it finds some index that
 //! there is, or none; of a value that is no network the bits after its prefix do not count.
+//!
+//! Beside them the caller keeps which lengths they may have, so that a longest match is not sought among others: a byte for each,
+//! at 0 for `any` and else at one more than the prefix length, of either family, which is 0 where no network has it.
 
 use crate::codes::{NO_ROOM, NO_VALUE, NONE, OK, PRESENT};
 use crate::finding::{put_list, put_plain};
 use crate::values::{CValue, network_at, value_network};
-use cidr::AnyIpCidr;
-use cidr_rows::{Keys, covered, covering, find, insert, longest, remove};
+use cidr::{AnyIpCidr, BitString};
+use cidr_rows::{Keys, add_length, add_lengths, covered, covering, find, insert, longest, remove};
 
 /// So many networks can begin the bits of one: those of each length up to its own, of 129 at most.
 const MOST: usize = 130;
@@ -46,11 +49,27 @@ pub fn pcidr_rows_find(networks: &[CValue], asked: &CValue, index: &mut usize) -
     }
 }
 
-/// The longest network that a network, or an address, is in: 0 and its index, or the number of none.
+/// Says of the lengths of all networks that there may be such: 0.
 #[inline]
-pub fn pcidr_rows_longest(networks: &[CValue], asked: &CValue, index: &mut usize) -> u32 {
+pub fn pcidr_rows_lengths(networks: &[CValue], lengths: &mut [u8]) -> u32 {
+    add_lengths(&NetworkKeys { values: networks }, lengths);
+    OK
+}
+
+/// The longest network that a network, or an address, is in, of those lengths that there may be: 0 and its index, or the number of
+/// none.
+#[inline]
+pub fn pcidr_rows_longest(
+    networks: &[CValue],
+    lengths: &[u8],
+    asked: &CValue,
+    index: &mut usize,
+) -> u32 {
     match value_network(asked) {
-        Some(asked) => put_plain(longest(&NetworkKeys { values: networks }, &asked), index),
+        Some(asked) => {
+            let found = longest(&NetworkKeys { values: networks }, lengths, &asked);
+            put_plain(found, index)
+        }
         None => NO_VALUE,
     }
 }
@@ -89,10 +108,11 @@ pub fn pcidr_rows_covering(
     put_list(&indexes[..found], out, count)
 }
 
-/// Puts a network in its place among the first `count`, and those from there on move by one: 0 and its index. Or the number of
-/// one that stands there already, and its index.
+/// Puts a network in its place among the first `count`, and those from there on move by one, and says that there may be networks
+/// of its length: 0 and its index. Or the number of one that stands there already, and its index.
 pub fn pcidr_rows_insert(
     networks: &mut [CValue],
+    lengths: &mut [u8],
     count: &mut usize,
     network: &CValue,
     index: &mut usize,
@@ -113,6 +133,7 @@ pub fn pcidr_rows_insert(
         return NO_ROOM;
     }
     insert(networks, *count, found, *network);
+    add_length(lengths, network_at(network).len());
     *count += 1;
     *index = found;
     OK

@@ -8,9 +8,11 @@
 #![allow(clippy::manual_unwrap_or_default, clippy::non_canonical_partial_ord_impl)]
 
 mod keys;
+mod lengths;
 mod moving;
 mod search;
 
 pub use keys::Keys;
+pub use lengths::{add_length, add_lengths};
 pub use moving::{insert, remove};
 pub use search::{covered, covering, find, longest};

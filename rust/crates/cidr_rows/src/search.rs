@@ -1,6 +1,7 @@
 //! The searches.
 
 use crate::keys::Keys;
+use crate::lengths::longest_length;
 use cidr::{BitString, NetworkBits};
 use cidr_table::is_inside;
 
@@ -11,16 +12,23 @@ pub fn find<C: NetworkBits + Copy, K: Keys<C>>(rows: &K, key: &C) -> Result<usiz
 }
 
 /// The index of the longest network that the look-up key is in, or `None` where it is in none.
+///
+/// Only lengths that networks may have are searched for: `lengths` has 0 at the index of a length that none has. Of a length that
+/// it does not reach it tells nothing, so that an empty one is right of all networks.
 #[inline]
-pub fn longest<C: NetworkBits + Copy, K: Keys<C>>(rows: &K, asked: &C) -> Option<usize> {
-    longest_key(rows, asked)
+pub fn longest<C: NetworkBits + Copy, K: Keys<C>>(
+    rows: &K,
+    lengths: &[u8],
+    asked: &C,
+) -> Option<usize> {
+    longest_key(rows, lengths, asked)
 }
 
 /// The indexes of all networks that the look-up key is in, ascending, and so the shortest network first: at the beginning of
 /// `out`, as many as it has room for; what is behind them there stays. Returns how many they are, at most one more than the
 /// look-up key has bits.
 pub fn covering<C: NetworkBits + Copy, K: Keys<C>>(rows: &K, asked: &C, out: &mut [usize]) -> usize {
-    let Some(index) = longest_key(rows, asked) else {
+    let Some(index) = longest_key(rows, &[], asked) else {
         return 0;
     };
     let len = rows.key(index).len().min(asked.len());
@@ -127,7 +135,11 @@ fn seek<C: Ord + Copy, K: Keys<C>>(rows: &K, key: &C, end: usize) -> Result<usiz
 }
 
 /// The index of the longest key that begins the look-up key, or `None` where none does.
-fn longest_key<C: NetworkBits + Copy, K: Keys<C>>(rows: &K, asked: &C) -> Option<usize> {
+fn longest_key<C: NetworkBits + Copy, K: Keys<C>>(
+    rows: &K,
+    lengths: &[u8],
+    asked: &C,
+) -> Option<usize> {
     // The keys that the look-up key is in are among the first `end`, and `sought` is in them, too.
     let mut sought = *asked;
     let mut end = rows.len();
@@ -141,7 +153,8 @@ fn longest_key<C: NetworkBits + Copy, K: Keys<C>>(rows: &K, asked: &C) -> Option
                 if shared == before.len() {
                     return Some(index - 1);
                 }
-                sought.clip(shared);
+                let len = longest_length(lengths, shared)?;
+                sought.clip(len);
                 end = index - 1;
             }
         }
