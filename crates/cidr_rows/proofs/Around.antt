@@ -1,16 +1,16 @@
 -- The keys that begin the asked bits: the longest one, and those that are shorter.
-use Rattle.std.proofs.Common.{◌≡◌, ◌⊎◌, sym, ◌∙◌, ap, refl, arith, inl, inr, ℕ, suc, ◌+◌, ◌-◌, ◌<◌, ◌≤◌, ◌↔◌, min, Bool, List, [], ◌∷◌, ◌++◌, length, get_or, take, drop, slice_get, Some, length-append, length-take}
+use Rattle.std.proofs.Common.{◌≡◌, ◌⊎◌, sym, ◌∙◌, ap, refl, arith, inl, inr, ℕ, suc, ◌+◌, ◌-◌, ◌<◌, ◌↔◌, min, Bool, List, [], ◌∷◌, ◌++◌, length, get_or, take, drop, slice_get, Some, length-take}
 use Rattle.std.proofs.Math.ListN.{set}
 use Rattle.std.proofs.Math.Seq.{drop-cons, set-append_seam}
 use Rattle.std.proofs.lemmas.Bool.{cases_eq, cases_lt}
-use Rattle.std.proofs.lemmas.List.{append_assoc, take-take, take_all, take-append-le, drop_all, get_or_default, get_or_append_left, get_or_push, length_push, set-append_right, set_past, append-nil, length-take-le, nil_from_length}
+use Rattle.std.proofs.lemmas.List.{append_assoc, take-take, take_all, take-append-le, drop_all, get_or_default, get_or_append_left, get_or_push, length_push, set_past, append-nil}
 use Rattle.std.proofs.lemmas.List.Elements.{All-nil, All-push}
 use Rattle.std.proofs.lemmas.Map.Keys.{Less-from_sorted}
-use Rattle.std.proofs.lemmas.Option.{slice_get-get_or, slice_get_within, get_or_from_slice_get}
-use Rattle.std.specs.List.{All, Contains}
+use Rattle.std.proofs.lemmas.Option.{slice_get_within, get_or_from_slice_get}
+use Rattle.std.specs.List.{Contains}
 use Rattle.std.specs.List.Sorted.{IsStrictlyIncreasing, IsStrictlySortedBy}
 use Rattle.std.specs.declared.cmp.Ordering.{Ordering}
-use Rattle.std.specs.declared.cmp.Ordering.TheVariants.{Less, Equal, Greater}
+use Rattle.std.specs.declared.cmp.Ordering.TheVariants.{Less, Equal}
 use Rattle.cidr.specs.model.Bits.{bit_cmp}
 use Rattle.cidr.specs.model.Network.{BeginsWith}
 use Rattle.cidr.proofs.BothEnds.{contains_got}
@@ -19,7 +19,7 @@ use Rattle.cidr_table.proofs.Beginnings.{begins_first, begins_length, bits_same,
 use Rattle.cidr_table.proofs.Halves.{begins_begins, begins_both, same_length}
 use Rattle.cidr_table.proofs.MapLaws.{contains_nothing}
 use Rattle.cidr_rows.proofs.ByBits.{sorted_keys}
-use Rattle.cidr_rows.specs.Around.{AreCovering, AreCoveringPut, IsCoveringAt, put_in}
+use Rattle.cidr_rows.specs.Around.{AreCovering, AreCoveringPut, put_in}
 
 -- a list grows at its end
 contains_left : (xs : List ℕ) (y i : ℕ) → Contains xs i → Contains (xs ++ y ∷ []) i

@@ -1,10 +1,10 @@
 -- The keys in a network stand next to each other.
-use Rattle.std.proofs.Common.{◌≡◌, ◌≢◌, sym, ◌∙◌, arith, inl, inr, ℕ, ◌<◌, ◌≤◌, ◌↔◌, Bool, List, length, get_or}
+use Rattle.std.proofs.Common.{◌≡◌, sym, ◌∙◌, arith, inl, inr, ℕ, ◌<◌, ◌≤◌, ◌↔◌, Bool, List, length, get_or}
 use Rattle.std.proofs.lemmas.Bool.{cases_eq, cases_lt}
 use Rattle.std.proofs.lemmas.Map.Keys.{Less-from_sorted}
 use Rattle.std.specs.List.Sorted.{IsStrictlySortedBy}
 use Rattle.std.specs.declared.cmp.Ordering.{Ordering}
-use Rattle.std.specs.declared.cmp.Ordering.TheVariants.{Less, Equal, Greater}
+use Rattle.std.specs.declared.cmp.Ordering.TheVariants.{Less}
 use Rattle.cidr.specs.model.Bits.{bit_cmp}
 use Rattle.cidr.specs.model.Network.{BeginsWith}
 use Rattle.cidr_table.specs.internal.Places.{IsLowerBound}

@@ -1,5 +1,5 @@
 -- Which lengths keys may have.
-use Rattle.std.proofs.Common.{◌≡◌, ◌⊎◌, sym, ◌∙◌, arith, inl, inr, refl, ℕ, ◌+◌, ◌<◌, ◌≤◌, Bool, List, [], length, get_or}
+use Rattle.std.proofs.Common.{◌≡◌, ◌⊎◌, sym, ◌∙◌, arith, inl, inr, refl, ℕ, ◌+◌, ◌<◌, Bool, List, [], length, get_or}
 use Rattle.std.proofs.Math.ListN.{set}
 use Rattle.std.proofs.lemmas.Bool.{cases_eq, cases_lt}
 use Rattle.std.proofs.lemmas.List.{get_or_past, get_or-set_same, get_or-set_other, length-set}

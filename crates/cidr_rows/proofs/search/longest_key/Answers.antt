@@ -1,4 +1,4 @@
-use Rattle.std.proofs.Common.{arith, length, take}
+use Rattle.std.proofs.Common.{arith, take}
 use Rattle.cidr_table.proofs.Beginnings.{begins_first}
 use Rattle.cidr_table.proofs.Halves.{begins_begins}
 use Rattle.cidr_rows.proofs.Shortening.{whole, not_whole, at_place, no_place, none_left, before_place, shorter, no_shorter}
