@@ -497,11 +497,11 @@ StoredRow = tuple[Network, bytes]
 class _KeptRows(dict[int, "StoredRow | None"]):
     """Rows of one family in a file, which are made when they are first asked for, and None for NO_ROW. So many are kept."""
 
-    __slots__ = ("part", "_is_checked")
+    __slots__ = ("part", "_is_checked", "_grows")
     MOST = 1 << 17
 
     def __init__(self, part: Part, is_checked: bool) -> None:
-        self.part, self._is_checked = part, is_checked
+        self.part, self._is_checked, self._grows = part, is_checked, False
 
     def made(self, row: int) -> StoredRow:
         """A row, which is not kept."""
@@ -512,10 +512,21 @@ class _KeptRows(dict[int, "StoredRow | None"]):
 
     def __missing__(self, row: int) -> StoredRow | None:
         made = None if row == NO_ROW else self.made(row)
-        if len(self) >= self.MOST:
+        if len(self) >= self.MOST and not self._grows:
             self.clear()
         self[row] = made
         return made
+
+    def of(self, rows: Iterable[int]) -> list[StoredRow | None]:
+        """Those of many, which all stay until the last one is found, since the list has them anyway: each is made once."""
+        self._grows = True
+        try:
+            return list(map(self.__getitem__, rows))
+        finally:
+            self._grows = False
+            if len(self) > self.MOST:
+                for row in list(self)[: -self.MOST]:
+                    self.pop(row, None)
 
 
 class _StoredRows:
@@ -609,9 +620,9 @@ class StoredTable(_Rows[bytes]):
             return [self.lookup(Network._of(value)) for value in values]
         rows = self._file.rows(values)
         if len(families) == 1:
-            return list(map(self._kept[tags[0]].__getitem__, rows))
-        ipv4, ipv6 = self._kept.values()
-        return [ipv4[row] if tag == 32 else ipv6[row] for tag, row in zip(tags, rows)]
+            return self._kept[tags[0]].of(rows)
+        found = {tag: iter(kept.of(compress(rows, map(tag.__eq__, tags)))) for tag, kept in self._kept.items()}
+        return [next(found[tag]) for tag in tags]
 
     def lookup_packed(self, addresses: Buffer, version: int = 4) -> Matches[bytes]:
         """The same of packed addresses of a family, 4 or 6, as `Table.lookup_packed` takes them."""

@@ -117,6 +117,17 @@ class Tables(InFolder):
                 self.assertEqual([*map(stored.lookup, asked)], wanted)
         self.assertLessEqual(max(map(len, stored._kept.values())), 5)
 
+    def test_a_row_is_made_once_in_a_call(self):
+        table, kept = near_table(200), pcidr._tables._KeptRows
+        asked = around(table) * 3
+        stored, wanted = self.opened(self.saved(table)), table.lookup_each(asked)
+        with mock.patch.object(kept, "MOST", 5), mock.patch.object(kept, "made", autospec=True, side_effect=kept.made) as made:
+            self.assertEqual(stored.lookup_each(asked), wanted)
+            self.assertEqual(made.call_count, len({row for row in wanted if row}))
+            for one in (asked[:9], asked[:1]):
+                self.assertEqual(stored.lookup_each(one), wanted[: len(one)])
+                self.assertLessEqual(max(map(len, stored._kept.values())), 5)
+
     def test_rows_that_no_file_has(self):
         wrong = {5: TypeError, None: TypeError, "\ud800": ValueError}
         for value, kind in wrong.items():
