@@ -50,14 +50,17 @@ fn row(value: u32) -> Option<usize>
     Some((value - 1) as usize)
 }
 
-/// The value that an address is led to. IPv4 has a code of its own for each number of steps that is in use, since a shift by a
-/// constant is quicker.
+/// The value that an address is led to. There is a code of its own for each number of steps that is in use, but for the 20 of a few
+/// networks of IPv6, since a shift by a constant is quicker. Only IPv6, which has lists, tests for its 19.
 #[inline(always)]
 fn value_by_steps<A: Address, T: Words>(first: &T, words: &T, steps: u32, address: A) -> u32
     ensures { (networks : List (ℕ × ℕ))
         → IsLookupTable A.width A.padding steps networks (T.words first.now) (T.words words.now)
         → IsAnswer A.width A.padding networks (A.value address * 2 ^ A.padding) result }
 {
+    if A::padded_width() > LISTS && steps == 19 {
+        return found_value(first, words, 19, address);
+    }
     match steps {
         3 => found_value(first, words, 3, address),
         4 => found_value(first, words, 4, address),
