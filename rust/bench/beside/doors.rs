@@ -25,6 +25,21 @@ unsafe extern "C" {
     safe fn clock_gettime(clock: i32, time: &mut Time) -> i32;
 }
 
+/// An address as it lies in an array of C: 24 bytes.
+#[repr(C)]
+#[derive(Clone, Copy)]
+struct Value {
+    high: u64,
+    low: u64,
+    tag: u64,
+}
+
+impl Value {
+    fn number(self) -> u128 {
+        u128::from(self.high) << 64 | u128::from(self.low)
+    }
+}
+
 /// The nanoseconds that this process has run on processors, as Linux counts them (`CLOCK_PROCESS_CPUTIME_ID`).
 fn now() -> f64 {
     let mut time = Time { seconds: 0, nanoseconds: 0 };
@@ -54,6 +69,8 @@ where
     let (first, words) = (table.first.as_slice(), table.words.as_slice());
     let numbers: Vec<C::Number> = asked.iter().map(|number| C::Number::of(*number)).collect();
     time("find", &numbers, |address| find(&first, &words, table.steps, address));
+    let values: Vec<Value> = asked.iter().map(|number| Value { high: (number >> 64) as u64, low: *number as u64, tag: 0 }).collect();
+    time("find of values as C has them", &values, |value| find(&first, &words, table.steps, C::Number::of(value.number())));
 
     let mut rows = Rattled::new(Global);
     networks.iter().for_each(|network| rows.push((*network, ())).expect("memory"));
