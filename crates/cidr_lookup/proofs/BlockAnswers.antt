@@ -12,7 +12,7 @@ use Rattle.cidr_lookup.specs.Ranges.{AreMatchRanges}
 use Rattle.cidr_lookup.specs.Passing.{HasNumber, at}
 use Rattle.cidr_lookup.proofs.Longest.{inside, length_network, row_within}
 use Rattle.cidr_lookup.proofs.Numbers.{nests}
-use Rattle.cidr_lookup.specs.Nodes.{AllHave}
+use Rattle.cidr_lookup.specs.Putting.{AllHave}
 use Rattle.cidr_lookup.proofs.Blocks.{cut, in_block}
 use Rattle.cidr_lookup.specs.Tables.{IsAnswer}
 

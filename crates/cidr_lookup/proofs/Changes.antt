@@ -3,11 +3,22 @@ use Rattle.std.proofs.Common.{◌≡◌, refl, sym, ap, ap₂, subst, ◌∙◌,
 use Rattle.std.proofs.Math.Nat.{mul_assoc}
 use Rattle.std.proofs.lemmas.Bool.{cases_eq, cases_lt}
 use Rattle.std.proofs.lemmas.Nat.{mod_below, mul-le, pow-add, pow_pos, shl-shr, shr-shr, shr_split}
-use Rattle.cidr_lookup.specs.Nodes.{AllHave, AreChanges, HasList, HaveBefore}
+use Rattle.cidr_lookup.specs.Nodes.{AreChanges, HaveBefore}
+use Rattle.cidr_lookup.specs.Putting.{AllHave, HasList}
 use Rattle.cidr_lookup.specs.Searching.{AreOrdered, IsValueAt}
 use Rattle.cidr_lookup.proofs.Blocks.{in_block, of_block}
 
 module _ (Has : (number value : ℕ) → Type 0) where
+  -- a block whose numbers have one value has no changes, and one without changes has one value
+  pub no_changes : (steps block value : ℕ) → AllHave Has steps block value → AreChanges Has (block * 2 ^ (6 * steps)) ((block + 1) * 2 ^ (6 * steps)) value []
+  unfolding AreChanges
+  no_changes steps block value all = (all.0, λ number le lt. all.1 number (of_block number block (2 ^ (6 * steps)) (pow_pos (6 * steps)) le lt))
+
+  pub all_have : (steps block value : ℕ) → AreChanges Has (block * 2 ^ (6 * steps)) ((block + 1) * 2 ^ (6 * steps)) value [] → AllHave Has steps block value
+  unfolding AreChanges
+  all_have steps block value known =
+      (known.0, λ number e. let inside = in_block number block (2 ^ (6 * steps)) (pow_pos (6 * steps)) e in known.1 number inside.0 inside.1)
+
   -- the first number has the first value
   pub first_has : (from end value : ℕ) (changes : List (ℕ × ℕ)) → from < end → AreChanges Has from end value changes → (value < 2 ^ 31) × Has from value
   unfolding AreChanges
@@ -136,17 +147,8 @@ module _ (Has : (number value : ℕ) → Type 0) where
       ]
     ]
 
-    -- a block has one list
-    pub one_list : (steps block value value' : ℕ) (changes changes' : List (ℕ × ℕ)) → HasList Has steps block value changes → HasList Has steps block value' changes'
-        → (value ≡ value') × (changes ≡ changes')
+    -- a block has one value and one list of changes
+    pub one_list : (steps block value value' : ℕ) (changes changes' : List (ℕ × ℕ)) → AreChanges Has (block * 2 ^ (6 * steps)) ((block + 1) * 2 ^ (6 * steps)) value changes
+        → AreChanges Has (block * 2 ^ (6 * steps)) ((block + 1) * 2 ^ (6 * steps)) value' changes' → (value ≡ value') × (changes ≡ changes')
     one_list steps block value value' changes changes' known known' =
-        one_changes (block * 2 ^ (6 * steps)) ((block + 1) * 2 ^ (6 * steps)) value value' changes changes' (omega (arith, pow_pos (6 * steps))) known.2 known'.2
-
-    -- and no value
-    pub list_no_value : (steps block value value' : ℕ) (changes : List (ℕ × ℕ)) → HasList Has steps block value changes → AllHave Has steps block value' → ⊥
-    unfolding AreChanges
-    list_no_value steps block value value' [] known all = omega (arith, known.0)
-    list_no_value steps block value value' (change ∷ changes) known all =
-        let end = (block + 1) * 2 ^ (6 * steps) in
-        no_earlier (block * 2 ^ (6 * steps)) end end value' value change changes
-        (all.0, λ number le lt. all.1 number (of_block number block (2 ^ (6 * steps)) (pow_pos (6 * steps)) le lt)) known.2 known.2.1
+        one_changes (block * 2 ^ (6 * steps)) ((block + 1) * 2 ^ (6 * steps)) value value' changes changes' (omega (arith, pow_pos (6 * steps))) known known'

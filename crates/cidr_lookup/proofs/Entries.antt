@@ -2,12 +2,12 @@
 use Rattle.std.proofs.Common.{◌≡◌, refl, sym, ap, ap₂, subst, ◌∙◌, arith, inl, inr, ℕ, zero, suc, ◌+◌, ◌-◌, ◌*◌, ◌/◌, ◌%◌, ◌^◌, ◌<◌, ◌≤◌, ◌⊎◌, List, [], ◌∷◌, ◌++◌, length, get_or, get_or-take, take, drop, length-take-le, ext_get_or, take-append-drop, count_ones, append_assoc, length-append}
 use Rattle.std.proofs.lemmas.Bool.{cases_eq}
 use Rattle.std.proofs.lemmas.List.{append-nil, drop_more, get_or_append_left, get_or-append_right}
-use Rattle.std.proofs.lemmas.Nat.{shl-shr, shr-shr, shr_split}
-use Rattle.cidr_lookup.specs.Nodes.{AreEntries, AllHave, HasList, IsNode, IsEntry, list, node, marks, runs}
-use Rattle.cidr_lookup.specs.Putting.{StopsBefore}
+use Rattle.std.proofs.lemmas.Nat.{shr-shr, shr_split}
+use Rattle.cidr_lookup.specs.Nodes.{AreChanges, AreEntries, IsEntry, IsLeaf, list}
+use Rattle.cidr_lookup.specs.Putting.{AllHave, HasList, StopsBefore, marks, node, runs}
 use Rattle.cidr_lookup.specs.Searching.{IsListAt}
-use Rattle.cidr_lookup.proofs.Changes.{list_long, list_no_value, one_list}
-use Rattle.cidr_lookup.proofs.Nodes.{run_of, same_node}
+use Rattle.cidr_lookup.proofs.Changes.{all_have, list_long, no_changes, one_list}
+use Rattle.cidr_lookup.proofs.Nodes.{is_node, node_words, run_of, same_node}
 
 -- ---- entries of several blocks
 module _ (IsOne : (block : ℕ) (before : List ℕ) (entry : ℕ) (after : List ℕ) → Type 0) where
@@ -185,17 +185,32 @@ module _ (Has : (number value : ℕ) → Type 0) where
   abbrev pub HasNoList : (steps block : ℕ) → Type 0
   HasNoList steps block = ¬ ((value : ℕ) × (changes : List (ℕ × ℕ)) × HasList Has steps block value changes)
 
-  -- an entry that is a value, one that is a list, and one that is a node
-  pub value_entry : (steps block : ℕ) (before : List ℕ) (value : ℕ) → AllHave Has steps block value → IsEntry Has steps block before value before
+  -- an entry without a node
+  leaf_entry : (steps block : ℕ) (before : List ℕ) (entry : ℕ) (after : List ℕ) → IsLeaf Has steps block before entry after → IsEntry Has steps block before entry after
   unfolding IsEntry
-  value_entry zero block before value all = (all, refl)
-  value_entry (suc steps) block before value all = inl (all, refl)
+  leaf_entry zero block before entry after leaf = leaf
+  leaf_entry (suc steps) block before entry after leaf = inl leaf
 
-  pub list_entry : (steps block : ℕ) (before : List ℕ) (entry : ℕ) (after : List ℕ) (value : ℕ) (changes : List (ℕ × ℕ)) → 0 < steps → HasList Has steps block value changes
+  pub value_entry : (steps block : ℕ) (before : List ℕ) (value : ℕ) → AllHave Has steps block value → IsEntry Has steps block before value before
+  value_entry steps block before value all = leaf_entry steps block before value before (value, [], no_changes Has steps block value all, inl (refl, refl, refl))
+
+  pub list_entry : (steps block : ℕ) (before : List ℕ) (entry : ℕ) (after : List ℕ) (value : ℕ) (changes : List (ℕ × ℕ)) → HasList Has steps block value changes
       → entry ≡ 2 ^ 31 + 2 * length before + 1 → after ≡ before ++ list value changes → IsEntry Has steps block before entry after
-  unfolding IsEntry
-  list_entry zero block before entry after value changes some known is put = absurd (omega arith)
-  list_entry (suc steps) block before entry after value changes some known is put = inr (inl (value, changes, known, is, put))
+  list_entry steps block before entry after value changes known is put =
+      leaf_entry steps block before entry after (value, changes, known.2, inr (known.0, known.1, known.3, is, put))
+
+  -- what has no changes is a value
+  leaf_value : (steps block entry value : ℕ) (changes : List (ℕ × ℕ)) → AreChanges Has (block * 2 ^ (6 * steps)) ((block + 1) * 2 ^ (6 * steps)) value changes
+      → changes ≡ [] → entry ≡ value → AllHave Has steps block entry
+  leaf_value steps block entry value changes known none is =
+      subst (λ v. AllHave Has steps block v) (sym is)
+      (all_have Has steps block value (subst (λ cs. AreChanges Has (block * 2 ^ (6 * steps)) ((block + 1) * 2 ^ (6 * steps)) value cs) none known))
+
+  -- where no value is and no list, an entry has a node
+  no_leaf : (steps block : ℕ) (before : List ℕ) → ¬ ((value : ℕ) × AllHave Has steps block value) → HasNoList steps block
+      → ¬ ((leaf : ℕ) × (end : List ℕ) × IsLeaf Has steps block before leaf end)
+  no_leaf steps block before none no_list (leaf, end, (value, changes, known, inl (empty, is, same))) = none (leaf, leaf_value steps block leaf value changes known empty is)
+  no_leaf steps block before none no_list (leaf, end, (value, changes, known, inr (some, few, low, is, put))) = no_list (value, changes, (some, few, known, low))
 
   pub node_entry : (steps block : ℕ) (before : List ℕ) (entry : ℕ) (after entries middle : List ℕ) → 0 < steps → ¬ ((value : ℕ) × AllHave Has steps block value)
       → HasNoList steps block → AreEntries (IsEntry Has (steps - 1)) (block * 64) 64 before entries middle → entry ≡ 2 ^ 31 + 2 * length middle → after ≡ middle ++ node entries
@@ -204,7 +219,10 @@ module _ (Has : (number value : ℕ) → Type 0) where
   node_entry zero block before entry after entries middle some none no_list parts is put = absurd (omega arith)
   node_entry (suc steps) block before entry after entries middle some none no_list parts is put =
       let one : suc steps - 1 ≡ steps = omega arith in
-      inr (inr (none, no_list, (entries, middle, subst (λ n. AreEntries (IsEntry Has n) (block * 64) 64 before entries middle) one parts, is, put)))
+      inr (
+        no_leaf (suc steps) block before none no_list,
+        (entries, marks entries 64, runs entries 64, middle, is_node entries, subst (λ n. AreEntries (IsEntry Has n) (block * 64) 64 before entries middle) one parts, is, put),
+      )
 
   -- and several that are values
   pub values_more : (steps first n m : ℕ) (before entries entries' middle : List ℕ) → n ≤ m → ((i : ℕ) → i < n → get_or entries' i 0 ≡ get_or entries i 0)
@@ -223,36 +241,47 @@ module _ (Has : (number value : ℕ) → Type 0) where
     )
   ]
 
-  -- which it is where no value is and no list
+  -- the entry of a block that has a node, behind what its 64 parts need
+  abbrev IsParted : (IsOne : (block : ℕ) (before : List ℕ) (entry : ℕ) (after : List ℕ) → Type 0) (block : ℕ) (before : List ℕ) (entry : ℕ) (after : List ℕ) → Type 0
+  IsParted IsOne block before entry after = (entries : List ℕ) × (middle : List ℕ) × AreEntries IsOne (block * 64) 64 before entries middle
+      × (entry ≡ 2 ^ 31 + 2 * length middle) × (after ≡ middle ++ node entries)
+
   pub node_of : (steps block : ℕ) (before : List ℕ) (entry : ℕ) (after : List ℕ) → 0 < steps → ¬ ((value : ℕ) × AllHave Has steps block value)
-      → HasNoList steps block → IsEntry Has steps block before entry after → IsNode (IsEntry Has (steps - 1)) block before entry after
+      → HasNoList steps block → IsEntry Has steps block before entry after → IsParted (IsEntry Has (steps - 1)) block before entry after
   unfolding IsEntry
   node_of zero block before entry after some none no_list known = absurd (omega arith)
-  node_of (suc steps) block before entry after some none no_list (inl known) = absurd (none (entry, known.0))
-  node_of (suc steps) block before entry after some none no_list (inr (inl known)) = absurd (no_list (known.0, known.1, known.2))
-  node_of (suc steps) block before entry after some none no_list (inr (inr known)) =
+  node_of (suc steps) block before entry after some none no_list (inl known) = absurd (no_leaf (suc steps) block before none no_list (entry, after, known))
+  node_of (suc steps) block before entry after some none no_list (inr (other, (entries, set, kept, middle, are, parts, is, put))) =
       let one : suc steps - 1 ≡ steps = omega arith in
-      subst (λ n. IsNode (IsEntry Has n) block before entry after) (sym one) known.2
+      subst (λ n. IsParted (IsEntry Has n) block before entry after) (sym one) (entries, middle, parts, is, node_words entries set kept are middle after put)
 
   -- the words after an entry are those before it and more
+  leaf_grows : (steps block : ℕ) (before : List ℕ) (entry : ℕ) (after : List ℕ) → IsLeaf Has steps block before entry after → (rest : List ℕ) × (after ≡ before ++ rest)
+  leaf_grows steps block before entry after (value, changes, known, inl (none, is, same)) = ([], same ∙ sym (append-nil before))
+  leaf_grows steps block before entry after (value, changes, known, inr (some, few, low, is, put)) = (list value changes, put)
+
   pub grows : (steps block : ℕ) (before : List ℕ) (entry : ℕ) (after : List ℕ) → IsEntry Has steps block before entry after → (rest : List ℕ) × (after ≡ before ++ rest)
   unfolding IsEntry
-  grows zero block before entry after known = ([], known.1 ∙ sym (append-nil before))
-  grows (suc steps) block before entry after (inl known) = ([], known.1 ∙ sym (append-nil before))
-  grows (suc steps) block before entry after (inr (inl known)) = (list known.0 known.1, known.4)
-  grows (suc steps) block before entry after (inr (inr (none, no_list, (entries, middle, parts, is, all)))) =
+  grows zero block before entry after known = leaf_grows zero block before entry after known
+  grows (suc steps) block before entry after (inl known) = leaf_grows (suc steps) block before entry after known
+  grows (suc steps) block before entry after (inr (none, (entries, set, kept, middle, are, parts, is, put))) =
       let front = all_grow (IsEntry Has steps) (grows steps) (block * 64) 64 before entries middle parts in
+      let all = node_words entries set kept are middle after put in
       (front.0 ++ node entries, all ∙ (ap (λ x. x ++ node entries) front.1 ∙ append_assoc before front.0 (node entries)))
 
   pub leads : (words : List ℕ) (end steps block : ℕ) (before : List ℕ) (entry : ℕ) (after more : List ℕ) → IsEntry Has steps block before entry after → words ≡ after ++ more
       → length after ≤ end + 1 → Leads words end steps block entry
   unfolding IsEntry Leads
-  leads words end zero block before entry after more known all upto = known.0
-  leads words end (suc steps) block before entry after more (inl known) all upto = inl known.0
-  leads words end (suc steps) block before entry after more (inr (inl known)) all upto =
-      inr (inl (length before, known.3, (known.0, known.1, known.2, record { front = before; back = more; all = all ∙ ap (λ x. x ++ more) known.4; here = refl })))
-  leads words end (suc steps) block before entry after more (inr (inr (none, no_list, (entries, middle, parts, is, put)))) all upto =
-      let whole_is : words ≡ middle ++ node entries ++ more = all ∙ ap (λ x. x ++ more) put in
+  leads words end zero block before entry after more (value, changes, known, inl (none, is, same)) all upto = leaf_value zero block entry value changes known none is
+  leads words end zero block before entry after more (value, changes, known, inr (some, few, low, is, put)) all upto =
+      absurd (omega (arith, list_long Has zero block value changes (some, few, known, low)))
+  leads words end (suc steps) block before entry after more (inl (value, changes, known, inl (none, is, same))) all upto =
+      inl (leaf_value (suc steps) block entry value changes known none is)
+  leads words end (suc steps) block before entry after more (inl (value, changes, known, inr (some, few, low, is, put))) all upto =
+      inr (inl (length before, is, (value, changes, (some, few, known, low), record { front = before; back = more; all = all ∙ ap (λ x. x ++ more) put; here = refl })))
+  leads words end (suc steps) block before entry after more (inr (none, (entries, set, kept, middle, are, parts, is, put))) all upto =
+      let node_put : after ≡ middle ++ node entries = node_words entries set kept are middle after put in
+      let whole_is : words ≡ middle ++ node entries ++ more = all ∙ ap (λ x. x ++ more) node_put in
       let known : AreParts words (Leads words (length middle) steps) block (length middle) = λ part l.
       let one = each (IsEntry Has steps) (grows steps) (block * 64) 64 before entries middle parts part l in
       let rest = one.2 ++ (node entries ++ more) in
@@ -262,7 +291,7 @@ module _ (Has : (number value : ℕ) → Type 0) where
       let W : List ℕ → Type 0 = λ ws. (part_at ws (length middle) part < length ws) × (get_or ws (part_at ws (length middle) part) 0 ≡ get_or entries part 0) in
       let in_words = subst W (sym whole_is) found in
       (in_words.0, subst (λ e. Leads words (length middle) steps (block * 64 + part) e) (sym in_words.1) lead) in
-      inr (inr (length middle, is, omega (arith, upto, ap length put, length-append middle (node entries)), known))
+      inr (inr (length middle, is, omega (arith, upto, ap length node_put, length-append middle (node entries)), known))
 
   -- a value is that of a number of the block
   pub led : (words : List ℕ) (end steps number entry : ℕ) → Leads words end steps (number / 2 ^ (6 * steps)) entry → entry < 2 ^ 31 → Has number entry
@@ -306,38 +335,40 @@ module _ (Has : (number value : ℕ) → Type 0) where
 
   -- ---- the words are unique
   module _ (one_value : (number value value' : ℕ) → Has number value → Has number value' → value ≡ value') where
-    value_unique : (steps block value value' : ℕ) → AllHave Has steps block value → AllHave Has steps block value' → value ≡ value'
-    value_unique steps block value value' known known' =
-        let number = block * 2 ^ (6 * steps) in
-        let in_block : number / 2 ^ (6 * steps) ≡ block = shl-shr block (6 * steps) in
-        one_value number value value' (known.1 number in_block) (known'.1 number in_block)
+    one_leaf : (steps block : ℕ) (before : List ℕ) (entry entry' : ℕ) (after after' : List ℕ) → IsLeaf Has steps block before entry after
+        → IsLeaf Has steps block before entry' after' → (entry ≡ entry') × (after ≡ after')
+    one_leaf steps block before entry entry' after after' (value, changes, known, inl (none, is, put)) (value', changes', known', inl (none', is', put')) =
+        let same = one_list Has one_value steps block value value' changes changes' known known' in
+        (is ∙ (same.0 ∙ sym is'), put ∙ sym put')
+    one_leaf steps block before entry entry' after after' (value, changes, known, inl (none, is, put)) (value', changes', known', inr (some', few', low', is', put')) =
+        absurd (omega (arith, some', ap length none, ap length (one_list Has one_value steps block value value' changes changes' known known').1))
+    one_leaf steps block before entry entry' after after' (value, changes, known, inr (some, few, low, is, put)) (value', changes', known', inl (none', is', put')) =
+        absurd (omega (arith, some, ap length none', ap length (one_list Has one_value steps block value value' changes changes' known known').1))
+    one_leaf steps block before entry entry' after after' (value, changes, known, inr (some, few, low, is, put)) (value', changes', known', inr (some', few', low', is', put')) =
+        let same = one_list Has one_value steps block value value' changes changes' known known' in
+        (is ∙ sym is', put ∙ (ap₂ (λ (v : ℕ) (cs : List (ℕ × ℕ)). before ++ list v cs) same.0 same.1 ∙ sym put'))
 
     pub unique : (steps block : ℕ) (before : List ℕ) (entry entry' : ℕ) (after after' : List ℕ) → IsEntry Has steps block before entry after
         → IsEntry Has steps block before entry' after' → (entry ≡ entry') × (after ≡ after')
     unfolding IsEntry
-    unique zero block before entry entry' after after' known known' = (value_unique zero block entry entry' known.0 known'.0, known.1 ∙ sym known'.1)
-    unique (suc steps) block before entry entry' after after' (inl known) (inl known') = (value_unique (suc steps) block entry entry' known.0 known'.0, known.1 ∙ sym known'.1)
-    unique (suc steps) block before entry entry' after after' (inl known) (inr (inl other)) = absurd (list_no_value Has one_value (suc steps) block other.0 entry other.1 other.2 known.0)
-    unique (suc steps) block before entry entry' after after' (inl known) (inr (inr other)) = absurd (other.0 (entry, known.0))
-    unique (suc steps) block before entry entry' after after' (inr (inl other)) (inl known) = absurd (list_no_value Has one_value (suc steps) block other.0 entry' other.1 other.2 known.0)
-    unique (suc steps) block before entry entry' after after' (inr (inl known)) (inr (inl known')) =
-        let same = one_list Has one_value (suc steps) block known.0 known'.0 known.1 known'.1 known.2 known'.2 in
-        (known.3 ∙ sym known'.3, known.4 ∙ (ap₂ (λ (v : ℕ) (cs : List (ℕ × ℕ)). before ++ list v cs) same.0 same.1 ∙ sym known'.4))
-    unique (suc steps) block before entry entry' after after' (inr (inl known)) (inr (inr other)) = absurd (other.1 (known.0, known.1, known.2))
-    unique (suc steps) block before entry entry' after after' (inr (inr other)) (inl known) = absurd (other.0 (entry', known.0))
-    unique (suc steps) block before entry entry' after after' (inr (inr other)) (inr (inl known)) = absurd (other.1 (known.0, known.1, known.2))
-    unique (suc steps) block before entry entry' after after' (inr (inr (none, no_list, (entries, middle, parts, is, put)))) (inr (inr (none', no_list', (entries', middle', parts', is', put')))) =
+    unique zero block before entry entry' after after' known known' = one_leaf zero block before entry entry' after after' known known'
+    unique (suc steps) block before entry entry' after after' (inl known) (inl known') = one_leaf (suc steps) block before entry entry' after after' known known'
+    unique (suc steps) block before entry entry' after after' (inl known) (inr other) = absurd (other.0 (entry, after, known))
+    unique (suc steps) block before entry entry' after after' (inr other) (inl known) = absurd (other.0 (entry', after', known))
+    unique (suc steps) block before entry entry' after after' (inr (none, (entries, set, kept, middle, are, parts, is, put))) (inr (none', (entries', set', kept', middle', are', parts', is', put'))) =
         let all = all_unique (IsEntry Has steps) (unique steps) (block * 64) 64 before entries entries' middle middle' parts parts' in
         let same = same_node entries' entries 64 all.0 in
-        let nodes : node entries ≡ node entries' = ap₂ (λ r m. m % 2 ^ 32 ∷ m / 2 ^ 32 ∷ r) same.0 same.1 in
-        (is ∙ (ap (λ m. 2 ^ 31 + 2 * length m) all.1 ∙ sym is'), put ∙ (ap₂ (λ m x. m ++ x) all.1 nodes ∙ sym put'))
+        let nodes : node entries ≡ node entries' = ap₂ (λ r m. m % 2 ^ 32 ∷ m / 2 ^ 32 ∷ r) same.0 same.1 in (
+          is ∙ (ap (λ m. 2 ^ 31 + 2 * length m) all.1 ∙ sym is'),
+          node_words entries set kept are middle after put ∙ (ap₂ (λ m x. m ++ x) all.1 nodes ∙ sym (node_words entries' set' kept' are' middle' after' put')),
+        )
 
     -- ---- a word that is not taken, of a list
-    pub own_list : (steps block : ℕ) (before : List ℕ) (entry : ℕ) (after : List ℕ) (value : ℕ) (changes : List (ℕ × ℕ)) → 0 < steps → HasList Has steps block value changes
+    pub own_list : (steps block : ℕ) (before : List ℕ) (entry : ℕ) (after : List ℕ) (value : ℕ) (changes : List (ℕ × ℕ)) → HasList Has steps block value changes
         → IsEntry Has steps block before entry after → after ≡ before ++ list value changes
-    own_list steps block before entry after value changes some known other =
+    own_list steps block before entry after value changes known other =
         (unique steps block before entry (2 ^ 31 + 2 * length before + 1) after (before ++ list value changes) other
-        (list_entry steps block before (2 ^ 31 + 2 * length before + 1) (before ++ list value changes) value changes some known refl refl)).1
+        (list_entry steps block before (2 ^ 31 + 2 * length before + 1) (before ++ list value changes) value changes known refl refl)).1
 
     -- ---- and of a block in which a range begins, and which has no list
     module _ (steps block : ℕ) (before : List ℕ) (entry : ℕ) (after entries put : List ℕ) (part : ℕ) (some : 0 < steps) (none : ¬ ((value : ℕ) × AllHave Has steps block value))

@@ -3,11 +3,13 @@ use Rattle.std.proofs.Common.{◌≡◌, refl, sym, ap, subst, arith, inl, inr, 
 use Rattle.std.proofs.lemmas.Bool.{cases_lt, cond_both}
 use Rattle.std.proofs.lemmas.List.{get_or_append_left, get_or-append_right}
 use Rattle.std.proofs.lemmas.Nat.{mod_below, pow_pos, shr_below}
-use Rattle.cidr_lookup.specs.Nodes.{AreEntries, IsEntry, begins_run, change_word, list, marks, node, runs}
+use Rattle.cidr_lookup.specs.Nodes.{AreEntries, IsEntry, IsLeaf, list}
+use Rattle.cidr_lookup.specs.Putting.{begins_run, marks, node, runs}
+use Rattle.cidr_lookup.specs.Searching.{change_word}
 use Rattle.cidr_lookup.specs.Tables.{IsAnswer, IsLookupTable}
 use Rattle.cidr_lookup.proofs.Changes.{first_has, values_small}
 use Rattle.cidr_lookup.proofs.Entries.{grows}
-use Rattle.cidr_lookup.proofs.Nodes.{marks_fit}
+use Rattle.cidr_lookup.proofs.Nodes.{marks_fit, node_words}
 
 -- each of the words fits
 abbrev pub AllFit : List ℕ → Type 0
@@ -73,21 +75,29 @@ module _ (IsOne : (block : ℕ) (before : List ℕ) (entry : ℕ) (after : List 
       )
 
 module _ (Has : (number value : ℕ) → Type 0) where
+  leaf_fits : (steps block : ℕ) (before : List ℕ) (entry : ℕ) (after : List ℕ) → IsLeaf Has steps block before entry after → length after < 2 ^ 30 → AllFit before
+      → (entry < 2 ^ 32) × AllFit after
+  leaf_fits steps block before entry after (value, changes, known, inl (none, is, same)) few fits =
+      let s = 2 ^ (6 * steps) in
+      let lt : block * s < (block + 1) * s = omega (arith, pow_pos (6 * steps)) in
+      (omega (arith, is, (first_has Has (block * s) ((block + 1) * s) value changes lt known).0), subst AllFit (sym same) fits)
+  leaf_fits steps block before entry after (value, changes, known, inr (some, less, low, is, all)) few fits =
+      let short : length before < 2 ^ 30 = omega (arith, ap length all, length-append before (list value changes)) in
+      let s = 2 ^ (6 * steps) in
+      let lt : block * s < (block + 1) * s = omega (arith, pow_pos (6 * steps)) in
+      let list_fits : AllFit (list value changes) = word_fits (length changes) (map change_word changes ++ value ∷ map (λ (change : ℕ × ℕ). change.1) changes) (omega (arith, less))
+      (both_fit (map change_word changes) (value ∷ map (λ (change : ℕ × ℕ). change.1) changes) (starts_fit changes)
+      (word_fits value (map (λ (change : ℕ × ℕ). change.1) changes) (omega (arith, (first_has Has (block * s) ((block + 1) * s) value changes lt known).0))
+      (values_fit changes (values_small Has (block * s) ((block + 1) * s) value changes lt known)))) in
+      (omega (arith, is, short), subst AllFit (sym all) (both_fit before (list value changes) fits list_fits))
+
   entry_fits : (steps block : ℕ) (before : List ℕ) (entry : ℕ) (after : List ℕ) → IsEntry Has steps block before entry after → length after < 2 ^ 30 → AllFit before
       → (entry < 2 ^ 32) × AllFit after
   unfolding IsEntry
-  entry_fits zero block before entry after known few fits = (omega (arith, known.0.0), subst AllFit (sym known.1) fits)
-  entry_fits (suc steps) block before entry after (inl known) few fits = (omega (arith, known.0.0), subst AllFit (sym known.1) fits)
-  entry_fits (suc steps) block before entry after (inr (inl (value, changes, known, is, all))) few fits =
-      let short : length before < 2 ^ 30 = omega (arith, ap length all, length-append before (list value changes)) in
-      let s = 2 ^ (6 * suc steps) in
-      let lt : block * s < (block + 1) * s = omega (arith, pow_pos (6 * suc steps)) in
-      let list_fits : AllFit (list value changes) = word_fits (length changes) (map change_word changes ++ value ∷ map (λ (change : ℕ × ℕ). change.1) changes) (omega (arith, known.1))
-      (both_fit (map change_word changes) (value ∷ map (λ (change : ℕ × ℕ). change.1) changes) (starts_fit changes)
-      (word_fits value (map (λ (change : ℕ × ℕ). change.1) changes) (omega (arith, (first_has Has (block * s) ((block + 1) * s) value changes lt known.2).0))
-      (values_fit changes (values_small Has (block * s) ((block + 1) * s) value changes lt known.2)))) in
-      (omega (arith, is, short), subst AllFit (sym all) (both_fit before (list value changes) fits list_fits))
-  entry_fits (suc steps) block before entry after (inr (inr (none, no_list, (entries, middle, parts, is, all)))) few fits =
+  entry_fits zero block before entry after known few fits = leaf_fits zero block before entry after known few fits
+  entry_fits (suc steps) block before entry after (inl known) few fits = leaf_fits (suc steps) block before entry after known few fits
+  entry_fits (suc steps) block before entry after (inr (none, (entries, set, kept, middle, are, parts, is, put))) few fits =
+      let all = node_words entries set kept are middle after put in
       let short : length middle < 2 ^ 30 = omega (arith, ap length all, length-append middle (node entries)) in
       let old = all_fit (IsEntry Has steps) (grows Has steps) (entry_fits steps) (block * 64) 64 before entries middle parts short fits in
       (omega (arith, is, short), subst AllFit (sym all) (both_fit middle (node entries) old.1 (node_fits entries old.0)))

@@ -4,7 +4,8 @@ use Rattle.std.proofs.lemmas.Bool.{cases_eq, cases_lt}
 use Rattle.std.proofs.lemmas.Nat.{mul-le, pow_pos, shr_split}
 use Rattle.cidr.specs.model.Bits.{bits}
 use Rattle.cidr_lookup.specs.Keys.{AreAscendingNetworks}
-use Rattle.cidr_lookup.specs.Nodes.{AreChanges, HasList, HaveBefore}
+use Rattle.cidr_lookup.specs.Nodes.{AreChanges, HaveBefore}
+use Rattle.cidr_lookup.specs.Putting.{HasList}
 use Rattle.cidr_lookup.specs.Ranges.{AreMatchRanges, changes_from}
 use Rattle.cidr_lookup.specs.Tables.{IsAnswer}
 use Rattle.cidr_lookup.proofs.BlockAnswers.{answered, one_answer}

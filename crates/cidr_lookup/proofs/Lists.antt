@@ -1,10 +1,10 @@
 -- The words of a list: where they stand, and how they are put.
 use Rattle.std.proofs.Common.{◌≡◌, refl, sym, ap, ap₂, subst, ◌∙◌, arith, inl, ℕ, zero, suc, ◌+◌, ◌-◌, ◌*◌, ◌/◌, ◌^◌, ◌<◌, ◌≤◌, List, [], ◌∷◌, ◌++◌, length, map, get_or, append_assoc, length-append}
 use Rattle.std.proofs.lemmas.List.{get_or_append_left, get_or-append_right, get_or-map, length-map}
-use Rattle.cidr_lookup.specs.Nodes.{change_word, list}
+use Rattle.cidr_lookup.specs.Nodes.{list}
 use Rattle.cidr_lookup.specs.Putting.{StopsBefore}
 use Rattle.cidr_lookup.specs.Ranges.{changes_from}
-use Rattle.cidr_lookup.specs.Searching.{AscendAt, AreOrdered, IsListAt}
+use Rattle.cidr_lookup.specs.Searching.{AreOrdered, AscendAt, IsListAt, change_word}
 
 -- ---- where the words stand
 -- behind other words

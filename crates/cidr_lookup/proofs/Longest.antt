@@ -10,8 +10,8 @@ use Rattle.cidr.specs.model.Bits.{bits, number}
 use Rattle.cidr.specs.model.Network.{BeginsWith}
 use Rattle.cidr.specs.laws.BitLaws.{length-bits, number-bits, bits-append}
 use Rattle.cidr_table.specs.model.Prefixes.{IsLongestMatch}
-use Rattle.cidr_lookup.specs.Keys.{AreAscendingNetworks, IsNetwork, last_number_in, prefix_bits, row_behind}
-use Rattle.cidr_lookup.specs.Passing.{HasNumber, IsLastWithNumber, at}
+use Rattle.cidr_lookup.specs.Keys.{AreAscendingNetworks, IsNetwork, prefix_bits, row_behind}
+use Rattle.cidr_lookup.specs.Passing.{HasNumber, IsLastWithNumber, at, last_number_in}
 use Rattle.cidr_lookup.proofs.Numbers.{nests}
 
 module _ (w : ℕ) where

@@ -1,12 +1,12 @@
 -- The runs of a node, which are counted by its marks.
-use Rattle.std.proofs.Common.{◌≡◌, ◌≢◌, refl, sym, ap, ap₂, subst, ◌∙◌, arith, add-one, inl, inr, Bool, true, false, Result, Ok, Err, ℕ, zero, suc, ◌+◌, ◌-◌, ◌*◌, ◌/◌, ◌%◌, ◌^◌, ◌<◌, ◌≤◌, ◌==◌, ◌||◌, not, if◌then◌else◌, List, [], ◌∷◌, ◌++◌, length, get_or, take, replicate, slice_set, count_ones, append_assoc, length-append, length-set, length-take-le, get_or-take}
+use Rattle.std.proofs.Common.{◌≡◌, ◌≢◌, refl, sym, ap, ap₂, subst, ◌∙◌, arith, add-one, inl, inr, Bool, true, false, Result, Ok, Err, ℕ, zero, suc, ◌+◌, ◌-◌, ◌*◌, ◌/◌, ◌%◌, ◌^◌, ◌<◌, ◌≤◌, ◌==◌, ◌||◌, not, if◌then◌else◌, List, [], ◌∷◌, ◌++◌, length, get_or, take, replicate, slice_set, count_ones, append_assoc, length-append, length-set, length-take-le, get_or-take, take_all}
 use Rattle.std.proofs.Math.Nat.{mul_assoc, mul_comm, pow-succ'}
-use Rattle.std.proofs.lemmas.Bool.{cases_Bool, cases_eq, cond-true, cond-false, eqb-true, eq-eqb, ne_eqb, or_parts, not-false, cond_both}
-use Rattle.std.proofs.lemmas.List.{append-nil, get_or_append_left, get_or-append_right, get_or-replicate, get_or_push, length-replicate, take_more_set}
-use Rattle.std.proofs.lemmas.Nat.{mul-le, pow-add, pow_pos, shr-shr, shr_high, ones_cat, ones_le_self, zero_from_ones}
+use Rattle.std.proofs.lemmas.Bool.{cases_Bool, cases_eq, cases_lt, false≢true, cond-true, cond-false, eqb-true, eq-eqb, ne_eqb, or_parts, not-false, cond_both}
+use Rattle.std.proofs.lemmas.List.{append-nil, get_or_append_left, get_or-append_right, get_or-replicate, get_or_push, length-replicate, take_more, take_more_set}
+use Rattle.std.proofs.lemmas.Nat.{mod_below, mul-le, pow-add, pow_pos, shr-shr, shr_high, shr_split, ones_cat, ones_le_self, zero_from_ones}
 use Rattle.std.specs.Result.{OnErr}
-use Rattle.cidr_lookup.specs.Nodes.{begins_run, runs, marks, node}
-use Rattle.cidr_lookup.specs.Putting.{AreRuns}
+use Rattle.cidr_lookup.specs.Nodes.{IsNode}
+use Rattle.cidr_lookup.specs.Putting.{AreRuns, begins_run, marks, node, runs}
 
 abbrev pub mark : Bool → ℕ
 mark b = if b then 1 else 0
@@ -278,6 +278,115 @@ pub whole_node : (entries : List ℕ) (set : ℕ) (kept : List ℕ) (count : ℕ
 whole_node entries set kept count are =
     let set_is : marks entries 64 ≡ set = omega (arith, are.marked) in
     ap₂ (λ m r. m % 2 ^ 32 ∷ m / 2 ^ 32 ∷ r) set_is (sym are.are_runs)
+
+-- ---- the runs part by part are those of a node
+module _ (entries : List ℕ) where
+  one_mark : marks entries 1 ≡ 1
+  one_mark = marks_more entries 0 ∙ ap (λ m. m * 2 + 1) (no_marks entries)
+
+  one_run : runs entries 1 ≡ get_or entries 0 0 ∷ []
+  one_run = runs_more entries 0 ∙ ap (λ r. r ++ get_or entries 0 0 ∷ []) (no_runs entries)
+
+  -- two runs side by side differ
+  last_apart : (n k : ℕ) → begins_run entries n ≡ true → length (runs entries n) ≡ k + 1 → get_or (runs entries n) k 0 ≢ get_or entries n 0
+  last_apart zero k begins size = absurd (omega (arith, size, ap length (no_runs entries)))
+  last_apart (suc m) k begins size = λ same.
+      let last = last_run entries m in
+      let at : length (runs entries (suc m)) - 1 ≡ k = omega (arith, size) in
+      let here : get_or (runs entries (suc m)) k 0 ≡ get_or entries m 0 = ap (λ i. get_or (runs entries (suc m)) i 0) (sym at) ∙ last.1 in
+      let one : m ≡ suc m - 1 = omega arith in
+      false≢true (sym (no_begin entries (suc m) (omega arith) (sym same ∙ (here ∙ ap (λ i. get_or entries i 0) one))) ∙ begins)
+
+  apart : (n k : ℕ) → k + 1 < length (runs entries n) → get_or (runs entries n) k 0 ≢ get_or (runs entries n) (k + 1) 0
+  unfolding runs
+  apart zero k l = absurd (omega arith)
+  apart (suc n) k l =
+      let old = runs entries n in
+      let x = get_or entries n 0 in
+      cond_both (begins_run entries n) (old ++ x ∷ []) old (λ xs. k + 1 < length xs → get_or xs k 0 ≢ get_or xs (k + 1) 0)
+      (λ begins l'. elim (cases_lt (k + 1) (length old)) [
+        | inl less ↦ λ same. apart n k less
+            (sym (get_or_append_left old (x ∷ []) 0 k (omega (arith, less))) ∙ (same ∙ get_or_append_left old (x ∷ []) 0 (k + 1) less))
+        | inr past ↦
+            let size : length old ≡ k + 1 = omega (arith, l', past, length-append old (x ∷ [])) in
+            λ same. last_apart n k begins size (sym (get_or_append_left old (x ∷ []) 0 k (omega (arith, size))) ∙ (same ∙ get_or_push old x 0 (k + 1) size))
+      ])
+      (λ _ l'. apart n k l') l
+
+  pub is_node : IsNode entries (marks entries 64) (runs entries 64)
+  is_node = record {
+    first = marks_before entries 64 63 1 refl ∙ one_mark;
+    counted = sym (ones_runs entries 64);
+    each = λ i l.
+        let less : 63 - i ≡ 64 - 1 - i = omega arith in
+        ap (λ j. get_or (runs entries 64) (count_ones (marks entries 64 / 2 ^ j) - 1) 0) less ∙ (run_of entries 64 i l).2;
+    differ = apart 64;
+  }
+
+-- and no others are
+module _ (entries : List ℕ) (set : ℕ) (kept : List ℕ) (are : IsNode entries set kept) where
+  abbrev upto : ℕ → ℕ
+  upto n = set / 2 ^ (63 - n)
+
+  fewer : (j : ℕ) → count_ones (set / 2 ^ j) ≤ count_ones set
+  fewer j = omega (arith, ap count_ones (shr_split set j), ones_cat j (set / 2 ^ j) (set % 2 ^ j) (mod_below set (2 ^ j) (pow_pos j)))
+
+  so_far : (n : ℕ) → n < 64 → (upto n ≡ marks entries (suc n)) × (take (count_ones (upto n)) kept ≡ runs entries (suc n))
+  unfolding marks runs
+  so_far zero l =
+      let one : count_ones (upto 0) ≡ 1 = ap count_ones are.first ∙ ones_mark 1 (omega arith) in
+      let some : 0 < length kept = omega (arith, are.counted, fewer 63, ap count_ones are.first, ones_mark 1 (omega arith)) in
+      let here : get_or kept 0 0 ≡ get_or entries 0 0 = ap (λ c. get_or kept (c - 1) 0) (sym one) ∙ are.each 0 (omega arith) in (
+        are.first ∙ sym (one_mark entries),
+        ap (λ c. take c kept) one ∙ (take_more kept 0 0 some ∙ (ap (λ x. x ∷ []) here ∙ sym (one_run entries))),
+      )
+  so_far (suc n) l =
+      let old = so_far n (omega arith) in
+      let a = upto n in
+      let b = upto (suc n) in
+      let bit = b % 2 ^ 1 in
+      let begins = begins_run entries (suc n) in
+      let runs_before = runs entries (suc n) in
+      let more = runs_before ++ get_or entries (suc n) 0 ∷ [] in
+      let e : 63 - suc n + 1 ≡ 63 - n = omega arith in
+      let half : b / 2 ^ 1 ≡ a = shr-shr set (63 - suc n) 1 ∙ ap (λ j. set / 2 ^ j) e in
+      let split : b ≡ a * 2 + bit = omega (arith, shr_split b 1, half) in
+      let low : bit < 2 = mod_below b (2 ^ 1) (omega arith) in
+      let counted : count_ones b ≡ count_ones a + bit = ap count_ones split ∙ ones_more a bit low in
+      let before = are.each n (omega arith) in
+      let here = are.each (suc n) l in
+      let one : n ≡ suc n - 1 = omega arith in
+      elim (cases_eq bit 0) [
+        | inl none ↦
+            let same : count_ones b ≡ count_ones a = omega (arith, counted, none) in
+            let no = no_begin entries (suc n) (omega arith)
+            (sym here ∙ (ap (λ c. get_or kept (c - 1) 0) same ∙ (before ∙ ap (λ i. get_or entries i 0) one))) in (
+              omega (arith, split, none, old.0, cond-false {A = ℕ} begins 1 0 no),
+              ap (λ c. take c kept) same ∙ (old.1 ∙ sym (cond-false begins more runs_before no)),
+            )
+        | inr set_bit ↦
+            let bit_is : bit ≡ 1 = omega (arith, set_bit, low) in
+            let up : count_ones b ≡ count_ones a + 1 = omega (arith, counted, bit_is) in
+            let within : count_ones a < length kept = omega (arith, are.counted, fewer (63 - suc n), up) in
+            let long : length (take (count_ones a) kept) ≡ count_ones a = length-take-le (count_ones a) kept (omega (arith, within)) in
+            let some : 0 < count_ones a = omega (arith, long, ap length old.1, (last_run entries n).0) in
+            let k = count_ones a - 1 in
+            let k_is : count_ones b - 1 ≡ k + 1 = omega (arith, up, some) in
+            let at : count_ones a ≡ count_ones b - 1 = omega (arith, up) in
+            let yes = a_begin entries (suc n) (λ _ same. are.differ k (omega (arith, within, some))
+            (before ∙ (ap (λ i. get_or entries i 0) one ∙ (sym same ∙ (sym here ∙ ap (λ i. get_or kept i 0) k_is))))) in (
+              omega (arith, split, bit_is, old.0, cond-true {A = ℕ} begins 1 0 yes),
+              ap (λ c. take c kept) up ∙ (take_more kept (count_ones a) 0 within
+                  ∙ (ap₂ (λ r x. r ++ x ∷ []) old.1 (ap (λ i. get_or kept i 0) at ∙ here) ∙ sym (cond-true begins more runs_before yes))),
+            )
+      ]
+
+  pub node_words : (middle after : List ℕ) → after ≡ middle ++ set % 2 ^ 32 ∷ set / 2 ^ 32 ∷ kept → after ≡ middle ++ node entries
+  node_words middle after put =
+      let all = so_far 63 (omega arith) in
+      let one : set / 2 ^ 0 ≡ set = omega arith in
+      let whole : take (count_ones (set / 2 ^ 0)) kept ≡ kept = take_all (count_ones (set / 2 ^ 0)) kept (omega (arith, are.counted, ap count_ones one)) in
+      put ∙ ap₂ (λ m r. middle ++ m % 2 ^ 32 ∷ m / 2 ^ 32 ∷ r) (sym one ∙ all.0) (sym whole ∙ all.1)
 
 -- the runs go on from those of fewer parts
 pub runs_go_on : (entries : List ℕ) (n k : ℕ) → k ≤ n → (rest : List ℕ) × (runs entries n ≡ runs entries k ++ rest)

@@ -3,8 +3,8 @@ use Rattle.std.proofs.Common.{◌≡◌, sym, subst, ◌∙◌, ap, arith, inl, 
 use Rattle.std.proofs.lemmas.Bool.{cases_eq, cases_lt}
 use Rattle.std.proofs.lemmas.List.{get_or-map, length-map}
 use Rattle.std.proofs.lemmas.Nat.{pow_pos, pow-add, mod-pow-add, div-add-mod', mul-le, mod-mul-add, shr_high}
-use Rattle.cidr_lookup.specs.Keys.{AreNetworksUpTo, IsFirstRefused, IsNetwork, Precedes, last_number_in, key_networks}
-use Rattle.cidr_lookup.specs.Passing.{IsNext}
+use Rattle.cidr_lookup.specs.Keys.{AreNetworksUpTo, IsFirstRefused, IsNetwork, Precedes, key_networks}
+use Rattle.cidr_lookup.specs.Passing.{IsNext, last_number_in}
 use Rattle.cidr_lookup.specs.declared.key.Key.{Key}
 use Rattle.std.specs.Option.{MatchOption}
 

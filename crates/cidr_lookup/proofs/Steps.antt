@@ -2,8 +2,8 @@
 use Rattle.std.proofs.Common.{◌≡◌, ◌≢◌, sym, ◌∙◌, ap, subst, arith, inl, inr, ℕ, ◌+◌, ◌-◌, ◌^◌, ◌<◌, ◌≤◌, List, length, get_or}
 use Rattle.std.proofs.lemmas.Bool.{cases_eq, cases_lt}
 use Rattle.std.proofs.lemmas.Nat.{pow_pos}
-use Rattle.cidr_lookup.specs.Keys.{AreAscendingNetworks, last_number_in}
-use Rattle.cidr_lookup.specs.Passing.{IsEdge, HasNumber, IsLastWithNumber, IsPassing, at}
+use Rattle.cidr_lookup.specs.Keys.{AreAscendingNetworks}
+use Rattle.cidr_lookup.specs.Passing.{HasNumber, IsEdge, IsLastWithNumber, IsPassing, at, last_number_in}
 use Rattle.cidr_lookup.proofs.Numbers.{ends_within, nests, no_earlier}
 
 module _ (w : ℕ) (networks : List (ℕ × ℕ)) (good : AreAscendingNetworks w networks) where

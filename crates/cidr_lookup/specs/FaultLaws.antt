@@ -16,7 +16,7 @@ no_fault w padding steps networks first words (Keys (Refused index)) good few le
   each = λ i l. good.keys.each i (omega (arith, wrong.1.1.0));
   ascending = λ i k lt l. good.keys.ascending i k lt (omega (arith, wrong.1.1.0));
 }))
-no_fault w padding steps networks first words (Keys TooLarge) good few less less' wrong = absurd wrong.1
+no_fault w padding steps networks first words (Keys TooLarge) good few less less' wrong = absurd (wrong.2 refl)
 no_fault w padding steps networks first words (Keys NoMemory) good few less less' wrong = refl
 no_fault w padding steps networks first words (First index) good few less less' wrong = absurd ((wrong.2 first words good).1 refl)
 no_fault w padding steps networks first words (Word index) good few less less' wrong = absurd ((wrong.2 first words good).1 refl)

@@ -1,9 +1,10 @@
 -- What is wrong with words: the first thing.
 use Rattle.std.specs.Prelude.{◌≡◌, ◌≢◌, ℕ, ◌+◌, ◌*◌, ◌^◌, ◌<◌, ◌≤◌, ◌⊎◌, List, length, slice_get, take}
 use Rattle.cidr_lookup.specs.Keys.{AreAscendingNetworks}
-use Rattle.cidr_lookup.specs.Tables.{AreKeysRefused, IsLookupTable}
+use Rattle.cidr_lookup.specs.Tables.{IsLookupTable, IsTableRefused}
 use Rattle.cidr_lookup.specs.declared.checking.WordsFault.{WordsFault}
 use Rattle.cidr_lookup.specs.declared.checking.WordsFault.TheVariants.{Steps, TooLong, Keys, First, Word}
+use Rattle.cidr_lookup.specs.declared.table.TableError.TheVariants.{TooLarge}
 
 -- the first word that is another, or that one of the two has alone
 abbrev pub IsFirstOther : (words all : List ℕ) → ℕ → Type 0
@@ -21,7 +22,7 @@ AreSizes w padding steps first words = AreSteps w padding steps × (length first
 abbrev pub IsFault : (w padding steps : ℕ) → List (ℕ × ℕ) → (first words : List ℕ) → WordsFault → Type 0
 IsFault w padding steps networks first words Steps = ¬ (AreSteps w padding steps)
 IsFault w padding steps networks first words TooLong = AreSteps w padding steps × ((2 ^ 30 ≤ length first) ⊎ (2 ^ 30 ≤ length words))
-IsFault w padding steps networks first words (Keys error) = AreSizes w padding steps first words × AreKeysRefused w networks error
+IsFault w padding steps networks first words (Keys error) = AreSizes w padding steps first words × IsTableRefused w padding steps networks error × (error ≢ TooLarge)
 IsFault w padding steps networks first words (First index) = AreSizes w padding steps first words × AreAscendingNetworks w networks
     × ((all_first all_words : List ℕ) → IsLookupTable w padding steps networks all_first all_words → IsFirstOther first all_first index)
 IsFault w padding steps networks first words (Word index) = AreSizes w padding steps first words × AreAscendingNetworks w networks

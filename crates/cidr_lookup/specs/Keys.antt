@@ -14,10 +14,6 @@ pub record IsNetwork (w : ℕ) (network : ℕ × ℕ) : Type 0 where
 abbrev pub prefix_bits : ℕ → ℕ × ℕ → List Bool
 prefix_bits w network = take network.1 (bits w network.0)
 
--- the number of the last address
-abbrev pub last_number_in : ℕ → ℕ × ℕ → ℕ
-last_number_in w network = network.0 + (2 ^ (w - network.1) - 1)
-
 -- the order of a table: by first address, and then by length
 abbrev pub Precedes : ℕ × ℕ → ℕ × ℕ → Type 0
 Precedes a b = (a.0 < b.0) ⊎ ((a.0 ≡ b.0) × (a.1 < b.1))

@@ -1,6 +1,10 @@
 -- What the pass over networks keeps: the last network that has an address, among the first `bound`.
 use Rattle.std.specs.Prelude.{◌≡◌, ◌≢◌, ℕ, ◌+◌, ◌-◌, ◌^◌, ◌<◌, ◌≤◌, ◌⊎◌, List, length, slice_index_or}
-use Rattle.cidr_lookup.specs.Keys.{IsNetwork, Precedes, last_number_in}
+use Rattle.cidr_lookup.specs.Keys.{IsNetwork, Precedes}
+
+-- the number of the last address
+abbrev pub last_number_in : ℕ → ℕ × ℕ → ℕ
+last_number_in w network = network.0 + (2 ^ (w - network.1) - 1)
 
 module _ (w : ℕ) (networks : List (ℕ × ℕ)) where
   abbrev pub at : ℕ → ℕ × ℕ

@@ -1,8 +1,10 @@
 -- Ranges of addresses. Range k begins with the address that `starts` has at k, and ends before the next start.
-use Rattle.std.specs.Prelude.{◌≡◌, ◌≢◌, ℕ, zero, suc, ◌+◌, ◌*◌, ◌/◌, ◌^◌, ◌<◌, ◌≤◌, List, [], ◌∷◌, length, slice_index_or}
+use Rattle.std.specs.Prelude.{◌≡◌, ◌≢◌, ℕ, zero, suc, ◌+◌, ◌*◌, ◌/◌, ◌^◌, ◌<◌, ◌≤◌, List, [], ◌∷◌, Some, length, slice_index_or}
 use Rattle.cidr.specs.model.Bits.{bits}
 use Rattle.cidr_table.specs.model.Prefixes.{IsLongestMatch}
-use Rattle.cidr_lookup.specs.Keys.{prefix_bits, row_behind}
+use Rattle.cidr_lookup.specs.Keys.{IsFirstRefused, prefix_bits, row_behind}
+use Rattle.cidr_lookup.specs.declared.table.TableError.{TableError}
+use Rattle.cidr_lookup.specs.declared.table.TableError.TheVariants.{TooMany, Refused, TooLarge, NoMemory}
 
 -- the last range that begins at most with the number
 pub record IsRangeOf (starts : List ℕ) (number k : ℕ) : Type 0 where
@@ -30,3 +32,10 @@ pub record AreMatchRanges (w : ℕ) (networks : List (ℕ × ℕ)) (starts answe
 unfoldable pub changes_from : (padding : ℕ) (starts answers : List ℕ) (k n : ℕ) → List (ℕ × ℕ)
 changes_from padding starts answers k zero = []
 changes_from padding starts answers k (suc n) = (slice_index_or starts k 0 * 2 ^ padding / 2 ^ 82, slice_index_or answers k 0) ∷ changes_from padding starts answers (k + 1) n
+
+-- why keys have no ranges: too many networks; or else one is refused; or an allocation failed
+abbrev pub AreKeysRefused : ℕ → List (ℕ × ℕ) → TableError → Type 0
+AreKeysRefused w networks TooMany = 2 ^ 31 ≤ length networks
+AreKeysRefused w networks (Refused index) = (length networks < 2 ^ 31) × IsFirstRefused w networks (Some index)
+AreKeysRefused w networks TooLarge = ⊥
+AreKeysRefused w networks NoMemory = length networks < 2 ^ 31

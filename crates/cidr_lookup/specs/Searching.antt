@@ -1,6 +1,10 @@
 -- What the search of a list promises.
-use Rattle.std.specs.Prelude.{◌≡◌, ℕ, ◌+◌, ◌<◌, ◌≤◌, List, ◌∷◌, ◌++◌, length, map, slice_index_or}
-use Rattle.cidr_lookup.specs.Nodes.{change_word, list}
+use Rattle.std.specs.Prelude.{◌≡◌, ℕ, ◌+◌, ◌%◌, ◌^◌, ◌<◌, ◌≤◌, List, ◌∷◌, ◌++◌, length, map, slice_index_or}
+use Rattle.cidr_lookup.specs.Nodes.{list}
+
+-- the word that tells where a change is
+abbrev pub change_word : ℕ × ℕ → ℕ
+change_word change = change.0 % 2 ^ 32
 
 -- the words of the changes ascend
 abbrev pub AscendAt : (words : List ℕ) (starts count : ℕ) → Type 0

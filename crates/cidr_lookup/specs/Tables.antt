@@ -26,19 +26,13 @@ ipv4_steps networks = if nat_lt networks 64 then 5 else (if nat_lt networks 1000
 abbrev pub ipv6_steps : ℕ → ℕ
 ipv6_steps networks = if nat_lt networks 64 then 20 else 19
 
--- why keys have no table: too many networks; or else one is refused; or an allocation failed
-abbrev pub AreKeysRefused : ℕ → List (ℕ × ℕ) → TableError → Type 0
-AreKeysRefused w networks TooMany = 2 ^ 31 ≤ length networks
-AreKeysRefused w networks (Refused index) = (length networks < 2 ^ 31) × IsFirstRefused w networks (Some index)
-AreKeysRefused w networks TooLarge = ⊥
-AreKeysRefused w networks NoMemory = length networks < 2 ^ 31
-
 -- the table of so many steps has more words than any may have
 abbrev pub HasTooManyWords : (w padding steps : ℕ) → List (ℕ × ℕ) → Type 0
 HasTooManyWords w padding steps networks = (first words : List ℕ) → IsLookupTable w padding steps networks first words → 2 ^ 30 ≤ length words
 
--- why there is none: that; or else it has too many words
+-- why there is none: too many networks; or else one is refused; or else it has too many words; or an allocation failed
 abbrev pub IsTableRefused : (w padding steps : ℕ) → List (ℕ × ℕ) → TableError → Type 0
-IsTableRefused w padding steps networks TooLarge =
-    (length networks < 2 ^ 31) × AreAscendingNetworks w networks × HasTooManyWords w padding steps networks
-IsTableRefused w padding steps networks error = AreKeysRefused w networks error
+IsTableRefused w padding steps networks TooMany = 2 ^ 31 ≤ length networks
+IsTableRefused w padding steps networks (Refused index) = (length networks < 2 ^ 31) × IsFirstRefused w networks (Some index)
+IsTableRefused w padding steps networks TooLarge = (length networks < 2 ^ 31) × AreAscendingNetworks w networks × HasTooManyWords w padding steps networks
+IsTableRefused w padding steps networks NoMemory = length networks < 2 ^ 31

@@ -2,8 +2,8 @@
 ghost use Rattle.std.specs.Prelude.{◌≡◌, ◌↔◌, ◌+◌, ◌-◌, ◌*◌, ◌/◌, ◌%◌, ◌^◌, ◌<◌, ◌≤◌, ◌⊎◌, ℕ, List, [], length, map, slice_index_or, IfErr, IfNone, IfOk, IfSome, IsTrue, OnErr, OnOk};
 ghost use Rattle.cidr_lookup.specs.Keys.{AreAscendingNetworks, key_networks};
 ghost use Rattle.cidr_lookup.specs.Ranges.{AreMatchRanges, changes_from};
-ghost use Rattle.cidr_lookup.specs.Nodes.{AllHave, HasList, IsEntry};
-ghost use Rattle.cidr_lookup.specs.Putting.{AreRuns, IsStopped, StopsBefore};
+ghost use Rattle.cidr_lookup.specs.Nodes.{IsEntry};
+ghost use Rattle.cidr_lookup.specs.Putting.{AllHave, AreRuns, HasList, IsStopped, StopsBefore};
 ghost use Rattle.cidr_lookup.specs.Tables.{IsAnswer, IsLookupTable};
 
 use crate::address::Address;

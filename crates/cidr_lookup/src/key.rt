@@ -2,8 +2,8 @@
 ghost use Rattle.std.specs.Prelude.{◌≡◌, ◌↔◌, ◌-◌, ◌^◌, ◌<◌, ◌≤◌, IsTrue, length};
 ghost use Rattle.cidr.specs.model.Bits.{number};
 ghost use Rattle.cidr.specs.model.Network.{first_of, width_of};
-ghost use Rattle.cidr_lookup.specs.Keys.{IsFirstRefused, IsNetwork, Precedes, key_networks, last_number_in};
-ghost use Rattle.cidr_lookup.specs.Passing.{IsNext};
+ghost use Rattle.cidr_lookup.specs.Keys.{IsFirstRefused, IsNetwork, Precedes, key_networks};
+ghost use Rattle.cidr_lookup.specs.Passing.{IsNext, last_number_in};
 
 use crate::address::Address;
 use cidr::FamilyCidr;

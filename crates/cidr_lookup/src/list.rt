@@ -1,6 +1,7 @@
 //! The words of a list.
 ghost use Rattle.std.specs.Prelude.{◌≡◌, ℕ, ◌+◌, ◌*◌, ◌/◌, ◌%◌, ◌^◌, ◌<◌, ◌≤◌, ◌++◌, ◌∷◌, List, length, map, slice_index_or, IfErr, OnErr, OnOk};
-ghost use Rattle.cidr_lookup.specs.Nodes.{change_word, list};
+ghost use Rattle.cidr_lookup.specs.Nodes.{list};
+ghost use Rattle.cidr_lookup.specs.Searching.{change_word};
 ghost use Rattle.cidr_lookup.specs.Putting.{StopsBefore};
 ghost use Rattle.cidr_lookup.specs.Ranges.{changes_from};
 

@@ -2,8 +2,7 @@
 ghost use Rattle.std.specs.Prelude.{ℕ, ◌+◌, ◌*◌, ◌^◌, ◌<◌, ◌≤◌, List, length, map, take, IfOk, IfErr};
 ghost use Rattle.cidr_lookup.specs.Keys.{AreAscendingNetworks, key_networks};
 ghost use Rattle.cidr_lookup.specs.Passing.{AreSoFar, IsEdge, IsLastWithNumber, IsPut};
-ghost use Rattle.cidr_lookup.specs.Ranges.{AreMatchRanges};
-ghost use Rattle.cidr_lookup.specs.Tables.{AreKeysRefused};
+ghost use Rattle.cidr_lookup.specs.Ranges.{AreKeysRefused, AreMatchRanges};
 
 use crate::address::Address;
 use crate::key::{Key, first_refused};

@@ -2,7 +2,7 @@ use Rattle.std.proofs.Common.{◌≡◌, sym, subst, ◌∙◌, arith, inl, inr,
 use Rattle.std.proofs.lemmas.Bool.{cases_lt}
 use Rattle.std.proofs.lemmas.List.{get_or_append_left, get_or-append_right, get_or-replicate, length-map}
 use Rattle.cidr_lookup.specs.Keys.{key_networks}
-use Rattle.cidr_lookup.specs.Nodes.{AllHave}
+use Rattle.cidr_lookup.specs.Putting.{AllHave}
 use Rattle.cidr_lookup.specs.Tables.{IsAnswer}
 use Rattle.cidr_lookup.proofs.Numbers.{length_networks}
 use Rattle.cidr_lookup.proofs.Blocks.{first_part, later, part_fits}

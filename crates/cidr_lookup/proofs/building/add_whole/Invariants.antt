@@ -1,7 +1,6 @@
 use Rattle.std.proofs.Common.{◌≡◌, ℕ, List, ◌+◌, ◌-◌, ◌*◌, ◌^◌, ◌<◌, ◌≤◌, get_or, length, map}
 use Rattle.cidr_lookup.specs.Keys.{key_networks}
-use Rattle.cidr_lookup.specs.Nodes.{AllHave}
-use Rattle.cidr_lookup.specs.Putting.{AreRuns}
+use Rattle.cidr_lookup.specs.Putting.{AllHave, AreRuns}
 use Rattle.cidr_lookup.specs.Tables.{IsAnswer}
 use Rattle.cidr_lookup.proofs.building.add_whole.Given as goal
 

@@ -22,7 +22,7 @@ returns-then-index-ge-MOST_WORDS-clause-stopped g c = λ entry after known.
       (
         list value changes,
         own_list (IsAnswer w padding networks) (one_answer w padding networks c.requires.keys) c.args.steps c.args.block
-            (g.S.Sink.put c.args.sink.now) entry after value changes c.requires.some c.requires.list known,
+            (g.S.Sink.put c.args.sink.now) entry after value changes c.requires.list known,
       ),
     )
 
@@ -35,7 +35,7 @@ returns-in_err-put_list-clause-stopped g c =
     let changes = changes_from padding (map g.A.Address.value c.args.starts.now) c.args.answers.now (c.args.range + 1) c.args.count in
     on_err c.from_residual.result (λ entry after known. subst (λ x. StopsBefore (g.S.Sink.put c.put_list.new.sink) (g.S.Sink.refuses c.put_list.new.sink) x)
     (sym (own_list (IsAnswer w padding networks) (one_answer w padding networks c.requires.keys) c.args.steps c.args.block (g.S.Sink.put c.args.sink.now) entry after value changes
-    c.requires.some c.requires.list known)) c.in_err-put_list.ensures.stopped)
+    c.requires.list known)) c.in_err-put_list.ensures.stopped)
 
 pub put_list-requires-clause-few : goal.put_list-requires-clause-few
 put_list-requires-clause-few g c =
@@ -46,5 +46,5 @@ returns-clause-entry g c =
     let padding = g.A.Address.padding in
     list_entry (IsAnswer g.A.Address.width padding (key_networks g.A.Address.value c.args.keys.now)) c.args.steps c.args.block (g.S.Sink.put c.args.sink.now) (2 ^ 31 + 2 * c.len-index.result + 1)
     (g.S.Sink.put c.put_list.new.sink) (get_or c.args.answers.now c.args.range 0)
-    (changes_from padding (map g.A.Address.value c.args.starts.now) c.args.answers.now (c.args.range + 1) c.args.count) c.requires.some c.requires.list
+    (changes_from padding (map g.A.Address.value c.args.starts.now) c.args.answers.now (c.args.range + 1) c.args.count) c.requires.list
     (ap (λ (n : ℕ). 2 ^ 31 + 2 * n + 1) c.len-index.ensures) c.in_ok-put_list.ensures.put

@@ -1,6 +1,7 @@
 use Rattle.std.proofs.Common.{◌≡◌, refl, sym, ap, subst, ◌∙◌, ℕ, ◌+◌, List, [], ◌∷◌, ◌++◌, length, map, get_or}
 use Rattle.std.proofs.lemmas.Result.{on_err_weaker, on_ok_weaker}
-use Rattle.cidr_lookup.specs.Nodes.{change_word, list}
+use Rattle.cidr_lookup.specs.Nodes.{list}
+use Rattle.cidr_lookup.specs.Searching.{change_word}
 use Rattle.cidr_lookup.specs.Putting.{StopsBefore}
 use Rattle.cidr_lookup.specs.Ranges.{changes_from}
 use Rattle.cidr_lookup.proofs.Entries.{stops_more}

@@ -1,6 +1,6 @@
 use Rattle.std.proofs.Common.{refl, sym, ap, ◌∙◌, arith, ◌+◌, ◌++◌, ◌∷◌, map}
 use Rattle.std.proofs.lemmas.List.{append-nil}
-use Rattle.cidr_lookup.specs.Nodes.{change_word}
+use Rattle.cidr_lookup.specs.Searching.{change_word}
 use Rattle.cidr_lookup.specs.Ranges.{changes_from}
 use Rattle.cidr_lookup.proofs.Lists.{all_left, next_word, no_changes_left, not_put, one_put, words_left}
 use Rattle.cidr_lookup.proofs.Nodes.{on_err}

@@ -1,5 +1,5 @@
 use Rattle.std.proofs.Common.{◌≡◌, ◌++◌, map}
-use Rattle.cidr_lookup.specs.Nodes.{change_word}
+use Rattle.cidr_lookup.specs.Searching.{change_word}
 use Rattle.cidr_lookup.specs.Ranges.{changes_from}
 use Rattle.cidr_lookup.proofs.Lists.{words_left}
 use Rattle.cidr_lookup.proofs.list.put_starts.Given as goal

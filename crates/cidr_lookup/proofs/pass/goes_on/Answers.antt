@@ -1,6 +1,6 @@
 use Rattle.std.proofs.Common.{◌≡◌, ◌≢◌, refl, sym, ◌∙◌, ap, subst, arith, inl, ◌+◌, ◌-◌, ◌^◌, ◌<◌, ◌≤◌, length, get_or, slice_set, get_or-set_other, get_or-set_same}
-use Rattle.cidr_lookup.specs.Keys.{last_number_in, key_networks}
-use Rattle.cidr_lookup.specs.Passing.{IsPassing, at}
+use Rattle.cidr_lookup.specs.Keys.{key_networks}
+use Rattle.cidr_lookup.specs.Passing.{IsPassing, at, last_number_in}
 use Rattle.cidr_lookup.proofs.Numbers.{length_networks, network_at}
 use Rattle.cidr_lookup.proofs.Steps.{closed, closed_edge, closed_range, ended, opened, opened_range, room, two_open}
 use Rattle.cidr_lookup.proofs.pass.goes_on.Goals as goal
