@@ -175,11 +175,11 @@ module _ (Has : (number value : ℕ) → Type 0) where
   abbrev pub IsListed : (words : List ℕ) (steps block index : ℕ) → Type 0
   IsListed words steps block index = (value : ℕ) × (changes : List (ℕ × ℕ)) × HasList Has steps block value changes × IsListAt words index value changes
 
-  -- each number of the block is led to its value, by nodes whose places are before the end and fall
-  unfoldable pub Leads : (words : List ℕ) (end steps block entry : ℕ) → Type 0
-  Leads words end zero block entry = AllHave Has zero block entry
-  Leads words end (suc steps) block entry = AllHave Has (suc steps) block entry ⊎ ((index : ℕ) × (entry ≡ 2 ^ 31 + 2 * index + 1) × IsListed words (suc steps) block index)
-      ⊎ ((index : ℕ) × (entry ≡ 2 ^ 31 + 2 * index) × (index < end) × AreParts words (Leads words index steps) block index)
+  -- each number of the block is led to its value
+  unfoldable pub Leads : (words : List ℕ) (steps block entry : ℕ) → Type 0
+  Leads words zero block entry = AllHave Has zero block entry
+  Leads words (suc steps) block entry = AllHave Has (suc steps) block entry ⊎ ((index : ℕ) × (entry ≡ 2 ^ 31 + 2 * index + 1) × IsListed words (suc steps) block index)
+      ⊎ ((index : ℕ) × (entry ≡ 2 ^ 31 + 2 * index) × AreParts words (Leads words steps) block index)
 
   -- no list is that of the block
   abbrev pub HasNoList : (steps block : ℕ) → Type 0
@@ -269,69 +269,69 @@ module _ (Has : (number value : ℕ) → Type 0) where
       let all = node_words entries set kept are middle after put in
       (front.0 ++ node entries, all ∙ (ap (λ x. x ++ node entries) front.1 ∙ append_assoc before front.0 (node entries)))
 
-  pub leads : (words : List ℕ) (end steps block : ℕ) (before : List ℕ) (entry : ℕ) (after more : List ℕ) → IsEntry Has steps block before entry after → words ≡ after ++ more
-      → length after ≤ end + 1 → Leads words end steps block entry
+  pub leads : (words : List ℕ) (steps block : ℕ) (before : List ℕ) (entry : ℕ) (after more : List ℕ) → IsEntry Has steps block before entry after → words ≡ after ++ more
+      → Leads words steps block entry
   unfolding IsEntry Leads
-  leads words end zero block before entry after more (value, changes, known, inl (none, is, same)) all upto = leaf_value zero block entry value changes known none is
-  leads words end zero block before entry after more (value, changes, known, inr (some, few, low, is, put)) all upto =
+  leads words zero block before entry after more (value, changes, known, inl (none, is, same)) all = leaf_value zero block entry value changes known none is
+  leads words zero block before entry after more (value, changes, known, inr (some, few, low, is, put)) all =
       absurd (omega (arith, list_long Has zero block value changes (some, few, known, low)))
-  leads words end (suc steps) block before entry after more (inl (value, changes, known, inl (none, is, same))) all upto =
+  leads words (suc steps) block before entry after more (inl (value, changes, known, inl (none, is, same))) all =
       inl (leaf_value (suc steps) block entry value changes known none is)
-  leads words end (suc steps) block before entry after more (inl (value, changes, known, inr (some, few, low, is, put))) all upto =
+  leads words (suc steps) block before entry after more (inl (value, changes, known, inr (some, few, low, is, put))) all =
       inr (inl (length before, is, (value, changes, (some, few, known, low), record { front = before; back = more; all = all ∙ ap (λ x. x ++ more) put; here = refl })))
-  leads words end (suc steps) block before entry after more (inr (none, (entries, set, kept, middle, are, parts, is, put))) all upto =
+  leads words (suc steps) block before entry after more (inr (none, (entries, set, kept, middle, are, parts, is, put))) all =
       let node_put : after ≡ middle ++ node entries = node_words entries set kept are middle after put in
       let whole_is : words ≡ middle ++ node entries ++ more = all ∙ ap (λ x. x ++ more) node_put in
-      let known : AreParts words (Leads words (length middle) steps) block (length middle) = λ part l.
+      let known : AreParts words (Leads words steps) block (length middle) = λ part l.
       let one = each (IsEntry Has steps) (grows steps) (block * 64) 64 before entries middle parts part l in
       let rest = one.2 ++ (node entries ++ more) in
       let to : words ≡ one.1 ++ rest = whole_is ∙ (append_assoc middle (node entries) more ∙ (ap (λ x. x ++ (node entries ++ more)) one.4 ∙ append_assoc one.1 one.2 (node entries ++ more))) in
-      let lead = leads words (length middle) steps (block * 64 + part) one.0 (get_or entries part 0) one.1 rest one.3 to (omega (arith, ap length one.4, length-append one.1 one.2)) in
+      let lead = leads words steps (block * 64 + part) one.0 (get_or entries part 0) one.1 rest one.3 to in
       let found = part_is middle entries more part l in
       let W : List ℕ → Type 0 = λ ws. (part_at ws (length middle) part < length ws) × (get_or ws (part_at ws (length middle) part) 0 ≡ get_or entries part 0) in
       let in_words = subst W (sym whole_is) found in
-      (in_words.0, subst (λ e. Leads words (length middle) steps (block * 64 + part) e) (sym in_words.1) lead) in
-      inr (inr (length middle, is, omega (arith, upto, ap length node_put, length-append middle (node entries)), known))
+      (in_words.0, subst (λ e. Leads words steps (block * 64 + part) e) (sym in_words.1) lead) in
+      inr (inr (length middle, is, known))
 
   -- a value is that of a number of the block
-  pub led : (words : List ℕ) (end steps number entry : ℕ) → Leads words end steps (number / 2 ^ (6 * steps)) entry → entry < 2 ^ 31 → Has number entry
+  pub led : (words : List ℕ) (steps number entry : ℕ) → Leads words steps (number / 2 ^ (6 * steps)) entry → entry < 2 ^ 31 → Has number entry
   unfolding Leads
-  led words end zero number entry known low = known.1 number refl
-  led words end (suc steps) number entry (inl known) low = known.1 number refl
-  led words end (suc steps) number entry (inr (inl known)) low = absurd (omega (arith, known.1))
-  led words end (suc steps) number entry (inr (inr known)) low = absurd (omega (arith, known.1))
+  led words zero number entry known low = known.1 number refl
+  led words (suc steps) number entry (inl known) low = known.1 number refl
+  led words (suc steps) number entry (inr (inl known)) low = absurd (omega (arith, known.1))
+  led words (suc steps) number entry (inr (inr known)) low = absurd (omega (arith, known.1))
 
   -- an odd entry leads to a list
-  pub list_of : (words : List ℕ) (end steps block entry index : ℕ) → Leads words end steps block entry → 2 ^ 31 ≤ entry → entry % 2 ≡ 1 → index ≡ (entry - 2 ^ 31) / 2 → IsListed words steps block index
+  pub list_of : (words : List ℕ) (steps block entry index : ℕ) → Leads words steps block entry → 2 ^ 31 ≤ entry → entry % 2 ≡ 1 → index ≡ (entry - 2 ^ 31) / 2 → IsListed words steps block index
   unfolding Leads
-  list_of words end zero block entry index known high odd is = absurd (omega (arith, known.0))
-  list_of words end (suc steps) block entry index (inl known) high odd is = absurd (omega (arith, known.0))
-  list_of words end (suc steps) block entry index (inr (inl known)) high odd is =
+  list_of words zero block entry index known high odd is = absurd (omega (arith, known.0))
+  list_of words (suc steps) block entry index (inl known) high odd is = absurd (omega (arith, known.0))
+  list_of words (suc steps) block entry index (inr (inl known)) high odd is =
       let e : known.0 ≡ index = omega (arith, known.1) in
       subst (λ p. IsListed words (suc steps) block p) e known.2
-  list_of words end (suc steps) block entry index (inr (inr known)) high odd is = absurd (omega (arith, known.1))
+  list_of words (suc steps) block entry index (inr (inr known)) high odd is = absurd (omega (arith, known.1))
 
   -- a node leads on by the next six bits, as an odd entry does nowhere where no list is
-  abbrev pub NextOf : (words : List ℕ) (end number index rest : ℕ) → Type 0
-  NextOf words end number index rest = (index < end) × (part_at words index (number / 2 ^ (6 * rest) % 64) < length words)
-      × Leads words index rest (number / 2 ^ (6 * rest)) (get_or words (part_at words index (number / 2 ^ (6 * rest) % 64)) 0)
+  abbrev pub NextOf : (words : List ℕ) (number index rest : ℕ) → Type 0
+  NextOf words number index rest = (part_at words index (number / 2 ^ (6 * rest) % 64) < length words)
+      × Leads words rest (number / 2 ^ (6 * rest)) (get_or words (part_at words index (number / 2 ^ (6 * rest) % 64)) 0)
 
-  pub next : (words : List ℕ) (end steps number entry index : ℕ) → Leads words end steps (number / 2 ^ (6 * steps)) entry → 2 ^ 31 ≤ entry → (entry % 2 ≡ 1 → 6 * steps ≤ 82) → index ≡ (entry - 2 ^ 31) / 2
-      → (rest : ℕ) × (steps ≡ rest + 1) × NextOf words end number index rest
+  pub next : (words : List ℕ) (steps number entry index : ℕ) → Leads words steps (number / 2 ^ (6 * steps)) entry → 2 ^ 31 ≤ entry → (entry % 2 ≡ 1 → 6 * steps ≤ 82) → index ≡ (entry - 2 ^ 31) / 2
+      → (rest : ℕ) × (steps ≡ rest + 1) × NextOf words number index rest
   unfolding Leads
-  next words end zero number entry index known high short at = absurd (omega (arith, known.0))
-  next words end (suc steps) number entry index (inl known) high short at = absurd (omega (arith, known.0))
-  next words end (suc steps) number entry index (inr (inl (at, is, (value, changes, known, here)))) high short e =
+  next words zero number entry index known high short at = absurd (omega (arith, known.0))
+  next words (suc steps) number entry index (inl known) high short at = absurd (omega (arith, known.0))
+  next words (suc steps) number entry index (inr (inl (at, is, (value, changes, known, here)))) high short e =
       absurd (omega (arith, short (omega (arith, is)), list_long Has (suc steps) (number / 2 ^ (6 * suc steps)) value changes known))
-  next words end (suc steps) number entry index (inr (inr known)) high short at =
+  next words (suc steps) number entry index (inr (inr known)) high short at =
       let q = number / 2 ^ (6 * steps) in
       let six : 6 * steps + 6 ≡ 6 * suc steps = omega arith in
       let up : number / 2 ^ (6 * suc steps) ≡ q / 2 ^ 6 = ap (λ j. number / 2 ^ j) (sym six) ∙ sym (shr-shr number (6 * steps) 6) in
       let is : number / 2 ^ (6 * suc steps) * 64 + q % 64 ≡ q = omega (arith, up, shr_split q 6) in
       let e : known.0 ≡ index = omega (arith, known.1) in
-      let parts = subst (λ p. AreParts words (Leads words p steps) (number / 2 ^ (6 * suc steps)) p) e known.3 in
+      let parts = subst (λ p. AreParts words (Leads words steps) (number / 2 ^ (6 * suc steps)) p) e known.2 in
       let here = parts (q % 64) (omega arith) in
-      (steps, omega arith, (omega (arith, e, known.2), here.0, subst (λ b. Leads words index steps b (get_or words (part_at words index (q % 64)) 0)) is here.1))
+      (steps, omega arith, (here.0, subst (λ b. Leads words steps b (get_or words (part_at words index (q % 64)) 0)) is here.1))
 
   -- ---- the words are unique
   module _ (one_value : (number value value' : ℕ) → Has number value → Has number value' → value ≡ value') where

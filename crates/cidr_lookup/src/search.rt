@@ -69,7 +69,8 @@ fn value_by_steps<A: Address, T: Words>(first: &T, words: &T, steps: u32, addres
     }
 }
 
-/// The value that an address is led to by so many steps.
+/// The value that an address is led to by so many steps, with the last of which it ends. Where their number is a constant, the
+/// compiler writes one step behind the other.
 #[inline(always)]
 fn found_value<A: Address, T: Words>(first: &T, words: &T, steps: u32, address: A) -> u32
     ensures { (networks : List (ℕ × ℕ))
@@ -94,16 +95,19 @@ fn found_value<A: Address, T: Words>(first: &T, words: &T, steps: u32, address: 
     }
     let mut entry = first.word(at);
     let mut rest = address.behind(width - shift);
-    let mut end = words.len().saturating_sub(1);
+    let mut left = steps;
     while entry >= PLACE {
         let index = ((entry - PLACE) / 2) as usize;
         if width > LISTS && entry % 2 == 1 {
             return listed(words, index, address.list_word());
         }
-        if index >= end {
+        if left == 0 {
             return 0;
         }
-        end = index;
+        left -= 1;
+        if index + 1 >= words.len() {
+            return 0;
+        }
         let marks = u64::from(words.word(index + 1)) * (1 << 32) + u64::from(words.word(index));
         let upto = marks >> (63 - rest.part());
         let next = index + 1 + upto.count_ones() as usize;
