@@ -1,12 +1,17 @@
 //! Prefix lists as Cisco IOS and FRR write them.
-ghost use Rattle.std.specs.Prelude.{◌≡◌, ◌≢◌, ◌⊎◌, [], ℕ, List, codes, MatchOption, MatchResult, OnOk, Some, option_map};
+ghost use Rattle.std.specs.Prelude.{◌≡◌, ◌≢◌, ◌⊎◌, ◌==◌, ◌+◌, ◌^◌, ◌<◌, ◌≤◌, [], ℕ, List, codes, cond, map, IfOk, MatchOption, MatchResult, OnOk, Some, option_map};
 ghost use Rattle.std.specs.Bool.{Decides};
 ghost use Rattle.std.specs.List.{before_first};
+ghost use Rattle.std.specs.List.Sorted.{IsStrictlySortedBy};
+ghost use Rattle.std.specs.Map.{keys_of};
+ghost use Rattle.std.specs.Ordering.{nat_cmp};
 ghost use Rattle.cidr.specs.declared.family.Family.{Family};
 ghost use Rattle.cidr.specs.either.IpNetwork.{network_family};
+ghost use Rattle.cidr_table.specs.model.LastRows.{AreLastRows};
 ghost use Rattle.cidr_lists.specs.Fields.{AreFirstAndRest};
 ghost use Rattle.cidr_lists.specs.Lists.{IsNetworkBy, kept_of};
 ghost use Rattle.cidr_lists.specs.PrefixLists.{ActionSays, AddsRowLine, AreBadLengths, AreLengths, HasBadAction, HasBadList, HasBadName, HasBadNetwork, HasBadNumber, HasBadWords, HaveNumberedRows, IsBadOption, IsFamilyWord, IsListWord, IsNumberError, IsOfOtherFamily, IsRowsError, IsWordError, LengthsSay, NameSays, NetworkSays, NumberSays, NumberedRowsGrow, OptionSays, RowWordsSay, family_word, high_of, is_mark, low_of, numbered_in, numbered_of};
+ghost use Rattle.cidr_lists.specs.PrefixOrder.{AreInOrder, number_behind, with_numbers};
 ghost use Rattle.cidr_lists.specs.PayloadFiles.{IsBadNetwork};
 ghost use Rattle.cidr_lists.specs.declared.lines.HostBits.TheVariants.{Refused};
 
@@ -22,6 +27,7 @@ use cidr_io::shown::byte_excerpt;
 use cidr_routes::lists::Row;
 use cidr_sets::access::Action;
 use std::alloc::{AllocError, Global};
+use std::mem;
 
 /// A row of a prefix list.
 #[derive(Clone, Copy, Debug, Drop)]
@@ -41,7 +47,7 @@ pub struct ListRow {
 /// A row of a prefix list of one family.
 #[derive(Clone, Copy, Debug, Drop)]
 pub struct NumberedRow<C: NetworkBits + Copy> {
-    /// The number behind `seq`, which says where it stands in the list.
+    /// The number behind `seq`, by which [`in_order`] says where it stands in the list.
     pub number: Option<u32>,
     /// The row.
     pub row: Row<C>,
@@ -380,4 +386,81 @@ impl NumberedRows {
             number += 1;
         }
     }
+}
+
+/// The number of a row behind others, of which the greatest number is this.
+fn number_behind(most: u128, number: Option<u32>) -> u128
+    requires { most + 5 < 2 ^ 128 }
+    ensures value { result ≡ number_behind most number }
+    ensures bound { result ≤ most + 2 ^ 32 }
+{
+    match number {
+        Some(number) => u128::from(number),
+        None => most + 5,
+    }
+}
+
+/// The rows with their numbers.
+fn with_numbers<C: NetworkBits + Copy>(
+    alloc: Global,
+    rows: &[NumberedRow<C>],
+) -> Result<Vec<(u128, Row<C>)>, AllocError>
+    ensures { IfOk result (λ out. out.items ≡ with_numbers 0 rows.now) }
+{
+    let mut out = Vec::with_capacity(alloc, rows.len())?;
+    let mut most = 0;
+    for row in rows {
+        let number = number_behind(most, row.number);
+        out.push((number, row.row))?;
+        most = most.max(number);
+    }
+    Ok(out)
+}
+
+/// Puts rows in the order of their numbers, and leaves of those of one number the last.
+fn keep_last<C: NetworkBits + Copy>(rows: &mut Vec<(u128, Row<C>)>) -> Result<(), AllocError>
+    ensures ascending { OnOk result (IsStrictlySortedBy nat_cmp (keys_of rows.new.items)) }
+    ensures last { OnOk result (AreLastRows rows.old.items rows.new.items) }
+{
+    rows.sort_by_key(|row| row.0)?;
+    rows.dedup_by(
+        |row, kept|
+            ensures same { result ≡ (row.old.0 == kept.old.0) }
+            ensures row { row.new ≡ cond result kept.old row.old }
+            ensures kept { kept.new ≡ cond result row.old kept.old }
+        {
+            let same = row.0 == kept.0;
+            if same {
+                mem::swap(row, kept);
+            }
+            same
+        },
+    );
+    Ok(())
+}
+
+/// Rows without their numbers.
+fn plain_rows<C: NetworkBits + Copy>(
+    alloc: Global,
+    rows: &[(u128, Row<C>)],
+) -> Result<Vec<Row<C>>, AllocError>
+    ensures { IfOk result (λ out. out.items ≡ map (λ row. row.1) rows.now) }
+{
+    rows.iter().map(|row| row.1).collect(alloc)
+}
+
+/// The rows of a prefix list in the order in which they are asked, that of their numbers, for the calls of `cidr_routes`. A row
+/// without a number has 5 more than the greatest of those before it, and 5 where there is none; of the rows of one number the last
+/// counts, as where FRR reads them one after the other. A number that so exceeds 2^32 - 1, where FRR refuses the row, is no error.
+///
+/// The error is that there is no memory. It takes O(n log n) for n rows.
+pub fn in_order<C: NetworkBits + Copy>(
+    alloc: Global,
+    rows: &[NumberedRow<C>],
+) -> Result<Vec<Row<C>>, AllocError>
+    ensures { IfOk result (λ out. AreInOrder rows.now out.items) }
+{
+    let mut numbered = with_numbers(alloc, rows)?;
+    keep_last(&mut numbered)?;
+    plain_rows(alloc, numbered.as_slice())
 }

@@ -1,5 +1,7 @@
 //! Lists that are read and printed in memory.
 
+mod prefix_lists;
+
 use cidr_lists::lines::HostBits;
 use cidr_lists::sets::{Form, Sets};
 use cidr_support::alloc::Global;

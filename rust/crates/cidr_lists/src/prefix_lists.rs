@@ -1,5 +1,6 @@
 //! Prefix lists as Cisco IOS and FRR write them.
 
+use cidr_support::vec::CollectIn;
 use cidr_support::vec::Vec;
 use crate::columns::parts_of;
 use crate::errors::LineError;
@@ -13,6 +14,7 @@ use cidr_io::shown::byte_excerpt;
 use cidr_routes::lists::Row;
 use cidr_sets::access::Action;
 use cidr_support::alloc::{AllocError, Global};
+use core::mem;
 
 /// A row of a prefix list.
 #[derive(Clone, Copy, Debug)]
@@ -32,7 +34,7 @@ pub struct ListRow {
 /// A row of a prefix list of one family.
 #[derive(Clone, Copy, Debug)]
 pub struct NumberedRow<C: NetworkBits + Copy> {
-    /// The number behind `seq`, which says where it stands in the list.
+    /// The number behind `seq`, by which [`in_order`] says where it stands in the list.
     pub number: Option<u32>,
     /// The row.
     pub row: Row<C>,
@@ -332,4 +334,67 @@ impl NumberedRows {
             number += 1;
         }
     }
+}
+
+/// The number of a row behind others, of which the greatest number is this.
+#[inline]
+fn number_behind(most: u128, number: Option<u32>) -> u128 {
+    match number {
+        Some(number) => u128::from(number),
+        None => most + 5,
+    }
+}
+
+/// The rows with their numbers.
+fn with_numbers<C: NetworkBits + Copy>(
+    alloc: Global,
+    rows: &[NumberedRow<C>],
+) -> Result<Vec<(u128, Row<C>)>, AllocError> {
+    let mut out = Vec::with_capacity(alloc, rows.len())?;
+    let mut most = 0;
+    for row in rows {
+        let number = number_behind(most, row.number);
+        out.push((number, row.row))?;
+        most = most.max(number);
+    }
+    Ok(out)
+}
+
+/// Puts rows in the order of their numbers, and leaves of those of one number the last.
+fn keep_last<C: NetworkBits + Copy>(rows: &mut Vec<(u128, Row<C>)>) -> Result<(), AllocError> {
+    rows.sort_by_key(|row| row.0)?;
+    rows.dedup_by(
+        |row, kept| {
+            let same = row.0 == kept.0;
+            if same {
+                mem::swap(row, kept);
+            }
+            same
+        },
+    );
+    Ok(())
+}
+
+/// Rows without their numbers.
+#[inline]
+fn plain_rows<C: NetworkBits + Copy>(
+    alloc: Global,
+    rows: &[(u128, Row<C>)],
+) -> Result<Vec<Row<C>>, AllocError> {
+    rows.iter().map(|row| row.1).collect_in(alloc)
+}
+
+/// The rows of a prefix list in the order in which they are asked, that of their numbers, for the calls of `cidr_routes`. A row
+/// without a number has 5 more than the greatest of those before it, and 5 where there is none; of the rows of one number the last
+/// counts, as where FRR reads them one after the other. A number that so exceeds 2^32 - 1, where FRR refuses the row, is no error.
+///
+/// The error is that there is no memory. It takes O(n log n) for n rows.
+#[inline]
+pub fn in_order<C: NetworkBits + Copy>(
+    alloc: Global,
+    rows: &[NumberedRow<C>],
+) -> Result<Vec<Row<C>>, AllocError> {
+    let mut numbered = with_numbers(alloc, rows)?;
+    keep_last(&mut numbered)?;
+    plain_rows(alloc, numbered.as_slice())
 }

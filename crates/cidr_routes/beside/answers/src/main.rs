@@ -2,6 +2,7 @@
 //!
 //!     payload NETWORK MAX_LENGTH AS        a payload
 //!     row LIST permit|deny NETWORK LOW HIGH        a row of a prefix list, by the name of the list
+//!     read LIST FILE        a prefix list in a file, as Cisco IOS and FRR write it
 //!     validity NETWORK AS        prints valid, invalid or unknown; AS is - for a path that ends in a set
 //!     permits LIST NETWORK        prints true or false
 //!     shadowed LIST        prints the indices of the rows that decide nothing
@@ -11,6 +12,7 @@
 //! The payloads stand before the first question about them.
 
 use cidr::{Ipv4Cidr, Ipv6Cidr};
+use cidr_lists::prefix_lists::{in_order, NumberedRow, NumberedRows};
 use cidr_lookup::Keyed;
 use cidr_routes::lists::{difference, permits, permitted, shadowed, Row};
 use cidr_routes::{Payload, Payloads, Validity};
@@ -23,8 +25,8 @@ use std::str::FromStr;
 
 fn main() {
     match std::env::args().nth(1).as_deref() {
-        Some("ipv4") => answer::<Ipv4Cidr>(),
-        Some("ipv6") => answer::<Ipv6Cidr>(),
+        Some("ipv4") => answer::<Ipv4Cidr>(|read| read.v4.as_slice()),
+        Some("ipv6") => answer::<Ipv6Cidr>(|read| read.v6.as_slice()),
         _ => panic!("ipv4 or ipv6"),
     }
 }
@@ -36,7 +38,7 @@ where
     text.parse().unwrap()
 }
 
-fn answer<C: Keyed + FromStr + Display>()
+fn answer<C: Keyed + FromStr + Display>(of_family: fn(&NumberedRows) -> &[NumberedRow<C>])
 where
     C::Err: Debug,
 {
@@ -59,6 +61,11 @@ where
                 low: number(low),
                 high: number(high),
             }),
+            ["read", list, file] => {
+                let text = std::fs::read(file).unwrap();
+                let read = NumberedRows::of_text(Global, list.as_bytes(), &text).unwrap();
+                lists.insert(list.to_string(), in_order(Global, of_family(&read)).unwrap().as_slice().to_vec());
+            }
             ["validity", network, origin] => {
                 let held = ready.get_or_insert_with(|| {
                     Payloads::new(Global, cidr_support::vec::Vec::from_slice(Global, &payloads).unwrap()).unwrap()
