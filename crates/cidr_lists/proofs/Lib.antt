@@ -15,6 +15,7 @@ pub mod MaskedTexts
 pub mod Merged
 pub mod Nested
 pub mod NumberedRows
+pub mod OneRow
 pub mod OpenNetworks
 pub mod Passing
 pub mod PayloadTexts
@@ -22,6 +23,7 @@ pub mod PlainTexts
 pub mod PrefixTexts
 pub mod PrintedLines
 pub mod PrintedTexts
+pub mod PushedWords
 pub mod RangeRows
 pub mod ReadBack
 pub mod Registered
@@ -38,3 +40,5 @@ pub mod Spelled
 pub mod Standing
 pub mod StyledTexts
 pub mod WholeTexts
+pub mod WordRows
+pub mod WrittenRows

@@ -110,7 +110,7 @@ module _ (c : ℕ) (far : 16 ≤ digit_value c) (no_dot : dot ≢ c) (no_colon :
 no_sign : (b : ℕ) → b ≢ 35 → b ≢ 59 → is_comment_sign b ≡ false
 no_sign b h k = grind (arith, common_steps)
 
-no_space : (b : ℕ) → b ≢ 9 → b ≢ 10 → b ≢ 12 → b ≢ 13 → b ≢ 32 → is_ascii_whitespace b ≡ false
+pub no_space : (b : ℕ) → b ≢ 9 → b ≢ 10 → b ≢ 12 → b ≢ 13 → b ≢ 32 → is_ascii_whitespace b ≡ false
 no_space b h k l m n = grind (arith, common_steps)
 
 -- what is left of bytes without white space

@@ -124,7 +124,7 @@ kept_whole text short = elim (cases_lt most_bytes (length text)) [
   | inr fits ↦ take_all (most_bytes + 1) text (omega (arith, fits))
 ]
 
-line_in_front : (text rest : List ℕ) → Lacks 10 text → ¬ (IsTooLong text) → lines_of (line text ++ rest) ≡ text ∷ lines_of rest
+pub line_in_front : (text rest : List ℕ) → Lacks 10 text → ¬ (IsTooLong text) → lines_of (line text ++ rest) ≡ text ∷ lines_of rest
 line_in_front text rest none short =
     let apart : All (λ x. is_line_feed x ≡ false) text =
     λ k d within. ap is_line_feed (get_or_default_zero text k d within) ∙ ne_eqb (slice_index text k) 10 (none k within) in

@@ -77,7 +77,7 @@ eight_short text groups (inr h) =
       h.room,
     )
 
-address_short : (family : Family) (text : List ℕ) (a : List Bool) → IsAddressText family text a → length text ≤ 64
+pub address_short : (family : Family) (text : List ℕ) (a : List Bool) → IsAddressText family text a → length text ≤ 64
 address_short Ipv4 text a h = omega (arith, joined_short text h.octets h.joined, h.four)
 address_short Ipv6 text a h = eight_short text h.groups h.eight
 

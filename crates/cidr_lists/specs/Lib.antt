@@ -28,6 +28,7 @@ pub mod PayloadFiles
 pub mod PayloadReading
 pub mod PrefixLists
 pub mod PrefixOrder
+pub mod RowLines
 pub mod Classes
 pub mod Descriptions
 pub mod Entries

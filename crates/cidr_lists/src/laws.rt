@@ -4,6 +4,7 @@ ghost use Rattle.std.specs.Prelude.{◌≡◌, [], ◌∷◌, ◌==◌, ℕ, Boo
 ghost use Rattle.std.specs.List.{AllZip, flat_map, slice_split};
 ghost use Rattle.cidr.specs.declared.cidr.combined.IpCidr.{IpCidr};
 ghost use Rattle.cidr.specs.declared.family.Family.{Family};
+ghost use Rattle.cidr_routes.specs.declared.lists.Row.{Row};
 ghost use Rattle.cidr_table.specs.model.Cover.{IsReduced};
 ghost use Rattle.cidr_lists.specs.Changes.{printed_changes};
 ghost use Rattle.cidr_lists.specs.Fields.{field_at};
@@ -12,6 +13,7 @@ ghost use Rattle.cidr_lists.specs.Json.{IsStringText, quote};
 ghost use Rattle.cidr_lists.specs.LookUps.{LookUp, look_object};
 ghost use Rattle.cidr_lists.specs.Lists.{IsNetworkBy, Text, ListSays, text_by};
 ghost use Rattle.cidr_lists.specs.ReadBack.{AreOfFamilies, AreUnions, ChangeTells, IsLookUp, ObjectTells, SaysJust, TellsJust, TellsLooks};
+ghost use Rattle.cidr_lists.specs.RowLines.{HasJustRows, IsListName, IsRowOf, row_lines};
 ghost use Rattle.cidr_lists.specs.Sets.{networks_of, printed_sets};
 ghost use Rattle.cidr_lists.specs.declared.changes.Sign.{Sign};
 ghost use Rattle.cidr_lists.specs.declared.columns.Separator.TheVariants.{Byte};
@@ -86,6 +88,14 @@ pub fn a_string_says_one_value()
 /// each field is empty.
 pub fn fields_are_parts()
     ensures { (byte place : ℕ) (line : List ℕ) → field_at (Byte byte) place line ≡ get_or (slice_split (λ b. b == byte) line) place [] }
+{}
+
+/// What is printed of the rows of a prefix list, read as the list of its name, says these rows and no others, where the lengths
+/// of each are in order.
+pub fn printed_rows_are_read()
+    ensures { (family : Family) (name : List ℕ) (rows : List (Row (List Bool))) → IsListName name
+        → ((row : Row (List Bool)) → Contains rows row → IsRowOf family row)
+        → HasJustRows (row_lines family (λ p. p) name rows) name family rows }
 {}
 
 /// The networks of sets are the shortest lists of their addresses.

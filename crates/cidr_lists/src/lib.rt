@@ -43,6 +43,7 @@ pub mod prefix_lists;
 pub mod printing;
 pub mod records;
 pub mod route_errors;
+mod row_lines;
 pub mod rows;
 pub mod rules;
 pub mod sets;

@@ -6,6 +6,7 @@ use crate::columns::parts_of;
 use crate::errors::LineError;
 use crate::payloads::{network_of, number_of};
 use crate::route_errors::{RouteError, RouteListError};
+pub use crate::row_lines::push_rows;
 use crate::rules::action_of;
 use crate::texts::line_len;
 use cidr::{Family, IpCidr, Ipv4Cidr, Ipv6Cidr, NetworkBits};

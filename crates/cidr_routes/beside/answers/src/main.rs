@@ -3,6 +3,7 @@
 //!     payload NETWORK MAX_LENGTH AS        a payload
 //!     row LIST permit|deny NETWORK LOW HIGH        a row of a prefix list, by the name of the list
 //!     read LIST FILE        a prefix list in a file, as Cisco IOS and FRR write it
+//!     write LIST NAME        prints the rows of a list as those of a list of this name, as Cisco IOS and FRR read them
 //!     validity NETWORK AS        prints valid, invalid or unknown; AS is - for a path that ends in a set
 //!     permits LIST NETWORK        prints true or false
 //!     shadowed LIST        prints the indices of the rows that decide nothing
@@ -12,7 +13,7 @@
 //! The payloads stand before the first question about them.
 
 use cidr::{Ipv4Cidr, Ipv6Cidr};
-use cidr_lists::prefix_lists::{in_order, NumberedRow, NumberedRows};
+use cidr_lists::prefix_lists::{in_order, push_rows, NumberedRow, NumberedRows};
 use cidr_lookup::Keyed;
 use cidr_routes::lists::{difference, permits, permitted, shadowed, Row};
 use cidr_routes::{Payload, Payloads, Validity};
@@ -65,6 +66,11 @@ where
                 let text = std::fs::read(file).unwrap();
                 let read = NumberedRows::of_text(Global, list.as_bytes(), &text).unwrap();
                 lists.insert(list.to_string(), in_order(Global, of_family(&read)).unwrap().as_slice().to_vec());
+            }
+            ["write", list, name] => {
+                let mut text = cidr_support::vec::Vec::new(Global);
+                push_rows(&mut text, name.as_bytes(), &lists[list]).unwrap();
+                out.write_all(text.as_slice()).unwrap();
             }
             ["validity", network, origin] => {
                 let held = ready.get_or_insert_with(|| {
