@@ -1,7 +1,7 @@
 -- What a hole leaves of a box, one field after the other.
-use Rattle.std.proofs.Common.{◌≡◌, ℕ, zero, suc, ◌+◌, ◌-◌, ◌<◌, ◌≤◌, Bool, true, false, ◌&&◌, cond, nat_le, nat_lt, min, max, Option, Some, None, if◌then◌else◌, All, List, [], ◌∷◌, ◌++◌, length, set, take, refl, sym, ◌∙◌, ap, subst, inl, inr, arith, length-set}
+use Rattle.std.proofs.Common.{◌≡◌, ℕ, zero, suc, ◌+◌, ◌-◌, ◌<◌, ◌≤◌, Bool, true, false, ◌&&◌, cond, nat_lt, min, max, Some, None, if◌then◌else◌, List, [], ◌∷◌, ◌++◌, length, set, take, refl, sym, ◌∙◌, ap, subst, inl, inr, arith, length-set}
 use Rattle.std.specs.List.{Contains}
-use Rattle.std.proofs.lemmas.Bool.{true≢false, false≢true, le-leb, lt-leb, lt-ltb, le-ltb, ltb-true, and_from, and_left, and_right, cases_lt, false_from_ne_true}
+use Rattle.std.proofs.lemmas.Bool.{true≢false, le-leb, lt-leb, lt-ltb, le-ltb, ltb-true, and_from, and_left, and_right, cases_lt, false_from_ne_true}
 use Rattle.std.proofs.lemmas.List.{take_more, take_more_set, take_all}
 use Rattle.std.proofs.lemmas.List.Elements.{All-append, All-nil, All-cons}
 use Rattle.std.proofs.lemmas.List.Sums.{sum_by-append}
@@ -23,7 +23,7 @@ pub and_yes : (a : Bool) → (a && true) ≡ a
 and_yes true = refl
 and_yes false = refl
 
-and_no : (a : Bool) → (a && false) ≡ false
+pub and_no : (a : Bool) → (a && false) ≡ false
 and_no true = refl
 and_no false = refl
 

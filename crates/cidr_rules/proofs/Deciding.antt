@@ -1,14 +1,13 @@
 -- Which rule decides a packet, by its index.
-use Rattle.std.proofs.Common.{◌≡◌, ℕ, zero, suc, ◌+◌, ◌<◌, ◌≤◌, Bool, true, false, ◌&&◌, ◌||◌, not, cond, nat_lt, nat_eq, if◌then◌else◌, Some, None, List, [], ◌∷◌, ◌++◌, length, get_or, take, drop, refl, sym, ◌∙◌, ap, inl, inr, arith}
-use Rattle.std.specs.List.{position_or_len}
-use Rattle.std.proofs.lemmas.Bool.{false≢true, lt-ltb, le-ltb, eq-eqb, eqb-true, cases_Bool}
+use Rattle.std.proofs.Common.{◌≡◌, ℕ, zero, suc, ◌+◌, ◌<◌, ◌≤◌, Bool, true, false, ◌||◌, not, nat_lt, nat_eq, if◌then◌else◌, Some, None, List, [], ◌∷◌, ◌++◌, length, get_or, take, drop, refl, sym, ◌∙◌, ap, inl, inr, arith}
+use Rattle.std.proofs.lemmas.Bool.{false≢true, lt-ltb, eq-eqb, eqb-true, cases_Bool}
 use Rattle.std.proofs.lemmas.List.{drop_more, drop_all}
 use Rattle.std.proofs.lemmas.List.Sums.{prefix_len-le-length}
 use Rattle.std.proofs.lemmas.List.Folds.{list_any-append, list_any_more}
 use Rattle.cidr_rules.specs.declared.rules.Rule.{Rule}
 use Rattle.cidr_rules.specs.Packets.{is_in, ranges_of}
 use Rattle.cidr_rules.specs.Lists.{decided, is_permitted, is_permit}
-use Rattle.cidr_rules.specs.Searches.{is_held, index_at, permits_at, holds_at, stops_at}
+use Rattle.cidr_rules.specs.Searches.{is_held, index_at, permits_at, holds_at, stop, stops_at}
 use Rattle.cidr_rules.proofs.Boxes.{same_tests}
 
 pub or_no : (b : Bool) → (b || false) ≡ b
@@ -34,36 +33,32 @@ pub index_here : {A : Type 0} (rules : List (Rule A)) (i : ℕ) → i < length r
 index_here rules i lt = rw (lt-ltb i (length rules) lt) refl
 
 module _ {A : Type 0} (number : A → ℕ) where
-  -- how many rules stand before the first that has the packet
-  abbrev pub stop : List (Rule A) → List ℕ → ℕ
-  stop rules x = position_or_len (λ r. is_in (ranges_of number r.region) x) rules
-
-  pub stop-le : (rules : List (Rule A)) (x : List ℕ) → stop rules x ≤ length rules
+  pub stop-le : (rules : List (Rule A)) (x : List ℕ) → stop number rules x ≤ length rules
   stop-le rules x = prefix_len-le-length (λ r. not (is_in (ranges_of number r.region) x)) rules
 
-  pub stop_is : (rules : List (Rule A)) (i : ℕ) (x : List ℕ) → i ≤ length rules → stops_at number rules i x ≡ true → stop rules x ≡ i
+  pub stop_is : (rules : List (Rule A)) (i : ℕ) (x : List ℕ) → i ≤ length rules → stops_at number rules i x ≡ true → stop number rules x ≡ i
   unfolding holds_at
   stop_is [] i x le e = omega (arith, le)
   stop_is (r ∷ rs) zero x le e = rw e refl
   stop_is (r ∷ rs) (suc i) x le e = elim (cases_Bool (is_in (ranges_of number r.region) x)) [
     | inl t ↦ absurd (false≢true (rw t at e))
-    | inr f ↦ let k : stop rs x ≡ i = stop_is rs i x (omega (arith, le)) (rw f at e) in rw f (omega (arith, k))
+    | inr f ↦ let k : stop number rs x ≡ i = stop_is rs i x (omega (arith, le)) (rw f at e) in rw f (omega (arith, k))
   ]
 
-  pub at_stop : (rules : List (Rule A)) (i : ℕ) (x : List ℕ) → stop rules x ≡ i → stops_at number rules i x ≡ true
+  pub at_stop : (rules : List (Rule A)) (i : ℕ) (x : List ℕ) → stop number rules x ≡ i → stops_at number rules i x ≡ true
   unfolding holds_at
   at_stop [] zero x e = refl
   at_stop [] (suc i) x e = refl
   at_stop (r ∷ rs) zero x e = elim (cases_Bool (is_in (ranges_of number r.region) x)) [
     | inl t ↦ t
-    | inr f ↦ let k : 1 + stop rs x ≡ 0 = rw f at e in absurd (omega (arith, k))
+    | inr f ↦ let k : 1 + stop number rs x ≡ 0 = rw f at e in absurd (omega (arith, k))
   ]
   at_stop (r ∷ rs) (suc i) x e = elim (cases_Bool (is_in (ranges_of number r.region) x)) [
     | inl t ↦ let k : 0 ≡ suc i = rw t at e in absurd (omega (arith, k))
-    | inr f ↦ let k : 1 + stop rs x ≡ suc i = rw f at e in rw f (at_stop rs i x (omega (arith, k)))
+    | inr f ↦ let k : 1 + stop number rs x ≡ suc i = rw f at e in rw f (at_stop rs i x (omega (arith, k)))
   ]
 
-  pub stops_where : (rules : List (Rule A)) (i : ℕ) (x : List ℕ) → i ≤ length rules → stops_at number rules i x ≡ nat_eq (stop rules x) i
+  pub stops_where : (rules : List (Rule A)) (i : ℕ) (x : List ℕ) → i ≤ length rules → stops_at number rules i x ≡ nat_eq (stop number rules x) i
   stops_where rules i x le = same_tests _ _
       (λ e. eq-eqb _ _ (stop_is rules i x le e))
       (λ e. at_stop rules i x (eqb-true _ _ e))
@@ -106,8 +101,8 @@ module _ {A : Type 0} (number : A → ℕ) where
 
   -- a packet that is decided by the rule at an index stops there
   pub stops_of : (rules : List (Rule A)) (i : ℕ) (x : List ℕ) → decided number rules x ≡ Some i → stops_at number rules i x ≡ true
-  stops_of rules i x e = elim (cases_Bool (nat_lt (stop rules x) (length rules))) [
-    | inl t ↦ let k : Some (stop rules x) ≡ Some i = rw t at e in let same : stop rules x ≡ i = cc k in at_stop rules i x same
+  stops_of rules i x e = elim (cases_Bool (nat_lt (stop number rules x) (length rules))) [
+    | inl t ↦ let k : Some (stop number rules x) ≡ Some i = rw t at e in let same : stop number rules x ≡ i = cc k in at_stop rules i x same
     | inr f ↦ let k : None ≡ Some i = rw f at e in absurd (cc k)
   ]
 

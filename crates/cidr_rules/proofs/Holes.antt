@@ -1,6 +1,6 @@
 -- The regions of rules that are left out of a region, and the search for what is left.
-use Rattle.std.proofs.Common.{◌≡◌, ℕ, zero, suc, ◌+◌, ◌*◌, ◌^◌, ◌<◌, ◌≤◌, Bool, true, false, ◌&&◌, ◌||◌, not, cond, nat_le, nat_lt, List, [], ◌∷◌, ◌++◌, length, get_or, take, map, length-take, refl, sym, ◌∙◌, ap, inl, inr, arith}
-use Rattle.std.specs.List.{count_by, list_any}
+use Rattle.std.proofs.Common.{◌≡◌, ℕ, ◌+◌, ◌*◌, ◌^◌, ◌<◌, ◌≤◌, Bool, true, false, ◌&&◌, ◌||◌, not, cond, nat_le, nat_lt, List, [], ◌∷◌, ◌++◌, length, get_or, take, length-take, refl, sym, ◌∙◌, ap, inl, inr, arith}
+use Rattle.std.specs.List.{list_any}
 use Rattle.std.proofs.Math.Nat.{one-le-pow, pow-le-pow_left, pow-succ'}
 use Rattle.std.proofs.lemmas.Bool.{true≢false, cases_Bool, and_cases, or_parts, not-false, false_from_ne_true}
 use Rattle.std.proofs.lemmas.Nat.{mul-le}
@@ -16,7 +16,7 @@ use Rattle.cidr_rules.specs.Regions.{are_full, meet, are_within}
 use Rattle.cidr_rules.specs.Parts.{AreAllFull, IsRest, all_cells, boxes_of, cells, edges, held, is_covered, ranges_between}
 use Rattle.cidr_rules.specs.Lists.{most_parts}
 use Rattle.cidr_rules.specs.Searches.{AreHoles, IsFree, IsSearch, is_held}
-use Rattle.cidr_rules.proofs.Boxes.{full_corner, full_of, meet_apart, within_part}
+use Rattle.cidr_rules.proofs.Boxes.{full_of, meet_apart, within_part}
 use Rattle.cidr_rules.proofs.Deciding.{held_more, or_no}
 
 or_assoc : (a b c : Bool) → ((a || b) || c) ≡ (a || (b || c))

@@ -4,6 +4,8 @@ pub mod Cuts
 pub mod Deciding
 pub mod Endpoints
 pub mod Holes
+pub mod Joins
 pub mod Pairs
 pub mod Needless
 pub mod Steps
+pub mod Telling

@@ -1,7 +1,7 @@
 -- What a rule of each of two lists has in common, and the packets that both decide.
-use Rattle.std.proofs.Common.{◌≡◌, ◌≢◌, ℕ, zero, suc, ◌+◌, ◌*◌, ◌<◌, ◌≤◌, ◌⊎◌, Bool, true, false, ◌&&◌, cond, Option, Some, None, MatchOption, List, [], ◌∷◌, length, get_or, take, refl, sym, ◌∙◌, ap, inl, inr, arith}
+use Rattle.std.proofs.Common.{◌≡◌, ◌≢◌, ℕ, ◌+◌, ◌*◌, ◌<◌, ◌≤◌, ◌⊎◌, Bool, true, false, ◌&&◌, Option, Some, None, MatchOption, List, length, get_or, take, refl, sym, ◌∙◌, ap, inl, inr, arith}
 use Rattle.std.proofs.Math.Nat.{add-mul}
-use Rattle.std.proofs.lemmas.Bool.{true≢false, false≢true, cases_Bool, cases_lt, and_parts, and_from, and_left, and_right, false_from_ne_true}
+use Rattle.std.proofs.lemmas.Bool.{true≢false, false≢true, cases_Bool, cases_lt, and_parts, and_from, and_left, and_right}
 use Rattle.std.proofs.lemmas.Nat.{mul-le}
 use Rattle.cidr_rules.specs.declared.fields.Range.{Range}
 use Rattle.cidr_rules.specs.declared.rules.Rule.{Rule}
@@ -9,10 +9,10 @@ use Rattle.cidr_rules.specs.declared.regions.Packet.{Packet}
 use Rattle.cidr_rules.specs.Packets.{fields_of, is_in, ranges_of}
 use Rattle.cidr_rules.specs.Regions.{meet, shared_of}
 use Rattle.cidr_rules.specs.Lists.{is_permitted}
-use Rattle.cidr_rules.specs.Searches.{AreBoth, IsFree, differ, holds_at, is_held, permits_at, stops_at}
+use Rattle.cidr_rules.specs.Searches.{AreBoth, AreDisputed, IsFree, holds_at, permits_at, stop, stops_at, differ}
 use Rattle.cidr_rules.proofs.Boxes.{meet_apart, shared_both}
 use Rattle.cidr_rules.proofs.Cuts.{and_yes}
-use Rattle.cidr_rules.proofs.Deciding.{at_stop, holds_behind, holds_here, permits_behind, permitted_at, stop, stop-le, stops_from, stops_parts}
+use Rattle.cidr_rules.proofs.Deciding.{at_stop, holds_behind, holds_here, permits_behind, permitted_at, stop-le, stops_from, stops_parts}
 
 pub differ_same : (b : Bool) → differ b b ≡ false
 differ_same true = refl
@@ -26,6 +26,12 @@ same_from false false e = refl
 
 pub apart_from : (a b : Bool) → differ a b ≡ true → a ≢ b
 apart_from a b e same = true≢false (sym e ∙ ap (λ t. differ t b) same ∙ differ_same b)
+
+pub differ_from : (a b : Bool) → a ≢ b → differ a b ≡ true
+differ_from true true apart = absurd (apart refl)
+differ_from true false apart = refl
+differ_from false true apart = refl
+differ_from false false apart = absurd (apart refl)
 
 -- what the test told, of the two rules
 pub tested : (p q a b : Bool) (r : Bool) → p ≡ a → q ≡ b → r ≡ differ p q → differ a b ≡ r
@@ -73,9 +79,15 @@ module _ {A : Type 0} (number : A → ℕ) where
       ]
     ]
 
-    pub pair_none : ((x : List ℕ) → (holds_at number rules i x && holds_at number others j x) ≡ false)
+    -- the packets of both, where the one action isn't the other
+    pub disputed_both : differ (permits_at rules i) (permits_at others j) ≡ true → (found : Option (List (Range ℕ))) → AreBoth number rules i others j found
+        → AreDisputed number rules i others j found
+    disputed_both e None none = λ x hi hj. absurd (true≢false (sym (and_from _ _ hi hj) ∙ none x))
+    disputed_both e (Some rs) both = (e, both)
+
+    pub pair_none : AreDisputed number rules i others j None
         → (x : List ℕ) → stops_at number rules i x ≡ true → stops_at number others j x ≡ true → is_permitted number rules x ≡ is_permitted number others x
-    pair_none none x si sj = absurd (true≢false (sym (and_from _ _ (stops_parts number rules i x si).1 (stops_parts number others j x sj).1) ∙ none x))
+    pair_none none x si sj = same_action (none x (stops_parts number rules i x si).1 (stops_parts number others j x sj).1) x si sj
 
     module _ (rs : List (Range ℕ)) (both : (x : List ℕ) → is_in rs x ≡ (holds_at number rules i x && holds_at number others j x)) where
       pub pair_empty : ((x : List ℕ) → ¬ (IsFree number rs (take i rules) (take j others) x))

@@ -1,12 +1,12 @@
 -- What holes leave of regions: what private functions promise each other. Regions are lists of ranges here.
 use Rattle.std.specs.Prelude.{◌≡◌, ℕ, ◌+◌, ◌*◌, ◌≤◌, ◌<◌, ◌&&◌, ◌++◌, Bool, true, false, cond, nat_le, nat_lt, List, [], ◌∷◌, Option, Some, None, All, Contains, count_by, sum_by, map, length, slice_set, slice_index_or}
-use Rattle.std.specs.List.{list_any}
+use Rattle.std.specs.List.{AllPairs, list_any}
 use Rattle.cidr_rules.specs.declared.fields.Range.{Range}
 use Rattle.cidr_rules.specs.declared.regions.Region.{Region}
 use Rattle.cidr_rules.specs.declared.parts.Step.{Step}
 use Rattle.cidr_rules.specs.declared.parts.Step.TheVariants.{Keep, Skip, Cut}
 use Rattle.cidr_rules.specs.Packets.{is_in, ranges_of}
-use Rattle.cidr_rules.specs.Regions.{are_full, meet, common_of, below_of, above_of, range_at}
+use Rattle.cidr_rules.specs.Regions.{are_full, join, meet, common_of, below_of, above_of, range_at}
 
 abbrev pub boxes_of : {A : Type 0} → (A → ℕ) → List (Region A) → List (List (Range ℕ))
 boxes_of number regions = map (ranges_of number) regions
@@ -81,3 +81,15 @@ pub record IsRest (holes old new : List (List (Range ℕ))) (rs : List (Range �
 abbrev pub IsNextRest : List (List (Range ℕ)) → List (List (Range ℕ)) → List (List (Range ℕ)) → Option (List (Range ℕ)) → Type 0
 IsNextRest holes old new None = (x : List ℕ) → is_covered holes x ≡ false → held x old ≡ 0
 IsNextRest holes old new (Some rs) = IsRest holes old new rs
+
+-- ---- boxes that are joined to fewer
+-- each box has a packet, and no two of them are together one box
+pub record AreSeparate (boxes : List (List (Range ℕ))) : Type 0 where
+  pub full : AreAllFull boxes
+  pub apart : AllPairs (λ rs ss. join rs ss ≡ false) boxes
+
+-- of the packets of the box there are boxes more, or others in place of the old ones
+pub record IsJoined (rs : List (Range ℕ)) (old new : List (List (Range ℕ))) : Type 0 where
+  pub separate : AreSeparate new
+  pub counts : (x : List ℕ) → held x new ≡ held x old + cond (is_in rs x) 1 0
+  pub few : length new ≤ length old + 1

@@ -1,7 +1,7 @@
 //! The values that a field of a packet has, and ranges of them.
-ghost use Rattle.std.specs.Prelude.{◌≡◌, ◌+◌, ◌-◌, ◌<◌, ◌&&◌, ℕ, nat_le, min, max, option_map};
+ghost use Rattle.std.specs.Prelude.{◌≡◌, ◌+◌, ◌-◌, ◌<◌, ◌&&◌, ℕ, nat_le, min, max, option_map, if◌then◌else◌};
 ghost use Rattle.cidr_rules.specs.Packets.{is_between, range_of};
-ghost use Rattle.cidr_rules.specs.Regions.{above_of, below_of, common_of};
+ghost use Rattle.cidr_rules.specs.Regions.{above_of, below_of, common_of, follows, hull_of, is_close, is_same};
 
 /// The values of a field, which stand in a row as numbers do.
 pub trait FieldValue: Copy {
@@ -109,6 +109,47 @@ impl<T: FieldValue> Range<T> {
             && nat_le (range_of T.number self.now).last (range_of T.number other.now).last) }
     {
         other.first.is_upto(self.first) && self.last.is_upto(other.last)
+    }
+
+    /// Whether both ranges begin and end at the same values.
+    pub(crate) fn is_same(&self, other: &Range<T>) -> bool
+        ensures { result ≡ is_same (range_of T.number self.now) (range_of T.number other.now) }
+    {
+        self.is_within(other) && other.is_within(self)
+    }
+
+    /// Whether the range begins right behind another.
+    pub(crate) fn follows(&self, other: &Range<T>) -> bool
+        ensures { result ≡ follows (range_of T.number self.now) (range_of T.number other.now) }
+    {
+        if self.first.is_upto(other.last) {
+            return false;
+        }
+        self.first.is_upto(other.last.next(self.first))
+    }
+
+    /// Whether two ranges are the same, or one begins right behind the other.
+    pub(crate) fn is_close(&self, other: &Range<T>) -> bool
+        ensures { result ≡ is_close (range_of T.number self.now) (range_of T.number other.now) }
+    {
+        self.is_same(other) || (self.follows(other) || other.follows(self))
+    }
+
+    /// 1 where two ranges differ, and 0 where they are the same.
+    pub(crate) fn differing(&self, other: &Range<T>) -> u8
+        ensures { result ≡ (if is_same (range_of T.number self.now) (range_of T.number other.now) then 0 else 1) }
+    {
+        if self.is_same(other) { 0 } else { 1 }
+    }
+
+    /// The range from where the first of two ranges begins to where the last of them ends.
+    pub(crate) fn hull(&self, other: &Range<T>) -> Range<T>
+        ensures { range_of T.number result ≡ hull_of (range_of T.number self.now) (range_of T.number other.now) }
+    {
+        Range {
+            first: earlier(self.first, other.first),
+            last: later(self.last, other.last),
+        }
     }
 
     /// The values of both ranges.

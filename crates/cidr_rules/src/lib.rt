@@ -2,10 +2,11 @@
 #![tactic(auto)]
 
 mod addresses;
-mod differences;
+mod comparing;
 mod entries;
 mod errors;
 mod fields;
+mod joining;
 mod parts;
 mod regions;
 mod rules;
@@ -13,7 +14,7 @@ mod search;
 mod shadows;
 
 pub use addresses::Endpoint;
-pub use differences::differing_packet;
+pub use comparing::{Difference, differences, differing_packet};
 pub use entries::{Entry, Traffic, Transport};
 pub use errors::RulesError;
 pub use fields::{FieldValue, Range};

@@ -1,5 +1,5 @@
 //! What holes leave of regions, as regions of which no two have a packet in common.
-ghost use Rattle.std.specs.Prelude.{◌≡◌, ◌++◌, ◌+◌, ◌≤◌, ◌<◌, true, OnOk, IfOk, IfSome, IsErrOf, option_map, position};
+ghost use Rattle.std.specs.Prelude.{◌≡◌, ◌++◌, ◌+◌, ◌≤◌, ◌<◌, true, OnOk, IfOk, IsErrOf, MatchOption, option_map, position};
 ghost use Rattle.std.specs.List.{list_any};
 ghost use Rattle.cidr_rules.specs.Packets.{range_of, ranges_of};
 ghost use Rattle.cidr_rules.specs.Regions.{are_full, are_within, meet};
@@ -143,7 +143,7 @@ pub(crate) fn next_rest<A: FieldValue>(
     ensures parts { IfOk result (λ _. AreAllFull (boxes_of A.number parts.new.items)) }
     ensures rest { IfOk result (λ found. IsNextRest (boxes_of A.number holes.now) (boxes_of A.number parts.old.items)
         (boxes_of A.number parts.new.items) (option_map (ranges_of A.number) found)) }
-    ensures less { IfOk result (λ found. IfSome found (λ _. budget.new < budget.old)) }
+    ensures less { IfOk result (λ found. MatchOption found (budget.new ≤ budget.old) (λ _. budget.new < budget.old)) }
     ensures spent { IfOk result (λ _. all_cells (boxes_of A.number holes.now) (boxes_of A.number parts.new.items) + budget.old
         ≤ all_cells (boxes_of A.number holes.now) (boxes_of A.number parts.old.items) + budget.new) }
     ensures limit { IsErrOf result TooManyParts

@@ -1,7 +1,7 @@
 //! Packets, and regions of packets: a range for each field.
 ghost use Rattle.std.specs.Prelude.{◌≡◌, ◌<◌, ℕ, List, map, slice_set};
 ghost use Rattle.cidr_rules.specs.Packets.{fields_of, is_in, range_of, ranges_of};
-ghost use Rattle.cidr_rules.specs.Regions.{are_full, are_within, meet, range_at, shared_of};
+ghost use Rattle.cidr_rules.specs.Regions.{are_close, are_full, are_within, differing, hulls_of, join, meet, range_at, shared_of};
 
 use crate::fields::{FieldValue, Range};
 
@@ -99,6 +99,51 @@ impl<A: FieldValue> Region<A> {
             protocol: self.protocol.common(&other.protocol),
             source_port: self.source_port.common(&other.source_port),
             destination_port: self.destination_port.common(&other.destination_port),
+        }
+    }
+
+    /// Whether in each field the ranges of two regions are the same, or one begins right behind the other.
+    #[tactic(auto, unfolding(crate::specs::Regions::are_close))]
+    fn is_close(&self, other: &Region<A>) -> bool
+        ensures { result ≡ are_close (ranges_of A.number self.now) (ranges_of A.number other.now) }
+    {
+        self.source.is_close(&other.source)
+            && self.destination.is_close(&other.destination)
+            && self.protocol.is_close(&other.protocol)
+            && self.source_port.is_close(&other.source_port)
+            && self.destination_port.is_close(&other.destination_port)
+    }
+
+    /// In how many fields their ranges differ.
+    #[tactic(auto, unfolding(crate::specs::Regions::differing))]
+    fn differing(&self, other: &Region<A>) -> u8
+        ensures { result ≡ differing (ranges_of A.number self.now) (ranges_of A.number other.now) }
+    {
+        self.source.differing(&other.source)
+            + (self.destination.differing(&other.destination)
+                + (self.protocol.differing(&other.protocol)
+                    + (self.source_port.differing(&other.source_port)
+                        + self.destination_port.differing(&other.destination_port))))
+    }
+
+    /// Whether two regions, which have no packet in common, are together one region.
+    pub(crate) fn joins(&self, other: &Region<A>) -> bool
+        ensures { result ≡ join (ranges_of A.number self.now) (ranges_of A.number other.now) }
+    {
+        self.is_close(other) && self.differing(other) == 1
+    }
+
+    /// The least region that has the packets of both.
+    #[tactic(auto, unfolding(crate::specs::Regions::hulls_of))]
+    pub(crate) fn hull(&self, other: &Region<A>) -> Region<A>
+        ensures { ranges_of A.number result ≡ hulls_of (ranges_of A.number self.now) (ranges_of A.number other.now) }
+    {
+        Region {
+            source: self.source.hull(&other.source),
+            destination: self.destination.hull(&other.destination),
+            protocol: self.protocol.hull(&other.protocol),
+            source_port: self.source_port.hull(&other.source_port),
+            destination_port: self.destination_port.hull(&other.destination_port),
         }
     }
 

@@ -5,11 +5,12 @@ ghost use Rattle.cidr_rules.specs.Packets.{fields_of, ranges_of};
 ghost use Rattle.cidr_rules.specs.Regions.{are_full, are_within, meet};
 ghost use Rattle.cidr_rules.specs.Parts.{AreAllFull, boxes_of};
 ghost use Rattle.cidr_rules.specs.Lists.{most_parts};
-ghost use Rattle.cidr_rules.specs.Searches.{AreBoth, AreHoles, IsFree, IsSearch, differ, permits_at};
+ghost use Rattle.cidr_rules.specs.Searches.{AreBoth, AreDisputed, AreHoles, AreRests, IsFree, IsSearch, permits_at, differ};
 ghost use Rattle.cidr_rules.specs.declared.errors.RulesError.TheVariants.{TooManyParts};
 
 use crate::errors::RulesError;
 use crate::fields::FieldValue;
+use crate::joining::push_joined;
 use crate::parts::next_rest;
 use crate::regions::{Packet, Region};
 use crate::rules::{Rule, is_permit};
@@ -102,6 +103,32 @@ pub(crate) fn free_packet<A: FieldValue>(
     }
 }
 
+/// The packets of the region that no rule of two lists has: regions of which no two have a packet in common.
+pub(crate) fn rests<A: FieldValue>(
+    alloc: Global,
+    region: &Region<A>,
+    rules: &[Rule<A>],
+    others: &[Rule<A>],
+    budget: &mut u64,
+) -> Result<Vec<Region<A>>, RulesError>
+    ensures rests { IfOk result (λ out. AreRests A.number (ranges_of A.number region.now) rules.now others.now (boxes_of A.number out.items)) }
+    ensures few { IfOk result (λ out. length out.items + budget.new ≤ budget.old) }
+    ensures spent { IfOk result (λ _. budget.old ≤ budget.new + most_parts (length rules.now + length others.now)) }
+    ensures limit { IsErrOf result TooManyParts → budget.old < most_parts (length rules.now + length others.now) }
+{
+    let mut parts = Vec::new(alloc);
+    let mut holes = Vec::new(alloc);
+    let mut out = Vec::new(alloc);
+    begin_search(&mut parts, &mut holes, region, rules, others)?;
+    loop {
+        let found = next_rest(&mut parts, &holes, budget)?;
+        match found {
+            Some(rest) => push_joined(&mut out, &rest)?,
+            None => return Ok(out),
+        }
+    }
+}
+
 /// The first rules of a list.
 pub(crate) fn first_rules<A: FieldValue>(rules: &[Rule<A>], i: usize) -> &[Rule<A>]
     requires { i ≤ length rules.now }
@@ -111,7 +138,7 @@ pub(crate) fn first_rules<A: FieldValue>(rules: &[Rule<A>], i: usize) -> &[Rule<
 }
 
 /// Whether the rule at an index permits; behind the last rule, packets are denied.
-pub(crate) fn permits_from<A: FieldValue>(rules: &[Rule<A>], i: usize) -> bool
+fn permits_from<A: FieldValue>(rules: &[Rule<A>], i: usize) -> bool
     ensures { result ≡ permits_at rules.now i }
 {
     if i < rules.len() {
@@ -122,7 +149,7 @@ pub(crate) fn permits_from<A: FieldValue>(rules: &[Rule<A>], i: usize) -> bool
 }
 
 /// The packets that both rules have, of which one may stand behind its list's last and has every packet.
-pub(crate) fn both<A: FieldValue>(
+fn both<A: FieldValue>(
     rules: &[Rule<A>],
     i: usize,
     others: &[Rule<A>],
@@ -146,8 +173,26 @@ pub(crate) fn both<A: FieldValue>(
     }
 }
 
+/// The packets that both rules have, if one permits and the other doesn't.
+pub(crate) fn disputed<A: FieldValue>(
+    rules: &[Rule<A>],
+    i: usize,
+    others: &[Rule<A>],
+    j: usize,
+) -> Option<Region<A>>
+    ensures { AreDisputed A.number rules.now i others.now j (option_map (ranges_of A.number) result) }
+{
+    let permitted = permits_from(rules, i);
+    let other = permits_from(others, j);
+    let apart = is_different(permitted, other);
+    if !apart {
+        return None;
+    }
+    both(rules, i, others, j)
+}
+
 /// Whether one of two lists permits, and the other doesn't.
-pub(crate) fn is_different(permitted: bool, other: bool) -> bool
+fn is_different(permitted: bool, other: bool) -> bool
     ensures { result ≡ differ permitted other }
 {
     if permitted { !other } else { other }

@@ -4,7 +4,7 @@ ghost use Rattle.std.specs.List.Sorted.{IsStrictlyIncreasing};
 ghost use Rattle.cidr_rules.specs.Lists.{IsRedundant, IsShadowed, decided, is_permitted, most_parts};
 ghost use Rattle.cidr_rules.specs.declared.errors.RulesError.TheVariants.{TooManyParts};
 
-use crate::differences::packet_of_rule;
+use crate::comparing::packet_of_rule;
 use crate::errors::RulesError;
 use crate::fields::FieldValue;
 use crate::rules::Rule;

@@ -2,8 +2,8 @@
 
 use cidr::{Ipv4Addr, Ipv4Cidr, Ipv6Cidr};
 use cidr_rules::{
-    decides, differing_packet, permits, pruned, redundant, shadowed, Action, Entry, Packet, Range, Region, Rule, RulesError, Traffic,
-    Transport,
+    decides, differences, differing_packet, permits, pruned, redundant, shadowed, Action, Difference, Entry, Packet, Range, Region, Rule,
+    RulesError, Traffic, Transport,
 };
 use cidr_support::alloc::Global;
 
@@ -60,13 +60,16 @@ fn packets() -> Vec<Packet<Ipv4Addr>> {
         .collect()
 }
 
-fn has(rule: &Rule<Ipv4Addr>, packet: &Packet<Ipv4Addr>) -> bool {
-    let region = &rule.region;
+fn is_in(region: &Region<Ipv4Addr>, packet: &Packet<Ipv4Addr>) -> bool {
     (region.source.first..=region.source.last).contains(&packet.source)
         && (region.destination.first..=region.destination.last).contains(&packet.destination)
         && (region.protocol.first..=region.protocol.last).contains(&packet.protocol)
         && (region.source_port.first..=region.source_port.last).contains(&packet.source_port)
         && (region.destination_port.first..=region.destination_port.last).contains(&packet.destination_port)
+}
+
+fn has(rule: &Rule<Ipv4Addr>, packet: &Packet<Ipv4Addr>) -> bool {
+    is_in(&rule.region, packet)
 }
 
 fn first(rules: &[Rule<Ipv4Addr>], packet: &Packet<Ipv4Addr>) -> Option<usize> {
@@ -77,11 +80,44 @@ fn permitted(rules: &[Rule<Ipv4Addr>], packet: &Packet<Ipv4Addr>) -> bool {
     first(rules, packet).is_some_and(|i| rules[i].action == Action::Permit)
 }
 
+/// Whether some packets are all that a region has: those between the least and the greatest of each field.
+fn are_a_region(packets: &[Packet<Ipv4Addr>]) -> bool {
+    let count = |field: fn(&Packet<Ipv4Addr>) -> u32| {
+        let numbers = || packets.iter().map(field);
+        numbers().max().zip(numbers().min()).map_or(0, |(most, least)| most - least + 1)
+    };
+    let sizes = [
+        count(|p| p.source.to_bits()),
+        count(|p| p.destination.to_bits()),
+        count(|p| u32::from(p.protocol)),
+        count(|p| u32::from(p.source_port)),
+        count(|p| u32::from(p.destination_port)),
+    ];
+    sizes.iter().product::<u32>() as usize == packets.len()
+}
+
+/// What is told of two lists: each packet on which they differ once, no other, under its rules, and in no more regions than needed
+/// by twos.
+fn are_differences(rules: &[Rule<Ipv4Addr>], others: &[Rule<Ipv4Addr>], told: &[Difference<Ipv4Addr>], all: &[Packet<Ipv4Addr>]) {
+    for packet in all {
+        let here: Vec<_> = told.iter().filter(|it| is_in(&it.region, packet)).collect();
+        let apart = permitted(rules, packet) != permitted(others, packet);
+        assert_eq!(here.len(), usize::from(apart));
+        assert!(here.iter().all(|it| it.rule == first(rules, packet) && it.other == first(others, packet)));
+    }
+    for (i, one) in told.iter().enumerate() {
+        for other in told[i + 1..].iter().filter(|it| it.rule == one.rule && it.other == one.other) {
+            let both: Vec<_> = all.iter().filter(|p| is_in(&one.region, p) || is_in(&other.region, p)).copied().collect();
+            assert!(!are_a_region(&both));
+        }
+    }
+}
+
 #[test]
 fn lists_beside_a_model() {
     let mut numbers = Numbers(1);
     let all = packets();
-    let (mut dead_rules, mut free_rules, mut same_lists, mut other_lists) = (0, 0, 0, 0);
+    let (mut dead_rules, mut free_rules, mut same_lists, mut other_lists, mut regions) = (0, 0, 0, 0, 0);
     for _ in 0..10_000 {
         let rules: Vec<_> = (0..numbers.below(8)).map(|_| rule(&mut numbers)).collect();
         for packet in &all {
@@ -112,10 +148,14 @@ fn lists_beside_a_model() {
             Some(packet) => assert!(permitted(&rules, &packet) != permitted(&others, &packet)),
             None => assert!(all.iter().all(|p| permitted(&rules, p) == permitted(&others, p))),
         }
+        let told = differences(Global, &rules, &others, u64::MAX).unwrap();
+        are_differences(&rules, &others, told.as_slice(), &all);
+        regions += told.len();
         dead_rules += dead.len();
         free_rules += free.len();
         if all.iter().all(|p| permitted(&rules, p) == permitted(&others, p)) { same_lists += 1 } else { other_lists += 1 }
     }
+    assert!(regions > 10_000);
     assert!(dead_rules > 1000 && free_rules > 1000 && same_lists > 1000 && other_lists > 1000);
 }
 

@@ -112,6 +112,42 @@ impl<T: FieldValue> Range<T> {
         other.first.is_upto(self.first) && self.last.is_upto(other.last)
     }
 
+    /// Whether both ranges begin and end at the same values.
+    #[inline]
+    pub(crate) fn is_same(&self, other: &Range<T>) -> bool {
+        self.is_within(other) && other.is_within(self)
+    }
+
+    /// Whether the range begins right behind another.
+    #[inline]
+    pub(crate) fn follows(&self, other: &Range<T>) -> bool {
+        if self.first.is_upto(other.last) {
+            return false;
+        }
+        self.first.is_upto(other.last.next(self.first))
+    }
+
+    /// Whether two ranges are the same, or one begins right behind the other.
+    #[inline]
+    pub(crate) fn is_close(&self, other: &Range<T>) -> bool {
+        self.is_same(other) || (self.follows(other) || other.follows(self))
+    }
+
+    /// 1 where two ranges differ, and 0 where they are the same.
+    #[inline]
+    pub(crate) fn differing(&self, other: &Range<T>) -> u8 {
+        if self.is_same(other) { 0 } else { 1 }
+    }
+
+    /// The range from where the first of two ranges begins to where the last of them ends.
+    #[inline]
+    pub(crate) fn hull(&self, other: &Range<T>) -> Range<T> {
+        Range {
+            first: earlier(self.first, other.first),
+            last: later(self.last, other.last),
+        }
+    }
+
     /// The values of both ranges.
     #[inline]
     pub(crate) fn common(&self, other: &Range<T>) -> Range<T> {

@@ -20,10 +20,11 @@
 #![allow(clippy::manual_unwrap_or_default, clippy::non_canonical_partial_ord_impl)]
 
 mod addresses;
-mod differences;
+mod comparing;
 mod entries;
 mod errors;
 mod fields;
+mod joining;
 mod parts;
 mod regions;
 mod rules;
@@ -31,7 +32,7 @@ mod search;
 mod shadows;
 
 pub use addresses::Endpoint;
-pub use differences::differing_packet;
+pub use comparing::{Difference, differences, differing_packet};
 pub use entries::{Entry, Traffic, Transport};
 pub use errors::RulesError;
 pub use fields::{FieldValue, Range};

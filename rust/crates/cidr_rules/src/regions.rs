@@ -100,6 +100,44 @@ impl<A: FieldValue> Region<A> {
         }
     }
 
+    /// Whether in each field the ranges of two regions are the same, or one begins right behind the other.
+    #[inline]
+    fn is_close(&self, other: &Region<A>) -> bool {
+        self.source.is_close(&other.source)
+            && self.destination.is_close(&other.destination)
+            && self.protocol.is_close(&other.protocol)
+            && self.source_port.is_close(&other.source_port)
+            && self.destination_port.is_close(&other.destination_port)
+    }
+
+    /// In how many fields their ranges differ.
+    #[inline]
+    fn differing(&self, other: &Region<A>) -> u8 {
+        self.source.differing(&other.source)
+            + (self.destination.differing(&other.destination)
+                + (self.protocol.differing(&other.protocol)
+                    + (self.source_port.differing(&other.source_port)
+                        + self.destination_port.differing(&other.destination_port))))
+    }
+
+    /// Whether two regions, which have no packet in common, are together one region.
+    #[inline]
+    pub(crate) fn joins(&self, other: &Region<A>) -> bool {
+        self.is_close(other) && self.differing(other) == 1
+    }
+
+    /// The least region that has the packets of both.
+    #[inline]
+    pub(crate) fn hull(&self, other: &Region<A>) -> Region<A> {
+        Region {
+            source: self.source.hull(&other.source),
+            destination: self.destination.hull(&other.destination),
+            protocol: self.protocol.hull(&other.protocol),
+            source_port: self.source_port.hull(&other.source_port),
+            destination_port: self.destination_port.hull(&other.destination_port),
+        }
+    }
+
     /// The packet of the least values, which is in the region if any is.
     #[inline]
     pub(crate) fn first_packet(&self) -> Packet<A> {

@@ -3,6 +3,7 @@
 use cidr_support::vec::Vec;
 use crate::errors::RulesError;
 use crate::fields::FieldValue;
+use crate::joining::push_joined;
 use crate::parts::next_rest;
 use crate::regions::{Packet, Region};
 use crate::rules::{Rule, is_permit};
@@ -78,6 +79,27 @@ pub(crate) fn free_packet<A: FieldValue>(
     }
 }
 
+/// The packets of the region that no rule of two lists has: regions of which no two have a packet in common.
+pub(crate) fn rests<A: FieldValue>(
+    alloc: Global,
+    region: &Region<A>,
+    rules: &[Rule<A>],
+    others: &[Rule<A>],
+    budget: &mut u64,
+) -> Result<Vec<Region<A>>, RulesError> {
+    let mut parts = Vec::new(alloc);
+    let mut holes = Vec::new(alloc);
+    let mut out = Vec::new(alloc);
+    begin_search(&mut parts, &mut holes, region, rules, others)?;
+    loop {
+        let found = next_rest(&mut parts, &holes, budget)?;
+        match found {
+            Some(rest) => push_joined(&mut out, &rest)?,
+            None => return Ok(out),
+        }
+    }
+}
+
 /// The first rules of a list.
 #[inline]
 pub(crate) fn first_rules<A: FieldValue>(rules: &[Rule<A>], i: usize) -> &[Rule<A>] {
@@ -86,7 +108,7 @@ pub(crate) fn first_rules<A: FieldValue>(rules: &[Rule<A>], i: usize) -> &[Rule<
 
 /// Whether the rule at an index permits; behind the last rule, packets are denied.
 #[inline]
-pub(crate) fn permits_from<A: FieldValue>(rules: &[Rule<A>], i: usize) -> bool {
+fn permits_from<A: FieldValue>(rules: &[Rule<A>], i: usize) -> bool {
     if i < rules.len() {
         is_permit(rules[i].action)
     } else {
@@ -95,7 +117,7 @@ pub(crate) fn permits_from<A: FieldValue>(rules: &[Rule<A>], i: usize) -> bool {
 }
 
 /// The packets that both rules have, of which one may stand behind its list's last and has every packet.
-pub(crate) fn both<A: FieldValue>(
+fn both<A: FieldValue>(
     rules: &[Rule<A>],
     i: usize,
     others: &[Rule<A>],
@@ -116,8 +138,25 @@ pub(crate) fn both<A: FieldValue>(
     }
 }
 
+/// The packets that both rules have, if one permits and the other doesn't.
+#[inline]
+pub(crate) fn disputed<A: FieldValue>(
+    rules: &[Rule<A>],
+    i: usize,
+    others: &[Rule<A>],
+    j: usize,
+) -> Option<Region<A>> {
+    let permitted = permits_from(rules, i);
+    let other = permits_from(others, j);
+    let apart = is_different(permitted, other);
+    if !apart {
+        return None;
+    }
+    both(rules, i, others, j)
+}
+
 /// Whether one of two lists permits, and the other doesn't.
 #[inline]
-pub(crate) fn is_different(permitted: bool, other: bool) -> bool {
+fn is_different(permitted: bool, other: bool) -> bool {
     if permitted { !other } else { other }
 }

@@ -1,7 +1,7 @@
 //! Rules that an access list doesn't need.
 
 use cidr_support::vec::Vec;
-use crate::differences::packet_of_rule;
+use crate::comparing::packet_of_rule;
 use crate::errors::RulesError;
 use crate::fields::FieldValue;
 use crate::rules::Rule;

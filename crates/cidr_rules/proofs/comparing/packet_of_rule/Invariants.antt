@@ -2,7 +2,7 @@ use Rattle.std.proofs.Common.{◌≤◌, ◌+◌, ◌*◌, length}
 use Rattle.cidr_rules.specs.Lists.{most_parts}
 use Rattle.cidr_rules.specs.Searches.{stops_at}
 use Rattle.cidr_rules.proofs.Pairs.{AreSame}
-use Rattle.cidr_rules.proofs.differences.packet_of_rule.Given as goal
+use Rattle.cidr_rules.proofs.comparing.packet_of_rule.Given as goal
 
 abbrev pub invariant-loop-j : goal.invariant-loop-j
 invariant-loop-j g l = record {

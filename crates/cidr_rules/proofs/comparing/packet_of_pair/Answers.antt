@@ -1,28 +1,16 @@
-use Rattle.std.proofs.Common.{◌≡◌, ◌+◌, ◌≤◌, rules, length, take, sym, ◌∙◌, ap, arith, length-take}
+use Rattle.std.proofs.Common.{◌+◌, rules, length, ap, arith, length-take}
 use Rattle.cidr_rules.specs.Packets.{ranges_of}
-use Rattle.cidr_rules.specs.Lists.{most_parts}
 use Rattle.cidr_rules.proofs.Holes.{most_more}
-use Rattle.cidr_rules.proofs.Pairs.{pair_found, pair_none, pair_within, same_action, tested}
-use Rattle.cidr_rules.proofs.differences.packet_of_pair.Goals as goal
-
-pub returns-then-not-apart-clause-found : goal.returns-then-not-apart-clause-found
-returns-then-not-apart-clause-found g c =
-    let e = tested _ _ _ _ _ c.permits_from-permitted.ensures c.permits_from-other.ensures c.is_different-apart.ensures ∙ c.if-not-apart.true in
-    same_action g.A.FieldValue.number c.args.rules.now c.args.i c.args.others.now c.args.j e
-
-pub both-requires : goal.both-requires
-both-requires g c =
-    let e = tested _ _ _ _ _ c.permits_from-permitted.ensures c.permits_from-other.ensures c.is_different-apart.ensures ∙ c.if-not-apart.false in
-    pair_within g.A.FieldValue.number c.args.rules.now c.args.i c.args.others.now c.args.j e
+use Rattle.cidr_rules.proofs.Pairs.{pair_found, pair_none}
+use Rattle.cidr_rules.proofs.comparing.packet_of_pair.Goals as goal
 
 pub returns-in-None-clause-found : goal.returns-in-None-clause-found
 returns-in-None-clause-found g c = pair_none g.A.FieldValue.number c.args.rules.now c.args.i c.args.others.now c.args.j c.in-None.ensures
 
 pub returns-in_ok-packet-in-Some-clause-found : goal.returns-in_ok-packet-in-Some-clause-found
 returns-in_ok-packet-in-Some-clause-found g c =
-    let e = tested _ _ _ _ _ c.permits_from-permitted.ensures c.permits_from-other.ensures c.is_different-apart.ensures ∙ c.if-not-apart.false in
     let found = rw (c.first_rules-before.ensures, c.first_rules-beside.ensures) at c.in_ok-packet-in-Some.ensures.found in
-    pair_found g.A.FieldValue.number c.args.rules.now c.args.i c.args.others.now c.args.j (ranges_of g.A.FieldValue.number c.in-Some.region) c.in-Some.ensures e _ found
+    pair_found g.A.FieldValue.number c.args.rules.now c.args.i c.args.others.now c.args.j (ranges_of g.A.FieldValue.number c.in-Some.region) c.in-Some.ensures.1 c.in-Some.ensures.0 _ found
 
 pub returns-in_ok-packet-in-Some-clause-spent : goal.returns-in_ok-packet-in-Some-clause-spent
 returns-in_ok-packet-in-Some-clause-spent g c =

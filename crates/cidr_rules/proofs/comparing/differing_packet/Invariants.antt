@@ -1,7 +1,7 @@
 use Rattle.std.proofs.Common.{◌≤◌, ◌+◌, ◌*◌, length, true}
 use Rattle.cidr_rules.specs.Lists.{most_parts}
 use Rattle.cidr_rules.proofs.Pairs.{AreSame}
-use Rattle.cidr_rules.proofs.differences.differing_packet.Given as goal
+use Rattle.cidr_rules.proofs.comparing.differing_packet.Given as goal
 
 abbrev pub invariant-loop-i : goal.invariant-loop-i
 invariant-loop-i g l = record {

@@ -1,9 +1,9 @@
-use Rattle.std.proofs.Common.{◌≡◌, ◌≢◌, ◌<◌, ◌+◌, ◌*◌, true, rules, length, arith}
+use Rattle.std.proofs.Common.{◌≢◌, ◌+◌, ◌*◌, true, rules, length, arith}
 use Rattle.cidr_rules.specs.declared.regions.Packet.{Packet}
 use Rattle.cidr_rules.specs.Packets.{fields_of}
 use Rattle.cidr_rules.specs.Lists.{is_permitted, most_parts}
 use Rattle.cidr_rules.proofs.Pairs.{found_all, row_more, same_more, step_le}
-use Rattle.cidr_rules.proofs.differences.differing_packet.Goals as goal
+use Rattle.cidr_rules.proofs.comparing.differing_packet.Goals as goal
 
 pub loop-i-preserved : goal.loop-i-preserved
 loop-i-preserved g c =

@@ -1,10 +1,10 @@
-use Rattle.std.proofs.Common.{◌≡◌, ◌≢◌, ◌<◌, ◌+◌, rules, length, arith}
+use Rattle.std.proofs.Common.{◌≢◌, ◌+◌, rules, length, arith}
 use Rattle.cidr_rules.specs.declared.regions.Packet.{Packet}
 use Rattle.cidr_rules.specs.Packets.{fields_of}
 use Rattle.cidr_rules.specs.Lists.{is_permitted, most_parts}
 use Rattle.cidr_rules.specs.Searches.{stops_at}
 use Rattle.cidr_rules.proofs.Pairs.{found_last, row_more, same_more, same_none, step_le}
-use Rattle.cidr_rules.proofs.differences.packet_of_rule.Goals as goal
+use Rattle.cidr_rules.proofs.comparing.packet_of_rule.Goals as goal
 
 pub loop-j-init : goal.loop-j-init
 loop-j-init g c = record {
