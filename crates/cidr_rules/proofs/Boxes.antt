@@ -1,5 +1,5 @@
 -- How boxes lie to each other: lists of ranges, one for each field.
-use Rattle.std.proofs.Common.{◌≡◌, ℕ, zero, suc, ◌+◌, ◌<◌, ◌≤◌, Bool, true, false, ◌&&◌, nat_le, min, max, List, [], ◌∷◌, ◌++◌, length, set, map, refl, sym, ◌∙◌, ap, inl, inr, arith}
+use Rattle.std.proofs.Common.{◌≡◌, ℕ, zero, suc, ◌<◌, ◌≤◌, Bool, true, false, ◌&&◌, nat_le, min, max, List, [], ◌∷◌, ◌++◌, length, set, map, refl, sym, ◌∙◌, ap, inl, inr, arith}
 use Rattle.std.proofs.lemmas.Bool.{true≢false, false≢true, leb-true, leb-false, le-leb, lt-leb, and_parts, and_cases, and_from, and_left, and_right}
 use Rattle.cidr_rules.specs.declared.fields.Range.{Range}
 use Rattle.cidr_rules.specs.Packets.{is_between, is_in}

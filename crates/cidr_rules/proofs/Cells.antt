@@ -1,6 +1,6 @@
 -- Into how many cells the ends of holes cut a box: a hole leaves fewer cells.
-use Rattle.std.proofs.Common.{◌≡◌, ℕ, zero, suc, ◌+◌, ◌-◌, ◌*◌, ◌<◌, ◌≤◌, Bool, true, false, ◌&&◌, cond, nat_le, nat_lt, nat_eq, min, max, Option, Some, None, if◌then◌else◌, List, [], ◌∷◌, ◌++◌, length, set, refl, sym, ◌∙◌, ap, inl, inr, arith, slice_index_or, ◌⊎◌}
-use Rattle.std.specs.List.{Contains, count_by, sum_by}
+use Rattle.std.proofs.Common.{◌≡◌, ℕ, zero, suc, ◌+◌, ◌-◌, ◌*◌, ◌<◌, ◌≤◌, Bool, true, false, ◌&&◌, cond, nat_le, nat_lt, nat_eq, min, max, Option, Some, None, if◌then◌else◌, List, [], ◌∷◌, length, set, refl, sym, ◌∙◌, ap, inl, inr, arith, slice_index_or, ◌⊎◌}
+use Rattle.std.specs.List.{Contains, count_by}
 use Rattle.std.proofs.Math.Nat.{add-mul, mul-add}
 use Rattle.std.proofs.lemmas.Bool.{false≢true, lt-ltb, le-ltb, le-leb, lt-leb, eq-eqb, ne_eqb, and_from, and_left, and_right, cases_lt, cases_order}
 use Rattle.std.proofs.lemmas.Nat.{mul-le}

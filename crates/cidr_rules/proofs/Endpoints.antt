@@ -1,7 +1,7 @@
 -- The addresses of a network by their numbers, and the packets of an entry by theirs.
-use Rattle.std.proofs.Common.{◌≡◌, ◌↔◌, ℕ, ◌+◌, ◌<◌, ◌≤◌, ◌^◌, Bool, true, ◌&&◌, nat_le, List, [], ◌∷◌, length, refl, sym, ◌∙◌, ap, arith}
+use Rattle.std.proofs.Common.{◌≡◌, ◌↔◌, ℕ, ◌<◌, ◌≤◌, ◌^◌, Bool, true, List, [], ◌∷◌, length, refl, sym, ◌∙◌, ap, arith}
 use Rattle.std.proofs.lemmas.Bool.{and_from, and_parts, leb-true, le-leb}
-use Rattle.cidr.specs.model.Bits.{bits, number}
+use Rattle.cidr.specs.model.Bits.{number}
 use Rattle.cidr.specs.model.Network.{BeginsWith, first_of, last_of}
 use Rattle.cidr.specs.laws.BitLaws.{number-bits, number-lt}
 use Rattle.cidr.proofs.NetworkWalks.{IsPair-network, between, network_walk-exact, stands_between}

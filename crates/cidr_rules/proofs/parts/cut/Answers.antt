@@ -1,4 +1,4 @@
-use Rattle.std.proofs.Common.{◌<◌, ◌≤◌, length, arith}
+use Rattle.std.proofs.Common.{arith}
 use Rattle.cidr_rules.specs.Packets.{ranges_of}
 use Rattle.cidr_rules.specs.Parts.{boxes_of}
 use Rattle.cidr_rules.proofs.Cuts.{cut_end, cut_more, cut_start}

@@ -1,6 +1,6 @@
 use Rattle.std.proofs.Common.{ap, arith}
 use Rattle.cidr_rules.specs.Packets.{ranges_of}
-use Rattle.cidr_rules.specs.Parts.{AreAllFull, all_cells, boxes_of, held}
+use Rattle.cidr_rules.specs.Parts.{all_cells, boxes_of, held}
 use Rattle.cidr_rules.proofs.Cells.{cells_some}
 use Rattle.cidr_rules.proofs.Steps.{popped_cells, popped_full, popped_held}
 use Rattle.cidr_rules.proofs.parts.next_rest.Goals as goal

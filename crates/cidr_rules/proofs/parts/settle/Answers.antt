@@ -1,4 +1,4 @@
-use Rattle.std.proofs.Common.{[], arith}
+use Rattle.std.proofs.Common.{arith}
 use Rattle.cidr_rules.specs.Packets.{is_in, ranges_of}
 use Rattle.cidr_rules.specs.Parts.{boxes_of}
 use Rattle.cidr_rules.proofs.Cells.{cells_some}

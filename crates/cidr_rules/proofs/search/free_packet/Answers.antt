@@ -1,5 +1,5 @@
-use Rattle.std.proofs.Common.{◌∙◌, ap, arith}
-use Rattle.cidr_rules.specs.Packets.{is_in, ranges_of}
+use Rattle.std.proofs.Common.{arith}
+use Rattle.cidr_rules.specs.Packets.{ranges_of}
 use Rattle.cidr_rules.proofs.Boxes.{full_corner}
 use Rattle.cidr_rules.proofs.Holes.{free_none, free_some}
 use Rattle.cidr_rules.proofs.search.free_packet.Goals as goal

@@ -1,9 +1,7 @@
-use Rattle.std.proofs.Common.{◌<◌, ◌≤◌, length, sym, ◌∙◌, subst, arith, List}
+use Rattle.std.proofs.Common.{◌<◌, ◌≤◌, length, sym, ◌∙◌, arith}
 use Rattle.std.proofs.lemmas.Bool.{and_parts}
 use Rattle.std.proofs.lemmas.List.{take_all}
-use Rattle.cidr_rules.specs.declared.rules.Rule.{Rule}
 use Rattle.cidr_rules.specs.Packets.{ranges_of}
-use Rattle.cidr_rules.specs.Searches.{AreHoles}
 use Rattle.cidr_rules.proofs.Holes.{hole_pushed, hole_skipped, holes_start}
 use Rattle.cidr_rules.proofs.search.push_holes.Goals as goal
 use Rattle.cidr_rules.proofs.search.push_holes.Goals.{then-is_hole+in_ok-push, else-is_hole}

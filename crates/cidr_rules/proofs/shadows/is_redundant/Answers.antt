@@ -1,5 +1,4 @@
-use Rattle.std.proofs.Common.{rules, ◌≡◌, ◌+◌, ◌*◌, ◌≤◌, length, sym, ◌∙◌, ap, arith}
-use Rattle.cidr_rules.specs.Lists.{most_parts}
+use Rattle.std.proofs.Common.{rules, arith}
 use Rattle.cidr_rules.proofs.Needless.{needed_at, redundant_at, without_bound}
 use Rattle.cidr_rules.proofs.shadows.is_redundant.Goals as goal
 

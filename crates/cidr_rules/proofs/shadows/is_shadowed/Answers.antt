@@ -1,7 +1,6 @@
-use Rattle.std.proofs.Common.{◌≡◌, ◌+◌, ◌≤◌, [], rules, length, take, get_or, ap, arith, length-take}
+use Rattle.std.proofs.Common.{◌+◌, rules, length, get_or, ap, arith, length-take}
 use Rattle.std.proofs.lemmas.List.{get_or_default}
 use Rattle.cidr_rules.specs.Packets.{fields_of}
-use Rattle.cidr_rules.specs.Lists.{most_parts}
 use Rattle.cidr_rules.proofs.Holes.{most_more}
 use Rattle.cidr_rules.proofs.Needless.{shadowed_at, used_at}
 use Rattle.cidr_rules.proofs.shadows.is_shadowed.Goals as goal

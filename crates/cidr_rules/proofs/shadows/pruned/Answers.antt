@@ -1,7 +1,6 @@
 use Rattle.std.proofs.Common.{rules, ◌≡◌, ◌<◌, ◌≤◌, ℕ, Some, List, length, ◌∙◌, ap, arith}
 use Rattle.std.proofs.lemmas.Bool.{MatchBool-at_true, MatchBool-at_false}
 use Rattle.std.proofs.lemmas.List.{take_all}
-use Rattle.cidr_rules.specs.declared.rules.Rule.{Rule}
 use Rattle.cidr_rules.specs.Lists.{IsShadowed, decided, is_permitted, most_parts}
 use Rattle.cidr_rules.proofs.Pairs.{row_more, step_le}
 use Rattle.cidr_rules.proofs.Needless.{alike_pushed, alike_without}

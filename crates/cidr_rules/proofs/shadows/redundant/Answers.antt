@@ -1,4 +1,4 @@
-use Rattle.std.proofs.Common.{rules, ◌≡◌, ◌<◌, ◌+◌, ◌*◌, ℕ, length, arith}
+use Rattle.std.proofs.Common.{rules, ◌*◌, length, arith}
 use Rattle.std.proofs.lemmas.Bool.{MatchBool-at_true, MatchBool-at_false}
 use Rattle.cidr_rules.specs.Lists.{IsRedundant, most_parts}
 use Rattle.cidr_rules.proofs.Pairs.{row_more, step_le}
