@@ -24,6 +24,7 @@ mod ordering;
 mod printing;
 mod reading;
 mod routes;
+mod rules;
 mod samples;
 mod sets;
 mod stepping;
@@ -85,6 +86,7 @@ fn time_many(bench: &Bench<'_>) -> Result<(), AllocError> {
     loading::time_all(&bench.slower(1_000))?;
     covering::time_all(&bench.slower(100))?;
     sets::time_all(&bench.slower(1_000))?;
+    rules::time_all(&bench.slower(bench.rounds))?;
     if bench.quiet {
         return growth::time_all(bench, 1_000);
     }
