@@ -1,38 +1,69 @@
 -- Lists that are read one after another.
 use Rattle.std.proofs.Common.{◌≡◌, refl, sym, ◌∙◌, ap, subst, arith, Bor, ℕ, ◌+◌, ◌<◌, ◌≤◌, List, Bool, [], ◌∷◌, ◌++◌, length, take, drop, get_or, Option, Some, Result, Ok, Err}
-use Rattle.std.specs.Option.{IfSome}
 use Rattle.std.specs.List.{AllZip}
-use Rattle.std.proofs.lemmas.List.{take_more, take_all, take-append-drop, at_drop_more, get_or-map}
+use Rattle.std.proofs.lemmas.List.{flat_map_more, take_more, take_all, take-append-drop, at_drop_more, get_or-map}
 use Rattle.cidr.specs.declared.cidr.combined.IpCidr.{IpCidr}
 use Rattle.cidr.specs.declared.family.Family.{Family}
 use Rattle.cidr.specs.declared.family.Family.TheVariants.{Ipv4, Ipv6}
 use Rattle.cidr_table.specs.model.Cover.{Covers}
 use Rattle.cidr_sets.specs.model.Sets.{IsSetOf}
 use Rattle.netset_commands.specs.Keeping.{AllSaid}
-use Rattle.cidr_lists.specs.Lists.{Text, lines_of, text_in, ListSays, networks_in}
+use Rattle.cidr_lists.specs.Lists.{Text, lines_of, ListSays, SaysBy, IsBadBy, line_networks, networks_in}
 use Rattle.cidr_lists.specs.Reading.{Grows, listed}
-use Rattle.netset_commands.specs.Reading.{ReadsList}
+use Rattle.netset_commands.specs.LineKinds.{AddsSaid, HasListed, IsUnreadBy, ReadsFileLines}
+use Rattle.netset_commands.specs.Reading.{AddsLine}
 use Rattle.netset_commands.specs.Commands.{AreTold}
 use Rattle.netset_commands.specs.Program.{IsUnread, StopsAt}
 use Rattle.cidr_lists.specs.Sets.{networks_of}
 use Rattle.netset_commands.specs.Answering.{IsFileError, AddsFile, AreRead, HasAddresses, ReadsFile}
 use Rattle.netset_commands.proofs.Arguments.{bytes_of, same_length, within_bytes}
-use Rattle.netset_commands.proofs.ReadBy.{bytes_read, text_same}
 use Rattle.netset_commands.proofs.Zips.{zip_behind}
 use Rattle.netset_commands.specs.declared.errors.CommandError.{CommandError}
 use Rattle.netset_commands.specs.declared.errors.CommandError.TheVariants as error
 use Rattle.netset_commands.specs.declared.errors.ListReadError.{ListReadError}
+use Rattle.netset_commands.specs.declared.errors.ListReadError.TheVariants.{Line, Input, NoMemory}
 use Rattle.cidr_lists.specs.declared.records.ListForm.{ListForm}
 use Rattle.netset_commands.specs.declared.input.keeping.Said.TheVariants.{Networks}
 use Rattle.cidr_lists.specs.declared.lists.Lists.{Lists}
 use Rattle.cidr_lists.specs.declared.sets.Sets.{Sets}
 
--- the list of a file, as it is read
-pub list_read : (contents : Option Text) (left : Option (List ℕ)) (bits : ListForm) (old new : Lists) (r : Result (Unit {0}) ListReadError)
-    → ((text : Text) → contents ≡ Some text → left ≡ Some text.bytes) → ((text : Text) → contents ≡ Some text → text.form ≡ bits)
-    → IfSome left (λ bytes. ReadsList (text_in bits bytes) old new r) → (text : Text) → contents ≡ Some text → ReadsList text old new r
-list_read contents left bits old new r opens by h text is =
-    rw (text_same bits text (by text is)) at (bytes_read (λ bytes. ReadsList (text_in bits bytes) old new r) left text.bytes (opens text is) h)
+-- ---- the networks that lines say
+pub list_longer : (form : ListForm) (line : List ℕ) (number : ℕ) (old new : Lists) (r : Result (Unit {0}) ListReadError) → AddsLine form line number old new r
+    → AddsSaid (HasListed form) (IsBadBy form) line number old new r
+list_longer form line number old new (Ok done) (one, says, grows) = λ start before at (said, are, grown). (
+  said ++ one ∷ [],
+  zip_behind (SaysBy form) before said line one are says,
+  λ family. grows family ∙ (ap (λ k. k ++ line_networks family one) (grown family) ∙ flat_map_more (line_networks family) (listed start family) said one),
+)
+list_longer form line number old new (Err (Line n e)) h = h
+list_longer form line number old new (Err Input) h = absurd h
+list_longer form line number old new (Err NoMemory) h = tt
+
+-- ---- a list
+-- why the list of a file is not read
+pub list_unread : (contents : Option Text) (name : List ℕ) (old : Lists) (e : CommandError) → IsUnreadBy (λ form. HasListed form old) IsBadBy contents name e
+    → IsFileError contents name e
+list_unread contents name old (error.Line file number e) (named, h) = (
+  named,
+  λ text is.
+      let first = h text is in
+      record {
+        before = first.before;
+        line = first.line;
+        after = first.after;
+        lines = first.lines;
+        place = first.place;
+        said = first.fine.0;
+        fine = first.fine.1;
+        fault = first.fault;
+      },
+)
+list_unread contents name old e h = h
+
+pub list_read : (contents : Option Text) (name : List ℕ) (old new : Lists) (r : Result (Unit {0}) CommandError)
+    → ReadsFileLines (λ form. HasListed form old) IsBadBy contents name new r → AddsFile contents name old new r
+list_read contents name old new (Ok done) h = h
+list_read contents name old new (Err e) h = list_unread contents name old e h
 
 -- the list of a file, as it was kept
 pub networks_copied : (contents : Option Text) (name : List ℕ) (old new kept : Lists)

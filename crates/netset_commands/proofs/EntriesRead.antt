@@ -1,16 +1,15 @@
 -- The entries of lists, read line by line and list by list.
-use Rattle.std.proofs.Common.{◌≡◌, refl, sym, ◌∙◌, ap, subst, arith, Bor, Bool, ℕ, ◌+◌, ◌<◌, ◌≤◌, List, [], ◌∷◌, ◌++◌, length, take, drop, get_or, Option, Some, None, Result, Ok, Err, append_assoc}
-use Rattle.std.specs.Option.{IfSome}
+use Rattle.std.proofs.Common.{◌≡◌, refl, sym, ◌∙◌, ap, subst, arith, Bor, Bool, Global, Vec, ℕ, ◌+◌, ◌<◌, ◌≤◌, List, [], ◌∷◌, ◌++◌, length, take, drop, get_or, Option, Some, None, Result, Ok, Err, append_assoc}
 use Rattle.std.specs.Prelude.{option_to_list, IsTrue, ◌↔◌}
 use Rattle.std.proofs.lemmas.List.{append-nil, take_all, take_more, take-append-drop, at_drop_more, get_or-map}
 use Rattle.std.specs.List.{AllZip}
 use Rattle.cidr.specs.either.IpText.{IsIpHostText, ip_host_text}
 use Rattle.cidr.specs.texts.Printed.{plain_host_text}
 use Rattle.cidr.specs.declared.inet.combined.IpInet.{IpInet}
-use Rattle.netset_commands.specs.Entries.{AddsEntries, AddsEntry, HasAdded, IsLineFault, IsTextFault, CopiesEntries, IsCopyIn}
-use Rattle.cidr_lists.specs.Entries.{AreAllEntries, AreEntries, IsFirstFaultyLine, LineHas}
+use Rattle.netset_commands.specs.Entries.{AddsEntry, HasAdded, CopiesEntries, IsCopyIn}
+use Rattle.netset_commands.specs.LineKinds.{AddsSaid, ReadsFileLines}
+use Rattle.cidr_lists.specs.Entries.{AreAllEntries, AreEntries, HasNoHost, IsFirstFaultyLine, LineHas}
 use Rattle.cidr_lists.specs.Lists.{Text, lines_of}
-use Rattle.netset_commands.specs.Reading.{IsStopped}
 use Rattle.netset_commands.specs.Unchecked.{AddsFileEntries, AreToldEntries, IsFileFault, IsUnchecked}
 use Rattle.cidr_lists.specs.declared.entries.Entry.{Entry}
 use Rattle.netset_commands.specs.declared.errors.CommandError.{CommandError}
@@ -19,7 +18,6 @@ use Rattle.netset_commands.specs.declared.errors.ListReadError.{ListReadError}
 use Rattle.netset_commands.specs.declared.errors.ListReadError.TheVariants.{Line, Input, NoMemory}
 use Rattle.netset_commands.proofs.Arguments.{bytes_of, same_length, within_bytes}
 use Rattle.netset_commands.proofs.EachFile.{last_told, next_taken}
-use Rattle.netset_commands.proofs.LinesRead.{LineAt}
 use Rattle.netset_commands.proofs.Zips.{zip_behind}
 
 -- ---- the lines of a file
@@ -42,11 +40,8 @@ line_behind file number n (other ∷ lines) line entries one at are has =
       ap (λ (k : List Entry). k ++ option_to_list one) is ∙ append_assoc (option_to_list first) rest (option_to_list one),
     )
 
-pub none_added : (file : List ℕ) (old : List Entry) → HasAdded file old [] old
-none_added file old = ([], refl, sym (append-nil old))
-
 -- one more line
-pub line_added : (file : List ℕ) (old now new : List Entry) (number : ℕ) (line : List ℕ) → AddsEntry file number line now new (Ok tt)
+line_added : (file : List ℕ) (old now new : List Entry) (number : ℕ) (line : List ℕ) → AddsEntry file number line now new (Ok tt)
     → (before : List (List ℕ)) → number ≡ length before + 1 → HasAdded file old before now → HasAdded file old (before ++ line ∷ []) new
 line_added file old now new number line (one, has, adds) before at (entries, are, is) = (
   entries ++ option_to_list one,
@@ -54,49 +49,41 @@ line_added file old now new number line (one, has, adds) before at (entries, are
   adds ∙ (ap (λ (k : List Entry). k ++ option_to_list one) is ∙ append_assoc old entries (option_to_list one)),
 )
 
--- a line in error, or an end of reading
-line_fault : (file : List ℕ) (contents : Option (List ℕ)) (old now : List Entry) (number : ℕ) (line : List ℕ) (e : ListReadError)
-    → IfSome contents (λ text. LineAt (HasAdded file old) text now number line) → IsLineFault line number e → IfSome contents (λ text. IsTextFault file text e)
-line_fault file None old now number line e p h = tt
-line_fault file (Some text) old now number line Input p h = tt
-line_fault file (Some text) old now number line NoMemory p h = tt
-line_fault file (Some text) old now number line (Line n e) p h =
-    let (entries, are, is) = p.done in
-    record {
-      before = p.before;
-      line = line;
-      after = p.after;
-      lines = p.lines;
-      place = h.0 ∙ p.place;
-      said = entries;
-      fine = are;
-      fault = h.1;
-    }
+pub entries_longer : (file : List ℕ) (line : List ℕ) (number : ℕ) (old new : Vec Entry Global) (r : Result (Unit {0}) ListReadError)
+    → AddsEntry file number line old.items new.items r
+    → AddsSaid (λ (old : Vec Entry Global) lines (new : Vec Entry Global). HasAdded file old.items lines new.items) HasNoHost line number old new r
+entries_longer file line number old new (Ok done) h = λ start before. line_added file start.items old.items new.items number line h before
+entries_longer file line number old new (Err (Line n e)) h = h
+entries_longer file line number old new (Err Input) h = tt
+entries_longer file line number old new (Err NoMemory) h = tt
 
-no_line : (file : List ℕ) (contents : Option (List ℕ)) (e : ListReadError) → IsStopped e → IfSome contents (λ text. IsTextFault file text e)
-no_line file None e h = tt
-no_line file (Some text) (Line number e) h = absurd h
-no_line file (Some text) Input h = tt
-no_line file (Some text) NoMemory h = tt
+-- ---- a list
+-- the entries of a file, read by lines
+module _ (contents : Option Text) (name : List ℕ) (old : List Entry) (new : Vec Entry Global) where
+  abbrev Reads : Result (Unit {0}) CommandError → Type 0
+  Reads r = ReadsFileLines (λ _ lines (now : Vec Entry Global). HasAdded name old lines now.items) (λ _. HasNoHost) contents name new r
 
-abbrev failing : ListReadError → Result (Unit {0}) ListReadError
-failing e = Err e
+  entries_unread : (e : CommandError) → Reads (Err e) → IsFileFault contents name e
+  entries_unread (error.Line file number e) (named, h) = (
+    named,
+    λ text is.
+        let first = h text is in
+        record {
+          before = first.before;
+          line = first.line;
+          after = first.after;
+          lines = first.lines;
+          place = first.place;
+          said = first.fine.0;
+          fine = first.fine.1;
+          fault = first.fault;
+        },
+  )
+  entries_unread e h = h
 
-passed_on : (file : List ℕ) (contents : Option (List ℕ)) (old new : List Entry) (r : Result (Unit {0}) ListReadError) (y e : ListReadError) → r ≡ Err y → y ≡ e
-    → IfSome contents (λ text. IsTextFault file text e) → IfSome contents (λ text. AddsEntries file text old new r)
-passed_on file contents old new r y e is same h =
-    let P : Result (Unit {0}) ListReadError → Type 0 = λ k. IfSome contents (λ text. AddsEntries file text old new k) in
-    subst P (sym (is ∙ ap failing same)) h
-
-pub line_failed : (file : List ℕ) (contents : Option (List ℕ)) (old now new : List Entry) (number : ℕ) (line : List ℕ) (r : Result (Unit {0}) ListReadError) (y e : ListReadError)
-    → r ≡ Err y → y ≡ e → IfSome contents (λ text. LineAt (HasAdded file old) text now number line) → IsLineFault line number e
-    → IfSome contents (λ text. AddsEntries file text old new r)
-line_failed file contents old now new number line r y e is same p h =
-    passed_on file contents old new r y e is same (line_fault file contents old now number line e p h)
-
-pub reading_stopped : (file : List ℕ) (contents : Option (List ℕ)) (old new : List Entry) (r : Result (Unit {0}) ListReadError) (y e : ListReadError) → r ≡ Err y → y ≡ e
-    → IsStopped e → IfSome contents (λ text. AddsEntries file text old new r)
-reading_stopped file contents old new r y e is same h = passed_on file contents old new r y e is same (no_line file contents e h)
+  pub entries_read : (r : Result (Unit {0}) CommandError) → Reads r → AddsFileEntries contents name old new.items r
+  entries_read (Ok done) h = h
+  entries_read (Err e) h = entries_unread e h
 
 -- ---- one list after another
 list_behind : (names : List (List ℕ)) (texts : List Text) (name : List ℕ) (text : Text) (entries more : List Entry) → AreAllEntries names texts entries

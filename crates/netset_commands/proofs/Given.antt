@@ -1,5 +1,5 @@
 -- Files in the place of a table: files of look-ups, and lines.
-use Rattle.std.proofs.Common.{◌≡◌, sym, ◌∙◌, subst, inr, ℕ, Bool, true, false, List, Bor, Option, Some, None, Err, option_to_list, arith}
+use Rattle.std.proofs.Common.{◌≡◌, sym, ◌∙◌, subst, inr, ℕ, Bool, true, List, Option, Some, None, Err, option_to_list, arith}
 use Rattle.std.specs.Option.{IfSome}
 use Rattle.std.proofs.lemmas.Grind.{common_steps}
 use Rattle.cidr.specs.declared.family.Family.{Family}
@@ -12,16 +12,11 @@ use Rattle.netset_commands.specs.Begun.{IsBegunAt, begun_left}
 use Rattle.netset_commands.specs.Causes.{Cause, FileFails}
 use Rattle.netset_commands.specs.Compiled.{HasTable, SaysTable, begins_file}
 use Rattle.netset_commands.specs.Gathering.{IsNotReadFurther}
-use Rattle.netset_commands.specs.Look.{IsUnreadTable}
-use Rattle.netset_commands.specs.LookUps.{unread}
-use Rattle.netset_commands.specs.Stored.{AreFileBytes, ChecksFile, HasUnfitRow, IsNoTable, IsNotGiven, TellsUnfit}
+use Rattle.netset_commands.specs.Stored.{AreFileBytes, ChecksFile, HasUnfitRow, IsNotGiven, TellsUnfit}
 use Rattle.netset_commands.specs.declared.errors.CommandError.{CommandError}
 use Rattle.netset_commands.specs.declared.errors.CommandError.TheVariants as error
-use Rattle.netset_commands.specs.declared.errors.ListReadError.{ListReadError}
-use Rattle.netset_commands.specs.declared.errors.ListReadError.TheVariants.{Line, Input, NoMemory}
 use Rattle.netset_commands.specs.declared.input.begun.Begun.{Begun}
 use Rattle.netset_commands.proofs.Causes.{cause_weaker, whole_fails, whole_read}
-use Rattle.netset_commands.proofs.ReadBy.{bytes_read}
 use Rattle.netset_commands.specs.declared.errors.Reason.{Reason}
 
 -- ---- a file whose first byte was read
@@ -39,23 +34,10 @@ module _ {S : Type 0} (left : S → Option (List ℕ)) (contents : Option Text) 
   file_bytes test bytes is here read = λ text at.
       (begins_as test is true here text at, whole_read (begun_left left begun) text.bytes bytes (opens_begun text at) read)
 
--- the first byte of a file that is opened
-pub told_begun : {S : Type 0} (left : S → Option (List ℕ)) (contents : Option Text) (known : Option (List ℕ)) (begun : Begun S)
-    → ((text : Text) → contents ≡ Some text → known ≡ Some text.bytes) → IfSome known (λ text. IsBegunAt left text begun)
-    → (text : Text) → contents ≡ Some text → IsBegunAt left text.bytes begun
-told_begun left contents known begun opens h text is = bytes_read (λ text. IsBegunAt left text begun) known text.bytes (opens text is) h
-
 -- ---- why it is not read
 pub not_read : (IsOther : CommandError → Type 0) (contents : Option Text) (name : List ℕ) (e : CommandError) → ((e : CommandError) → IsNotReadFurther name e → IsOther e)
     → IsNotReadFurther name e → IsNotGiven IsOther contents name e
 not_read IsOther contents name e f h = grind (arith, common_steps)
-
-pub no_table_read : (form : RowForm) (contents : Option Text) (name : List ℕ) (e : CommandError) → IsNotReadFurther name e → IsUnreadTable form contents name e
-no_table_read form contents name e h = grind (arith, common_steps)
-
--- it is not opened
-pub none_refused : (F : List ℕ → Reason → Type 0) (refused : Bool) (e : CommandError) → Cause F false e → Cause F refused e
-none_refused F refused e h = grind (arith, common_steps)
 
 -- it is not read whole
 pub whole_cause : (contents : List ℕ → Option Text) (reasons : List ℕ → Option Reason) (name : List ℕ) (left : Option (List ℕ)) (refused : Bool) (e : CommandError)
@@ -64,13 +46,6 @@ pub whole_cause : (contents : List ℕ → Option Text) (reasons : List ℕ → 
 whole_cause contents reasons name left refused e opened opens h =
     cause_weaker (λ k _. (k ≡ name) × (left ≡ None)) (FileFails contents reasons) refused e
     (λ k why c. subst (λ (n : List ℕ). FileFails contents reasons n why) (sym c.0) (whole_fails contents reasons name why left opened opens c.1)) h
-
--- a line of it is in error
-pub no_lines : (form : RowForm) (contents : Option Text) (file : Bor (List ℕ)) (e : ListReadError) → ((text : Text) → contents ≡ Some text → begins_file text.bytes ≡ false)
-    → IsUnreadTable form contents file.now (unread file e) → IsNoTable form contents file.now (unread file e)
-no_lines form contents file (Line number e) begins h = (h, begins)
-no_lines form contents file Input begins h = h
-no_lines form contents file NoMemory begins h = h
 
 -- it is no file of look-ups
 pub no_file : (IsOther : CommandError → Type 0) (contents : Option Text) (name bytes : List ℕ) (e : CommandError) → IsOther error.NoMemory → AreFileBytes contents bytes
@@ -82,10 +57,6 @@ no_file IsOther contents name bytes (error.Line file number e) none are h = cc
 no_file IsOther contents name bytes (error.Input file why) none are h = cc
 no_file IsOther contents name bytes error.NoMemory none are h = none
 no_file IsOther contents name bytes error.Output none are h = cc
-
-pub file_cause_of : (contents : List ℕ → Option Text) (reasons : List ℕ → Option Reason) (refused : Bool) (e : CommandError) → Cause (λ _ _. ⊥) refused e
-    → Cause (FileFails contents reasons) refused e
-file_cause_of contents reasons refused e h = cause_weaker (λ _ _. ⊥) (FileFails contents reasons) refused e (λ name why never. absurd never) h
 
 -- ---- its table
 pub says_table : (form : RowForm) (contents : Option Text) (bytes : List ℕ) (table : Family → List (List Bool × List ℕ)) → AreFileBytes contents bytes → HasTable table bytes

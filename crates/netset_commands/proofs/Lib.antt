@@ -1,7 +1,6 @@
 pub mod Zips
 pub mod Families
 pub mod Causes
-pub mod Progress
 pub mod Blocks
 pub mod EachFile
 pub mod Combining
@@ -21,6 +20,7 @@ pub mod Parts
 pub mod Values
 pub mod Pages
 pub mod LinesRead
+pub mod LineKinds
 pub mod ListForms
 pub mod EntriesRead
 pub mod LineFindings

@@ -1,10 +1,8 @@
 -- Files in the place of a list: files of look-ups, and lines.
-use Rattle.std.proofs.Common.{◌≡◌, refl, sym, ◌∙◌, ap, ap₂, subst, inr, arith, ℕ, suc, ◌+◌, ◌<◌, ◌≤◌, min, Bool, false, List, [], ◌∷◌, ◌++◌, Bor, length, map, take, get_or, append_assoc, Option, Some, Err}
+use Rattle.std.proofs.Common.{◌≡◌, refl, sym, ◌∙◌, ap, ap₂, subst, inr, arith, ℕ, suc, ◌+◌, ◌<◌, ◌≤◌, min, Bool, List, [], ◌∷◌, ◌++◌, length, map, take, get_or, append_assoc, Option, Some}
 use Rattle.std.proofs.lemmas.List.{get_or-map, length-map, map-id, map_more, map_push, take_all}
 use Rattle.std.proofs.lemmas.Slice.Zip.{get_or-zip, length-zip}
 use Rattle.std.specs.Map.{keys_of}
-use Rattle.std.specs.Option.{IfSome}
-use Rattle.std.proofs.lemmas.Grind.{common_steps}
 use Rattle.cidr.specs.declared.family.Family.{Family}
 use Rattle.cidr.specs.declared.family.Family.TheVariants.{Ipv4, Ipv6}
 use Rattle.cidr.specs.model.Bits.{bits}
@@ -12,26 +10,19 @@ use Rattle.cidr_lookup.specs.Keys.{prefix_bits}
 use Rattle.cidr_files.specs.Layout.{wide_words, words}
 use Rattle.cidr_files.specs.Tables.{part_at, parts_in, stored_networks, value_in}
 use Rattle.cidr_files.specs.declared.layout.FileTables.{FileTables}
-use Rattle.cidr_lists.specs.Lists.{Text, text_in}
+use Rattle.cidr_lists.specs.Lists.{Text}
 use Rattle.cidr_lists.specs.Reading.{listed}
 use Rattle.cidr_lists.specs.Sets.{networks_of}
-use Rattle.cidr_lists.specs.declared.records.ListForm.{ListForm}
 use Rattle.cidr_lists.specs.declared.lists.Lists.{Lists}
 use Rattle.cidr_lists.specs.declared.sets.Sets.{Sets}
 use Rattle.cidr_sets.specs.model.Sets.{IsSetOf}
 use Rattle.cidr_table.specs.model.Cover.{Covers}
-use Rattle.netset_commands.specs.Answering.{HaveListAddresses, IsFileError}
+use Rattle.netset_commands.specs.Answering.{HaveListAddresses}
 use Rattle.netset_commands.specs.Commands.{IsInRow}
-use Rattle.netset_commands.specs.Compiled.{HasTable, begins_file}
-use Rattle.netset_commands.specs.Gathering.{IsNotReadFurther}
-use Rattle.netset_commands.specs.LookUps.{unread}
-use Rattle.netset_commands.specs.Reading.{ReadsList}
+use Rattle.netset_commands.specs.Compiled.{HasTable}
 use Rattle.netset_commands.specs.Stored.{AreFileBytes, IsNotGiven, by_family, rows_from, file_rows}
 use Rattle.netset_commands.specs.declared.errors.CommandError.{CommandError}
 use Rattle.netset_commands.specs.declared.errors.CommandError.TheVariants as error
-use Rattle.netset_commands.specs.declared.errors.ListReadError.{ListReadError}
-use Rattle.netset_commands.specs.declared.errors.ListReadError.TheVariants.{Line, Input, NoMemory}
-use Rattle.netset_commands.proofs.EachFile.{list_read}
 
 -- ---- why it is not read
 pub no_list : {IsOther : CommandError → Type 0} (IsUnread : CommandError → Type 0) (contents : Option Text) (name : List ℕ) (e : CommandError)
@@ -42,19 +33,6 @@ no_list IsUnread contents name (error.Argument text e) f h = f (error.Argument t
 no_list IsUnread contents name (error.Input file why) f h = f (error.Input file why) h
 no_list IsUnread contents name error.NoMemory f h = f error.NoMemory h
 no_list IsUnread contents name error.Output f h = f error.Output h
-
-pub no_list_read : (contents : Option Text) (name : List ℕ) (e : CommandError) → IsNotReadFurther name e → IsFileError contents name e
-no_list_read contents name e h = grind (arith, common_steps)
-
--- a line of it is in error
-pub no_list_lines : (contents : Option Text) (left : Option (List ℕ)) (bits : ListForm) (file : Bor (List ℕ)) (old new : Lists) (e : ListReadError)
-    → ((text : Text) → contents ≡ Some text → left ≡ Some text.bytes) → ((text : Text) → contents ≡ Some text → text.form ≡ bits)
-    → IfSome left (λ bytes. ReadsList (text_in bits bytes) old new (Err e)) → ((text : Text) → contents ≡ Some text → begins_file text.bytes ≡ false)
-    → IsNotGiven (IsFileError contents file.now) contents file.now (unread file e)
-no_list_lines contents left bits file old new (Line number e) opens by h begins =
-    ((refl, list_read contents left bits old new (Err (Line number e)) opens by h), begins)
-no_list_lines contents left bits file old new Input opens by h begins = refl
-no_list_lines contents left bits file old new NoMemory opens by h begins = tt
 
 -- ---- the networks of rows
 pub networks_of_rows : (w : ℕ) (value : ℕ → List ℕ) (networks : List (ℕ × ℕ)) (place : ℕ) → keys_of (rows_from w value networks place) ≡ map (prefix_bits w) networks

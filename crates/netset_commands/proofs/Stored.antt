@@ -1,6 +1,5 @@
 -- The rows of a table as they are read.
-use Rattle.std.proofs.Common.{◌≡◌, refl, sym, ◌∙◌, ap, ap₂, subst, ℕ, ◌+◌, ◌≤◌, Bool, true, false, List, [], ◌∷◌, ◌++◌, length, take, drop, map, arith, Bor, Option, Some, None, Result, Ok, Err, append-nil, length-append, length-drop, le_refl}
-use Rattle.std.specs.Option.{IfSome}
+use Rattle.std.proofs.Common.{◌≡◌, refl, sym, ◌∙◌, ap, ap₂, subst, ℕ, ◌+◌, ◌≤◌, Bool, List, [], ◌∷◌, ◌++◌, length, take, drop, map, arith, Option, Some, None, Result, Ok, Err, append-nil, length-append, length-drop, le_refl}
 use Rattle.std.specs.List.{AllZip, each_same}
 use Rattle.netset_commands.specs.Stored.{AreFileBytes}
 use Rattle.std.proofs.lemmas.List.{drop-append-le, take-append-le, drop_at, take_all, map-append, flat_map_more}
@@ -9,14 +8,12 @@ use Rattle.cidr.specs.declared.cidr.combined.IpCidr.TheVariants.{V4, V6}
 use Rattle.cidr.specs.declared.family.Family.{Family}
 use Rattle.cidr.specs.declared.family.Family.TheVariants.{Ipv4, Ipv6}
 use Rattle.cidr_table.specs.model.LastRows.{AreLastRows}
-use Rattle.netset_commands.specs.Causes.{TextFails}
-use Rattle.cidr_lists.specs.Lists.{Text, bits_in, lines_of, text_in}
+use Rattle.cidr_lists.specs.Lists.{Text, bits_in, lines_of}
 use Rattle.cidr_lists.specs.Forms.{IsBadRow, RowSays}
-use Rattle.netset_commands.specs.Look.{IsUnreadTable}
 use Rattle.cidr_lists.specs.Tables.{row_in, rows_in, said_in, AreCopies, AreSpansWithin, IsTable, Stores, resolved, stored, value_at}
 use Rattle.netset_commands.specs.Keeping.{AllSaid}
-use Rattle.netset_commands.specs.LookUps.{Adds, IsErrorAt, ReadsFileRows, ReadsRows, unread}
-use Rattle.netset_commands.specs.Reading.{IsNextLine, IsStopped}
+use Rattle.netset_commands.specs.LineKinds.{AddsSaid, HasRows, ReadsFileLines}
+use Rattle.netset_commands.specs.LookUps.{Adds, AddsRow, ReadsFileRows}
 use Rattle.netset_commands.specs.declared.errors.ListReadError.{ListReadError}
 use Rattle.netset_commands.specs.declared.errors.ListReadError.TheVariants.{Line, Input, NoMemory}
 use Rattle.netset_commands.specs.declared.input.keeping.Said.TheVariants.{Rows as AsRows}
@@ -26,9 +23,7 @@ use Rattle.cidr_lists.specs.declared.forms.RowLayout.{RowLayout}
 use Rattle.cidr_lists.specs.declared.records.ListForm.{ListForm}
 use Rattle.cidr_lists.specs.declared.rows.RowList.{RowList}
 use Rattle.cidr_lists.specs.declared.rows.Span.{Span}
-use Rattle.netset_commands.proofs.Causes.{KnownOf, too_many}
-use Rattle.netset_commands.proofs.ReadBy.{bytes_read, text_same}
-use Rattle.netset_commands.proofs.TextProgress.{Passed, none_passed, one_passed, all_passed, error_passed}
+use Rattle.netset_commands.proofs.Zips.{zip_behind}
 
 -- ---- values
 value_kept : (values more : List ℕ) (span : Span) → span.start + span.len ≤ length values → value_at (values ++ more) span ≡ value_at values span
@@ -110,80 +105,19 @@ stored_more old new said (Some (network, value)) s p = record {
       (subst (AreSpansWithin (old.values.items ++ value)) (sym (p.rows family)) (row_stored_within old.values.items value (stored old family) family network (s.within family)));
 }
 
--- ---- one line after the other
-module _ (form : RowForm) (bits : ListForm) where
-  abbrev pub Reads : List ℕ → Option (List ℕ) → RowList → ℕ → Type 0
-  Reads text left rows number = (said : List (Option (IpCidr × List ℕ))) × Passed (RowSays form (bits_in bits)) text left said number × Stores rows said
-
-  pub rows_started : (contents : Option (List ℕ)) (rows : RowList) → Stores rows [] → IfSome contents (λ text. Reads text contents rows 1)
-  rows_started None rows h = tt
-  rows_started (Some text) rows h = ([], none_passed (RowSays form (bits_in bits)) text, h)
-
-  pub rows_stepped : (contents left next : Option (List ℕ)) (old new : RowList) (number : ℕ) (line : List ℕ) (more : Bool) (one : Option (IpCidr × List ℕ)) → more ≡ true
-      → IfSome contents (λ text. Reads text left old number) → IfSome left (λ text. IsNextLine text line more next) → RowSays form (bits_in bits) line one → Adds old new one
-      → IfSome contents (λ text. Reads text next new (number + 1))
-  rows_stepped None left next old new number line more one is h n says adds = tt
-  rows_stepped (Some text) left next old new number line more one is (said, p, s) n says adds =
-      (said ++ one ∷ [], one_passed (RowSays form (bits_in bits)) text left next said number line more one is p n says, stored_more old new said one s adds)
-
-  pub rows_finished : (contents left next : Option (List ℕ)) (old new : RowList) (number : ℕ) (line : List ℕ) (more : Bool) (one : Option (IpCidr × List ℕ)) → more ≡ false
-      → IfSome contents (λ text. Reads text left old number) → IfSome left (λ text. IsNextLine text line more next) → RowSays form (bits_in bits) line one → Adds old new one
-      → IfSome contents (λ text. ReadsRows form (text_in bits text) (Ok new))
-  rows_finished None left next old new number line more one is h n says adds = tt
-  rows_finished (Some text) left next old new number line more one is (said, p, s) n says adds =
-      (said ++ one ∷ [], all_passed (RowSays form (bits_in bits)) text left next said number line more one is p n says, stored_more old new said one s adds)
-
-  abbrev failing : ListReadError → Result RowList ListReadError
-  failing e = Err e
-
-  rows_in_error : (contents left next : Option (List ℕ)) (old : RowList) (number : ℕ) (line : List ℕ) (more : Bool) (e : ListReadError)
-      → IfSome contents (λ text. Reads text left old number) → IfSome left (λ text. IsNextLine text line more next) → IsErrorAt (IsBadRow form (bits_in bits)) line number e
-      → IfSome contents (λ text. ReadsRows form (text_in bits text) (Err e))
-  rows_in_error None left next old number line more e h n bad = tt
-  rows_in_error (Some text) left next old number line more Input h n bad = tt
-  rows_in_error (Some text) left next old number line more NoMemory h n bad = tt
-  rows_in_error (Some text) left next old number line more (Line m e) (said, p, s) n bad =
-      (said, error_passed (RowSays form (bits_in bits)) (IsBadRow form (bits_in bits)) text left next said number line more m e p n bad.0 bad.1)
-
-  pub rows_failed : (contents left next : Option (List ℕ)) (old : RowList) (number : ℕ) (line : List ℕ) (more : Bool) (r : Result RowList ListReadError) (y e : ListReadError)
-      → r ≡ Err y → y ≡ e → IfSome contents (λ text. Reads text left old number) → IfSome left (λ text. IsNextLine text line more next)
-      → IsErrorAt (IsBadRow form (bits_in bits)) line number e → IfSome contents (λ text. ReadsRows form (text_in bits text) r)
-  rows_failed contents left next old number line more r y e is same h n bad =
-      subst (λ (k : Result RowList ListReadError). IfSome contents (λ text. ReadsRows form (text_in bits text) k)) (sym (is ∙ ap failing same))
-      (rows_in_error contents left next old number line more e h n bad)
-
-  no_more_rows : (contents : Option (List ℕ)) (e : ListReadError) → IsStopped e → IfSome contents (λ text. ReadsRows form (text_in bits text) (Err e))
-  no_more_rows None e h = tt
-  no_more_rows (Some text) (Line number e) h = absurd h
-  no_more_rows (Some text) Input h = tt
-  no_more_rows (Some text) NoMemory h = tt
-
-  pub rows_stopped : (contents : Option (List ℕ)) (r : Result RowList ListReadError) (y e : ListReadError) → r ≡ Err y → y ≡ e → IsStopped e
-      → IfSome contents (λ text. ReadsRows form (text_in bits text) r)
-  rows_stopped contents r y e is same h =
-      subst (λ (k : Result RowList ListReadError). IfSome contents (λ text. ReadsRows form (text_in bits text) k)) (sym (is ∙ ap failing same)) (no_more_rows contents e h)
-
-  -- what is left is told too
-  pub rows_known : (contents left : Option (List ℕ)) (rows : RowList) (number : ℕ) → IfSome contents (λ text. Reads text left rows number) → KnownOf contents left
-  rows_known None left rows number p = tt
-  rows_known (Some text) left rows number (said, p, s) = (p.rest, p.known, p.size)
-
-  -- there are more lines than numbers
-  pub rows_used : (contents left : Option (List ℕ)) (rows : RowList) (number : ℕ) → IfSome contents (λ text. Reads text left rows number)
-      → 18446744073709551615 ≤ number → TextFails contents
-  rows_used None left rows number p most = tt
-  rows_used (Some text) left rows number (said, p, s) most = too_many text p.before (lines_of p.rest) number p.lines p.place most
+pub rows_longer : (row : RowForm) (form : ListForm) (line : List ℕ) (number : ℕ) (old new : RowList) (r : Result (Unit {0}) ListReadError)
+    → AddsRow row form line number old new r → AddsSaid (HasRows row form) (IsBadRow row (bits_in form)) line number old new r
+rows_longer row form line number old new (Ok done) (one, says, adds) = λ start before at has none.
+    let (said, are, stores) = has none in
+    (said ++ one ∷ [], zip_behind (RowSays row (bits_in form)) before said line one are says, stored_more old new said one stores adds)
+rows_longer row form line number old new (Err (Line n e)) h = h
+rows_longer row form line number old new (Err Input) h = absurd h
+rows_longer row form line number old new (Err NoMemory) h = tt
 
 -- ---- the table of the rows
--- what is read of a reader whose bytes are told
-told_rows : (form : RowForm) (bits : ListForm) (left : Option (List ℕ)) (text : Text) (r : Result RowList ListReadError) → left ≡ Some text.bytes → text.form ≡ bits
-    → IfSome left (λ bytes. ReadsRows form (text_in bits bytes) r) → ReadsRows form text r
-told_rows form bits left text r is by h = rw (text_same bits text by) at (bytes_read (λ bytes. ReadsRows form (text_in bits bytes) r) left text.bytes is h)
-
-pub rows_read : (form : RowForm) (contents : Option Text) (left : Option (List ℕ)) (bits : ListForm) (name : List ℕ) (rows : RowList)
-    → ((text : Text) → contents ≡ Some text → left ≡ Some text.bytes) → ((text : Text) → contents ≡ Some text → text.form ≡ bits)
-    → IfSome left (λ bytes. ReadsRows form (text_in bits bytes) (Ok rows)) → ReadsFileRows form contents name (Ok rows)
-rows_read form contents left bits name rows opens by reads text is = told_rows form bits left text (Ok rows) (opens text is) (by text is) reads
+pub rows_read : (row : RowForm) (contents : Option Text) (name : List ℕ) (old new : RowList) → Stores old []
+    → ReadsFileLines (λ form. HasRows row form old) (λ form. IsBadRow row (bits_in form)) contents name new (Ok tt) → ReadsFileRows row contents name (Ok new)
+rows_read row contents name old new none h text is = h text is none
 
 -- two ways of reading rows are the same
 pub same_form : (one other : RowForm) → one.layout ≡ other.layout → one.values ≡ other.values → one ≡ other
@@ -220,24 +154,3 @@ pub table_read : (form : RowForm) (contents : Option Text) (name : List ℕ) (ro
 table_read form contents name rows table reads last = λ text is.
     let (said, says, s) = reads text is in
     (said, says, λ family. subst (λ (k : List (List Bool × List ℕ)). AreLastRows k (table family)) (s.same family) (last family))
-
-pub table_unread : (form : RowForm) (contents : Option Text) (left : Option (List ℕ)) (bits : ListForm) (file : Bor (List ℕ)) (e : ListReadError)
-    → ((text : Text) → contents ≡ Some text → left ≡ Some text.bytes) → ((text : Text) → contents ≡ Some text → text.form ≡ bits)
-    → IfSome left (λ bytes. ReadsRows form (text_in bits bytes) (Err e)) → IsUnreadTable form contents file.now (unread file e)
-table_unread form contents left bits file (Line number e) opens by reads = (
-  refl,
-  λ text is.
-      let (said, first) = told_rows form bits left text (Err (Line number e)) (opens text is) (by text is) reads in
-      record {
-        before = first.before;
-        line = first.line;
-        after = first.after;
-        lines = first.lines;
-        place = first.place;
-        said = said;
-        fine = first.fine;
-        fault = first.fault;
-      },
-)
-table_unread form contents left bits file Input opens by reads = refl
-table_unread form contents left bits file NoMemory opens by reads = tt

@@ -40,6 +40,7 @@ pub mod Compared
 pub mod Command
 pub mod Gathering
 pub mod Loading
+pub mod LineKinds
 pub mod Answering
 pub mod LookUps
 pub mod KeptLines

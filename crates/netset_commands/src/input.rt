@@ -6,6 +6,7 @@ pub mod files;
 pub mod good;
 pub mod headed;
 pub mod keeping;
+pub mod lines;
 pub mod lists;
 pub mod numbers;
 pub mod operands;

@@ -1,19 +1,20 @@
 //! Reading the lines of lists that have a network or a host.
-ghost use Rattle.std.specs.Prelude.{◌≡◌, ◌∷◌, true, IfErr, IfSome, MatchResult, OnErr, OnOk, Some, map};
-ghost use Rattle.netset_commands.specs.Causes.{Cause, FileFails, ReadCause, TextFails};
+ghost use Rattle.std.specs.Prelude.{◌≡◌, ◌∷◌, true, IfErr, MatchResult, OnErr, OnOk, map};
+ghost use Rattle.netset_commands.specs.Causes.{Cause, FileFails, ReadCause};
 ghost use Rattle.netset_commands.specs.Commands.{read_files};
-ghost use Rattle.netset_commands.specs.Entries.{AddsEntries, AddsEntry, CopiesEntries};
+ghost use Rattle.netset_commands.specs.Entries.{AddsEntry, CopiesEntries};
 ghost use Rattle.netset_commands.specs.Unchecked.{AddsFileEntries, AreToldEntries, IsUnchecked};
 
-use crate::errors::{CommandError, ListReadError, Reason};
+use crate::errors::{CommandError, ListReadError};
 use crate::input::begun::FileContent;
 use crate::input::files::Sources;
 use crate::input::keeping::Said;
-use cidr_io::lines::{LineReader, is_too_long};
+use crate::input::lines::{LineKind, read_file_lines};
+use cidr_io::lines::is_too_long;
 use cidr_io::memory::Memory;
-use cidr_io::source::Source;
 use cidr_lists::entries::{Entry, Place, entry_of};
 use cidr_lists::errors::LineError;
+use cidr_lists::records::ListForm;
 use std::alloc::AllocError;
 
 /// Adds the entry that a line has, if it has one.
@@ -39,62 +40,40 @@ pub fn add_entry_line<'a, M: Memory>(
     }
 }
 
-/// Reads a list to its end or to its first line in error, and adds its entries.
-fn add_lines<'a, M: Memory, S: Source + Drop>(
-    memory: &mut M,
-    reader: &mut LineReader<S>,
-    file: &'a str,
-    entries: &mut Vec<Entry<'a>>,
-) -> Result<(), ListReadError>
-    ensures adds { IfSome reader.old.left
-        (λ text. AddsEntries file.now text entries.old.items entries.new.items result) }
-    ensures cause { IfErr result (ReadCause (TextFails reader.old.left) (M.refused memory.new)) }
-{
-    for number in 1..u64::MAX {
-        let has_more = reader.read_line(memory)?;
-        add_entry_line(memory, Place { file, number }, reader.line(), entries)?;
-        if !has_more {
-            return Ok(());
-        }
-    }
-    Err(ListReadError::Input)
+/// Lines of the list of a file that have a network or a host.
+#[derive(Clone, Copy, Drop)]
+pub struct HostLines<'a> {
+    /// The name of the file.
+    pub file: &'a str,
 }
 
-/// Reads a list in blocks, to its end or to its first line in error, and adds its entries.
-fn add_list<'a, M: Memory, S: Source + Drop>(
-    memory: &mut M,
-    source: S,
-    file: &'a str,
-    entries: &mut Vec<Entry<'a>>,
-) -> Result<(), ListReadError>
-    ensures adds { IfSome (S.left source)
-        (λ text. AddsEntries file.now text entries.old.items entries.new.items result) }
-    ensures cause { IfErr result (ReadCause (TextFails (S.left source)) (M.refused memory.new)) }
-{
-    let mut reader = LineReader::new(memory, source)?;
-    add_lines(memory, &mut reader, file, entries)
-}
+impl<'a> LineKind for HostLines<'a> {
+    ghost use Rattle.std.proofs.Common.{[], refl, sym, append-nil};
+    ghost use Rattle.cidr_lists.specs.Entries.{HasNoHost};
+    ghost use Rattle.netset_commands.specs.Entries.{HasAdded};
 
-/// Reads the list of a file, and adds its entries.
-fn add_opened<'a, M: Memory, F: Sources>(
-    memory: &mut M,
-    sources: &F,
-    file: &'a str,
-    entries: &mut Vec<Entry<'a>>,
-) -> Result<(), CommandError<'a>>
-    ensures adds { AddsFileEntries (F.contents sources.now file.now) file.now entries.old.items entries.new.items result }
-    ensures cause { IfErr result (Cause (FileFails (F.contents sources.now) (F.reasons sources.now)) (M.refused memory.new)) }
-{
-    let reader = match sources.open(file) {
-        Ok(reader) => reader,
-        Err(why) => return Err(CommandError::Input(file, why)),
-    };
-    match add_list(memory, reader, file, entries) {
-        Ok(()) => Ok(()),
-        Err(ListReadError::Line(number, e)) => Err(CommandError::Line(file, number, e)),
-        Err(ListReadError::Input) => Err(CommandError::Input(file, Reason::Unknown)),
-        Err(ListReadError::NoMemory) => Err(CommandError::NoMemory),
+    type Said = Vec<Entry<'a>>;
+
+    ghost says = { λ kind _ old lines new. HasAdded kind.file.now old.items lines new.items };
+
+    ghost is_bad = { λ _ _. HasNoHost };
+
+    fn add_line<M: Memory>(
+        &self,
+        memory: &mut M,
+        _list_form: ListForm,
+        number: u64,
+        line: &[u8],
+        said: &mut Vec<Entry<'a>>,
+    ) -> Result<(), ListReadError> {
+        let place = Place {
+            file: self.file,
+            number,
+        };
+        add_entry_line(memory, place, line, said)
     }
+
+    ghost none = { λ _ _ said. ([], refl, sym (append-nil said.items)) };
 }
 
 /// Adds entries of a file of no name as those of a file.
@@ -139,7 +118,7 @@ fn add_file<'a, M: Memory, F: Sources>(
             add_kept(memory, file, kept.as_slice(), entries)?;
             Ok(())
         }
-        _ => add_opened(memory, sources, file, entries),
+        _ => read_file_lines(memory, sources, &HostLines { file }, file, entries),
     }
 }
 

@@ -5,13 +5,13 @@ ghost use Rattle.netset_commands.specs.Commands.{read_files};
 ghost use Rattle.netset_commands.specs.Answering.{AddsFile, AreRead, GivesList, ReadsAddresses, ReadsBoth, ReadsFile, ReadsSeveral};
 ghost use Rattle.netset_commands.specs.Program.{IsUnread};
 
-use crate::errors::{CommandError, ListReadError, Reason};
-use crate::input::begun::{FileContent, begin_file, read_whole};
+use crate::errors::CommandError;
+use crate::input::begun::FileContent;
 use crate::input::files::Sources;
 use crate::input::keeping::Said;
-use crate::input::lists::read_list;
+use crate::input::lines::{read_file_lines, read_given};
+use crate::input::lists::NetworkLines;
 use crate::input::stored::Stored;
-use crate::input::table::unread;
 use cidr_io::memory::Memory;
 use cidr_lists::lists::Lists;
 use cidr_lists::sets::Sets;
@@ -21,28 +21,6 @@ use cidr_lists::sets::Sets;
 pub struct Several {
     pub first: Sets,
     pub others: Vec<Sets>,
-}
-
-/// Reads the list of a file, and adds its networks.
-fn add_opened<'a, M: Memory, F: Sources>(
-    memory: &mut M,
-    sources: &F,
-    file: &'a str,
-    lists: &mut Lists,
-) -> Result<(), CommandError<'a>>
-    ensures adds { AddsFile (F.contents sources.now file.now) file.now lists.old lists.new result }
-    ensures cause { IfErr result (Cause (FileFails (F.contents sources.now) (F.reasons sources.now)) (M.refused memory.new)) }
-{
-    let reader = match sources.open(file) {
-        Ok(reader) => reader,
-        Err(why) => return Err(CommandError::Input(file, why)),
-    };
-    match read_list(memory, sources.list_form(), reader, lists) {
-        Ok(()) => Ok(()),
-        Err(ListReadError::Line(number, e)) => Err(CommandError::Line(file, number, e)),
-        Err(ListReadError::Input) => Err(CommandError::Input(file, Reason::Unknown)),
-        Err(ListReadError::NoMemory) => Err(CommandError::NoMemory),
-    }
 }
 
 /// Adds the networks of the list of a file, which is read unless it is read already.
@@ -61,7 +39,7 @@ fn add_file<'a, M: Memory, F: Sources>(
             memory.watch(added)?;
             Ok(())
         }
-        _ => add_opened(memory, sources, file, lists),
+        _ => read_file_lines(memory, sources, &NetworkLines, file, lists),
     }
 }
 
@@ -77,27 +55,6 @@ pub fn read_file<'a, M: Memory, F: Sources>(
     let mut lists = Lists::new(memory.alloc());
     add_file(memory, sources, file, &mut lists)?;
     Ok(Sets::of_lists(lists))
-}
-
-/// Reads the bytes of a file of look-ups, or the addresses of the list of another file.
-fn read_given<'a, M: Memory, F: Sources>(
-    memory: &mut M,
-    sources: &F,
-    file: &'a str,
-) -> Result<FileContent<Sets>, CommandError<'a>>
-    ensures gives { GivesList (F.contents sources.now file.now) file.now result }
-    ensures cause { IfErr result (Cause (FileFails (F.contents sources.now) (F.reasons sources.now)) (M.refused memory.new)) }
-{
-    let begun = begin_file(sources, file)?;
-    if begun.is_stored() {
-        let bytes = read_whole(memory, file, begun)?;
-        return Ok(FileContent::Stored(bytes));
-    }
-    let mut lists = Lists::new(memory.alloc());
-    match read_list(memory, sources.list_form(), begun, &mut lists) {
-        Ok(()) => Ok(FileContent::Lines(Sets::of_lists(lists))),
-        Err(e) => Err(unread(file, e)),
-    }
 }
 
 /// The bytes of a file of look-ups, or the addresses of the list of another file, which is read unless it is read already.
@@ -121,7 +78,17 @@ fn give_list<'a, M: Memory, F: Sources>(
             let bytes = memory.watch(bytes)?;
             Ok(FileContent::Stored(bytes))
         }
-        _ => read_given(memory, sources, file),
+        _ => {
+            let mut read = Lists::new(memory.alloc());
+            let given = read_given(memory, sources, &NetworkLines, file, &mut read)?;
+            match given {
+                FileContent::Lines(()) => {
+                    let sets = Sets::of_lists(read);
+                    Ok(FileContent::Lines(sets))
+                }
+                FileContent::Stored(bytes) => Ok(FileContent::Stored(bytes)),
+            }
+        }
     }
 }
 

@@ -9,10 +9,10 @@ ghost use Rattle.netset_commands.specs.Rows.{searched};
 ghost use Rattle.netset_commands.specs.declared.input.table.Answer.{Answer};
 
 use crate::errors::{CommandError, ListReadError, Reason};
-use crate::input::begun::{FileContent, begin_file, read_whole};
+use crate::input::begun::FileContent;
 use crate::input::files::Sources;
 use crate::input::keeping::Said;
-use crate::input::rows::read_rows;
+use crate::input::lines::{read_file_lines, read_given};
 use crate::input::tables::{PlainTable, SearchedTable};
 use crate::output::rows::push_row;
 use arrayvec::ArrayString;
@@ -213,47 +213,6 @@ fn is_same_form(one: RowForm, other: RowForm) -> bool
     }
 }
 
-/// Reads the rows of a file.
-fn read_opened<'a, M: Memory, F: Sources>(
-    memory: &mut M,
-    sources: &F,
-    form: RowForm,
-    file: &'a str,
-) -> Result<RowList, CommandError<'a>>
-    ensures reads { ReadsFileRows form (F.contents sources.now file.now) file.now result }
-    ensures cause { IfErr result (Cause (FileFails (F.contents sources.now) (F.reasons sources.now)) (M.refused memory.new)) }
-{
-    let reader = match sources.open(file) {
-        Ok(reader) => reader,
-        Err(why) => return Err(CommandError::Input(file, why)),
-    };
-    match read_rows(memory, form, sources.list_form(), reader) {
-        Ok(rows) => Ok(rows),
-        Err(e) => Err(unread(file, e)),
-    }
-}
-
-/// Reads the bytes of a file of look-ups, or the rows of another file.
-fn read_given<'a, M: Memory, F: Sources>(
-    memory: &mut M,
-    sources: &F,
-    form: RowForm,
-    file: &'a str,
-) -> Result<FileContent<RowList>, CommandError<'a>>
-    ensures gives { GivesRows form (F.contents sources.now file.now) file.now result }
-    ensures cause { IfErr result (Cause (FileFails (F.contents sources.now) (F.reasons sources.now)) (M.refused memory.new)) }
-{
-    let begun = begin_file(sources, file)?;
-    if begun.is_stored() {
-        let bytes = read_whole(memory, file, begun)?;
-        return Ok(FileContent::Stored(bytes));
-    }
-    match read_rows(memory, form, sources.list_form(), begun) {
-        Ok(rows) => Ok(FileContent::Lines(rows)),
-        Err(e) => Err(unread(file, e)),
-    }
-}
-
 /// The bytes of a file of look-ups, or the rows of another file, which is read unless it is read already.
 fn give_rows<'a, M: Memory, F: Sources>(
     memory: &mut M,
@@ -275,7 +234,14 @@ fn give_rows<'a, M: Memory, F: Sources>(
             let bytes = memory.watch(bytes)?;
             Ok(FileContent::Stored(bytes))
         }
-        _ => read_given(memory, sources, form, file),
+        _ => {
+            let mut read = RowList::new(memory.alloc());
+            let given = read_given(memory, sources, &form, file, &mut read)?;
+            match given {
+                FileContent::Lines(()) => Ok(FileContent::Lines(read)),
+                FileContent::Stored(bytes) => Ok(FileContent::Stored(bytes)),
+            }
+        }
     }
 }
 
@@ -315,7 +281,11 @@ fn rows_in_file<'a, M: Memory, F: Sources>(
             let rows = memory.watch(rows)?;
             Ok(rows)
         }
-        _ => read_opened(memory, sources, form, file),
+        _ => {
+            let mut rows = RowList::new(memory.alloc());
+            read_file_lines(memory, sources, &form, file, &mut rows)?;
+            Ok(rows)
+        }
     }
 }
 

@@ -1,15 +1,16 @@
 //! Reading the lines of lists that have a network or a host.
 
 use cidr_support::vec::Vec;
-use crate::errors::{CommandError, ListReadError, Reason};
+use crate::errors::{CommandError, ListReadError};
 use crate::input::begun::FileContent;
 use crate::input::files::Sources;
 use crate::input::keeping::Said;
-use cidr_io::lines::{LineReader, is_too_long};
+use crate::input::lines::{LineKind, read_file_lines};
+use cidr_io::lines::is_too_long;
 use cidr_io::memory::Memory;
-use cidr_io::source::Source;
 use cidr_lists::entries::{Entry, Place, entry_of};
 use cidr_lists::errors::LineError;
+use cidr_lists::records::ListForm;
 use cidr_support::alloc::AllocError;
 
 /// Adds the entry that a line has, if it has one.
@@ -32,51 +33,30 @@ pub fn add_entry_line<'a, M: Memory>(
     }
 }
 
-/// Reads a list to its end or to its first line in error, and adds its entries.
-fn add_lines<'a, M: Memory, S: Source>(
-    memory: &mut M,
-    reader: &mut LineReader<S>,
-    file: &'a str,
-    entries: &mut Vec<Entry<'a>>,
-) -> Result<(), ListReadError> {
-    for number in 1..u64::MAX {
-        let has_more = reader.read_line(memory)?;
-        add_entry_line(memory, Place { file, number }, reader.line(), entries)?;
-        if !has_more {
-            return Ok(());
-        }
-    }
-    Err(ListReadError::Input)
+/// Lines of the list of a file that have a network or a host.
+#[derive(Clone, Copy)]
+pub struct HostLines<'a> {
+    /// The name of the file.
+    pub file: &'a str,
 }
 
-/// Reads a list in blocks, to its end or to its first line in error, and adds its entries.
-#[inline]
-fn add_list<'a, M: Memory, S: Source>(
-    memory: &mut M,
-    source: S,
-    file: &'a str,
-    entries: &mut Vec<Entry<'a>>,
-) -> Result<(), ListReadError> {
-    let mut reader = LineReader::new(memory, source)?;
-    add_lines(memory, &mut reader, file, entries)
-}
+impl<'a> LineKind for HostLines<'a> {
+    type Said = Vec<Entry<'a>>;
 
-/// Reads the list of a file, and adds its entries.
-fn add_opened<'a, M: Memory, F: Sources>(
-    memory: &mut M,
-    sources: &F,
-    file: &'a str,
-    entries: &mut Vec<Entry<'a>>,
-) -> Result<(), CommandError<'a>> {
-    let reader = match sources.open(file) {
-        Ok(reader) => reader,
-        Err(why) => return Err(CommandError::Input(file, why)),
-    };
-    match add_list(memory, reader, file, entries) {
-        Ok(()) => Ok(()),
-        Err(ListReadError::Line(number, e)) => Err(CommandError::Line(file, number, e)),
-        Err(ListReadError::Input) => Err(CommandError::Input(file, Reason::Unknown)),
-        Err(ListReadError::NoMemory) => Err(CommandError::NoMemory),
+    #[inline]
+    fn add_line<M: Memory>(
+        &self,
+        memory: &mut M,
+        _list_form: ListForm,
+        number: u64,
+        line: &[u8],
+        said: &mut Vec<Entry<'a>>,
+    ) -> Result<(), ListReadError> {
+        let place = Place {
+            file: self.file,
+            number,
+        };
+        add_entry_line(memory, place, line, said)
     }
 }
 
@@ -117,7 +97,7 @@ fn add_file<'a, M: Memory, F: Sources>(
             add_kept(memory, file, kept.as_slice(), entries)?;
             Ok(())
         }
-        _ => add_opened(memory, sources, file, entries),
+        _ => read_file_lines(memory, sources, &HostLines { file }, file, entries),
     }
 }
 

@@ -1,9 +1,9 @@
-//! Reading lists of networks.
+//! Lines of lists of networks.
 
 use crate::errors::ListReadError;
-use cidr_io::lines::{LineReader, is_too_long};
+use crate::input::lines::LineKind;
+use cidr_io::lines::is_too_long;
 use cidr_io::memory::Memory;
-use cidr_io::source::Source;
 use cidr_lists::errors::LineError;
 use cidr_lists::lists::Lists;
 use cidr_lists::records::{ListForm, content_in};
@@ -29,31 +29,22 @@ pub fn add_list_line<M: Memory>(
     }
 }
 
-/// Reads a list to its end or to its first line in error, and adds its networks.
-fn read_lines<M: Memory, S: Source>(
-    memory: &mut M,
-    list_form: ListForm,
-    reader: &mut LineReader<S>,
-    lists: &mut Lists,
-) -> Result<(), ListReadError> {
-    for number in 1..u64::MAX {
-        let has_more = reader.read_line(memory)?;
-        add_list_line(memory, list_form, number, reader.line(), lists)?;
-        if !has_more {
-            return Ok(());
-        }
-    }
-    Err(ListReadError::Input)
-}
+/// Lines that are networks, addresses or ranges.
+#[derive(Clone, Copy)]
+pub struct NetworkLines;
 
-/// Reads a list in blocks, to its end or to its first line in error, and adds its networks.
-#[inline]
-pub fn read_list<M: Memory, S: Source>(
-    memory: &mut M,
-    list_form: ListForm,
-    source: S,
-    lists: &mut Lists,
-) -> Result<(), ListReadError> {
-    let mut reader = LineReader::new(memory, source)?;
-    read_lines(memory, list_form, &mut reader, lists)
+impl LineKind for NetworkLines {
+    type Said = Lists;
+
+    #[inline]
+    fn add_line<M: Memory>(
+        &self,
+        memory: &mut M,
+        list_form: ListForm,
+        number: u64,
+        line: &[u8],
+        said: &mut Lists,
+    ) -> Result<(), ListReadError> {
+        add_list_line(memory, list_form, number, line, said)
+    }
 }

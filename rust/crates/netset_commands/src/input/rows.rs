@@ -1,9 +1,9 @@
-//! Reading the rows of a table: networks with a value each.
+//! Lines of tables: networks with a value each.
 
 use crate::errors::ListReadError;
-use cidr_io::lines::{LineReader, is_too_long};
+use crate::input::lines::LineKind;
+use cidr_io::lines::is_too_long;
 use cidr_io::memory::Memory;
-use cidr_io::source::Source;
 use cidr_lists::errors::LineError;
 use cidr_lists::forms::{RowForm, row_of};
 use cidr_lists::records::ListForm;
@@ -32,32 +32,18 @@ pub fn add_row_line<M: Memory>(
     }
 }
 
-/// Reads the rows of a table to its end or to its first line in error.
-fn read_lines<M: Memory, S: Source>(
-    memory: &mut M,
-    form: RowForm,
-    list_form: ListForm,
-    reader: &mut LineReader<S>,
-) -> Result<RowList, ListReadError> {
-    let mut rows = RowList::new(memory.alloc());
-    for number in 1..u64::MAX {
-        let has_more = reader.read_line(memory)?;
-        add_row_line(memory, form, list_form, number, reader.line(), &mut rows)?;
-        if !has_more {
-            return Ok(rows);
-        }
-    }
-    Err(ListReadError::Input)
-}
+impl LineKind for RowForm {
+    type Said = RowList;
 
-/// Reads the rows of a table in blocks, to its end or to its first line in error.
-#[inline]
-pub fn read_rows<M: Memory, S: Source>(
-    memory: &mut M,
-    form: RowForm,
-    list_form: ListForm,
-    source: S,
-) -> Result<RowList, ListReadError> {
-    let mut reader = LineReader::new(memory, source)?;
-    read_lines(memory, form, list_form, &mut reader)
+    #[inline]
+    fn add_line<M: Memory>(
+        &self,
+        memory: &mut M,
+        list_form: ListForm,
+        number: u64,
+        line: &[u8],
+        said: &mut RowList,
+    ) -> Result<(), ListReadError> {
+        add_row_line(memory, *self, list_form, number, line, said)
+    }
 }

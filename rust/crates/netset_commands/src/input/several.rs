@@ -1,13 +1,13 @@
 //! Reading the lists of files, each as a set.
 
 use cidr_support::vec::Vec;
-use crate::errors::{CommandError, ListReadError, Reason};
-use crate::input::begun::{FileContent, begin_file, read_whole};
+use crate::errors::CommandError;
+use crate::input::begun::FileContent;
 use crate::input::files::Sources;
 use crate::input::keeping::Said;
-use crate::input::lists::read_list;
+use crate::input::lines::{read_file_lines, read_given};
+use crate::input::lists::NetworkLines;
 use crate::input::stored::Stored;
-use crate::input::table::unread;
 use cidr_io::memory::Memory;
 use cidr_lists::lists::Lists;
 use cidr_lists::sets::Sets;
@@ -16,25 +16,6 @@ use cidr_lists::sets::Sets;
 pub struct Several {
     pub first: Sets,
     pub others: Vec<Sets>,
-}
-
-/// Reads the list of a file, and adds its networks.
-fn add_opened<'a, M: Memory, F: Sources>(
-    memory: &mut M,
-    sources: &F,
-    file: &'a str,
-    lists: &mut Lists,
-) -> Result<(), CommandError<'a>> {
-    let reader = match sources.open(file) {
-        Ok(reader) => reader,
-        Err(why) => return Err(CommandError::Input(file, why)),
-    };
-    match read_list(memory, sources.list_form(), reader, lists) {
-        Ok(()) => Ok(()),
-        Err(ListReadError::Line(number, e)) => Err(CommandError::Line(file, number, e)),
-        Err(ListReadError::Input) => Err(CommandError::Input(file, Reason::Unknown)),
-        Err(ListReadError::NoMemory) => Err(CommandError::NoMemory),
-    }
 }
 
 /// Adds the networks of the list of a file, which is read unless it is read already.
@@ -50,7 +31,7 @@ fn add_file<'a, M: Memory, F: Sources>(
             memory.watch(added)?;
             Ok(())
         }
-        _ => add_opened(memory, sources, file, lists),
+        _ => read_file_lines(memory, sources, &NetworkLines, file, lists),
     }
 }
 
@@ -64,24 +45,6 @@ pub fn read_file<'a, M: Memory, F: Sources>(
     let mut lists = Lists::new(memory.alloc());
     add_file(memory, sources, file, &mut lists)?;
     Ok(Sets::of_lists(lists))
-}
-
-/// Reads the bytes of a file of look-ups, or the addresses of the list of another file.
-fn read_given<'a, M: Memory, F: Sources>(
-    memory: &mut M,
-    sources: &F,
-    file: &'a str,
-) -> Result<FileContent<Sets>, CommandError<'a>> {
-    let begun = begin_file(sources, file)?;
-    if begun.is_stored() {
-        let bytes = read_whole(memory, file, begun)?;
-        return Ok(FileContent::Stored(bytes));
-    }
-    let mut lists = Lists::new(memory.alloc());
-    match read_list(memory, sources.list_form(), begun, &mut lists) {
-        Ok(()) => Ok(FileContent::Lines(Sets::of_lists(lists))),
-        Err(e) => Err(unread(file, e)),
-    }
 }
 
 /// The bytes of a file of look-ups, or the addresses of the list of another file, which is read unless it is read already.
@@ -102,7 +65,17 @@ fn give_list<'a, M: Memory, F: Sources>(
             let bytes = memory.watch(bytes)?;
             Ok(FileContent::Stored(bytes))
         }
-        _ => read_given(memory, sources, file),
+        _ => {
+            let mut read = Lists::new(memory.alloc());
+            let given = read_given(memory, sources, &NetworkLines, file, &mut read)?;
+            match given {
+                FileContent::Lines(()) => {
+                    let sets = Sets::of_lists(read);
+                    Ok(FileContent::Lines(sets))
+                }
+                FileContent::Stored(bytes) => Ok(FileContent::Stored(bytes)),
+            }
+        }
     }
 }
 

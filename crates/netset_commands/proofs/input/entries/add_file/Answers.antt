@@ -1,5 +1,5 @@
 use Rattle.std.proofs.lemmas.Result.{err_from_is_err_and}
-use Rattle.netset_commands.proofs.EntriesRead.{entries_copied}
+use Rattle.netset_commands.proofs.EntriesRead.{entries_copied, entries_read}
 use Rattle.netset_commands.proofs.input.entries.add_file.Goals as goal
 
 pub returns-in_ok-add_kept-in-Some-Lines-Hosts-clause-adds : goal.returns-in_ok-add_kept-in-Some-Lines-Hosts-clause-adds
@@ -11,3 +11,8 @@ pub returns-in_err-add_kept-in-Some-Lines-Hosts-clause-cause : goal.returns-in_e
 returns-in_err-add_kept-in-Some-Lines-Hosts-clause-cause g c =
     let (y, is, same) = err_from_is_err_and c.from_residual.result c.from_residual.ensures.1 in
     rw (is, same) c.in_err-add_kept-in-Some-Lines-Hosts.ensures.refused
+
+pub returns-in_default-clause-adds : goal.returns-in_default-clause-adds
+returns-in_default-clause-adds g c =
+    entries_read (g.F.Sources.contents c.args.sources.now c.args.file.now) c.args.file.now c.args.entries.now.items c.read_file_lines.new.said c.read_file_lines.result
+    c.read_file_lines.ensures.reads

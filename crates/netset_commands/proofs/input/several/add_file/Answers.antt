@@ -1,6 +1,6 @@
 use Rattle.std.proofs.Common.{sym}
 use Rattle.std.proofs.lemmas.Result.{err_from_is_err_and}
-use Rattle.netset_commands.proofs.EachFile.{networks_copied}
+use Rattle.netset_commands.proofs.EachFile.{list_read, networks_copied}
 use Rattle.netset_commands.proofs.input.several.add_file.Goals as goal
 
 pub returns-in_ok-watch-in-Some-Lines-Networks-clause-adds : goal.returns-in_ok-watch-in-Some-Lines-Networks-clause-adds
@@ -12,3 +12,8 @@ pub returns-in_err-watch-in-Some-Lines-Networks-clause-cause : goal.returns-in_e
 returns-in_err-watch-in-Some-Lines-Networks-clause-cause g c =
     let (y, is, same) = err_from_is_err_and c.from_residual.result c.from_residual.ensures.1 in
     rw (is, same) c.in_err-watch-in-Some-Lines-Networks.ensures.refused
+
+pub returns-in_default-clause-adds : goal.returns-in_default-clause-adds
+returns-in_default-clause-adds g c =
+    list_read (g.F.Sources.contents c.args.sources.now c.args.file.now) c.args.file.now c.args.lists.now c.read_file_lines.new.said c.read_file_lines.result
+    c.read_file_lines.ensures.reads

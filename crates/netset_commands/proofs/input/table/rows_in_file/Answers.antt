@@ -1,6 +1,6 @@
 use Rattle.std.proofs.Common.{sym}
 use Rattle.std.proofs.lemmas.Result.{err_from_is_err_and}
-use Rattle.netset_commands.proofs.Stored.{rows_copied}
+use Rattle.netset_commands.proofs.Stored.{none_stored, rows_copied, rows_read}
 use Rattle.netset_commands.proofs.input.table.rows_in_file.Goals as goal
 
 pub returns-in_ok-rows-in-Some-Lines-Rows-clause-reads : goal.returns-in_ok-rows-in-Some-Lines-Rows-clause-reads
@@ -13,3 +13,8 @@ pub returns-in_err-rows-in-Some-Lines-Rows-clause-cause : goal.returns-in_err-ro
 returns-in_err-rows-in-Some-Lines-Rows-clause-cause g c =
     let (y, is, same) = err_from_is_err_and c.from_residual.result c.from_residual.ensures.1 in
     rw (is, same) c.in_err-rows-in-Some-Lines-Rows.ensures.refused
+
+pub returns-in_ok-read_file_lines-in_default-clause-reads : goal.returns-in_ok-read_file_lines-in_default-clause-reads
+returns-in_ok-read_file_lines-in_default-clause-reads g c =
+    rows_read c.args.form (g.F.Sources.contents c.args.sources.now c.args.file.now) c.args.file.now c.new-rows.result c.read_file_lines.new.said
+    (none_stored c.new-rows.result c.new-rows.ensures.v4 c.new-rows.ensures.v6) c.in_ok-read_file_lines-in_default.ensures.reads

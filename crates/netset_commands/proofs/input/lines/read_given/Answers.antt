@@ -1,9 +1,10 @@
 use Rattle.std.proofs.Common.{false}
 use Rattle.std.proofs.lemmas.Result.{err_from_is_err_and}
 use Rattle.netset_commands.proofs.Causes.{file_cause}
-use Rattle.netset_commands.proofs.Given.{begins_as, file_bytes, no_lines, opens_begun, whole_cause}
-use Rattle.netset_commands.proofs.Stored.{rows_read, table_unread}
-use Rattle.netset_commands.proofs.input.table.read_given.Goals as goal
+use Rattle.netset_commands.proofs.Given.{begins_as, file_bytes, opens_begun, whole_cause}
+use Rattle.netset_commands.proofs.LineKinds.{file_read, file_unread, no_lines}
+use Rattle.netset_commands.specs.LineKinds.{IsUnreadBy}
+use Rattle.netset_commands.proofs.input.lines.read_given.Goals as goal
 
 pub returns-in_err-bytes-clause-cause : goal.returns-in_err-bytes-clause-cause
 returns-in_err-bytes-clause-cause g c =
@@ -18,20 +19,22 @@ returns-then-is_stored-clause-gives g c =
 
 pub returns-in-Ok-clause-gives : goal.returns-in-Ok-clause-gives
 returns-in-Ok-clause-gives g c =
-    rows_read c.args.form (g.F.Sources.contents c.args.sources.now c.args.file.now) _ c.list_form.result c.args.file.now c.in-Ok.rows
-    (opens_begun _ (g.F.Sources.contents c.args.sources.now c.args.file.now) c.in_ok-begun.begun c.in_ok-begun.ensures.told) (c.list_form.ensures c.args.file.now)
-    c.in-Ok.ensures.reads
+    file_read (λ form. g.K.LineKind.says c.args.kind.now form c.args.said.now) (g.K.LineKind.is_bad c.args.kind.now) (g.F.Sources.contents c.args.sources.now c.args.file.now)
+    _ c.list_form.result (opens_begun _ (g.F.Sources.contents c.args.sources.now c.args.file.now) c.in_ok-begun.begun c.in_ok-begun.ensures.told)
+    (c.list_form.ensures c.args.file.now) c.args.file.now c.read_source.new.said c.in-Ok.ensures.reads
 
 pub returns-in-Err-clause-gives : goal.returns-in-Err-clause-gives
 returns-in-Err-clause-gives g c =
-    rw c.unread.ensures (no_lines c.args.form (g.F.Sources.contents c.args.sources.now c.args.file.now) c.args.file c.in-Err.e
+    rw c.unread.ensures (no_lines (IsUnreadBy (λ form. g.K.LineKind.says c.args.kind.now form c.args.said.now) (g.K.LineKind.is_bad c.args.kind.now)
+    (g.F.Sources.contents c.args.sources.now c.args.file.now) c.args.file.now) (g.F.Sources.contents c.args.sources.now c.args.file.now) c.args.file c.in-Err.e
     (begins_as _ (g.F.Sources.contents c.args.sources.now c.args.file.now) c.in_ok-begun.begun c.in_ok-begun.ensures.told c.is_stored.result c.is_stored.ensures false
     c.if-is_stored.false)
-    (table_unread c.args.form (g.F.Sources.contents c.args.sources.now c.args.file.now) _ c.list_form.result c.args.file c.in-Err.e
+    (file_unread (λ form. g.K.LineKind.says c.args.kind.now form c.args.said.now) (g.K.LineKind.is_bad c.args.kind.now)
+    (g.F.Sources.contents c.args.sources.now c.args.file.now) _ c.list_form.result
     (opens_begun _ (g.F.Sources.contents c.args.sources.now c.args.file.now) c.in_ok-begun.begun c.in_ok-begun.ensures.told) (c.list_form.ensures c.args.file.now)
-    c.in-Err.ensures.reads))
+    c.args.file c.read_source.new.said c.in-Err.e c.in-Err.ensures.reads))
 
 pub returns-in-Err-clause-cause : goal.returns-in-Err-clause-cause
 returns-in-Err-clause-cause g c =
-    rw c.unread.ensures (file_cause (g.F.Sources.contents c.args.sources.now) (g.F.Sources.reasons c.args.sources.now) c.args.file _ (g.M.Memory.refused c.read_rows.new.memory) c.in-Err.e c.in_ok-begun.ensures.opened
+    rw c.unread.ensures (file_cause (g.F.Sources.contents c.args.sources.now) (g.F.Sources.reasons c.args.sources.now) c.args.file _ (g.M.Memory.refused c.read_source.new.memory) c.in-Err.e c.in_ok-begun.ensures.opened
     (opens_begun _ (g.F.Sources.contents c.args.sources.now c.args.file.now) c.in_ok-begun.begun c.in_ok-begun.ensures.told) c.in-Err.ensures.cause)
