@@ -1,10 +1,13 @@
 -- Route origin validation, by the words of RFC 6811, section 2. A network is the list of its bits.
-use Rattle.std.specs.Prelude.{◌≡◌, ◌≢◌, ℕ, ◌≤◌, Bool, List, length, Option, Some}
+use Rattle.std.specs.Prelude.{◌≡◌, ◌≢◌, ◌↔◌, ◌⊎◌, ℕ, ◌≤◌, Bool, Contains, List, length, Option, Some}
+use Rattle.std.specs.List.Sorted.{IsStrictlySortedBy}
+use Rattle.std.specs.Map.{keys_of}
 use Rattle.std.specs.Ordering.{nat_cmp, on, then_cmp}
 use Rattle.std.specs.declared.cmp.Ordering.{Ordering}
 use Rattle.cidr.specs.model.Network.{BeginsWith}
 use Rattle.cidr_lookup.specs.declared.table.TableError.{TableError}
-use Rattle.cidr_lookup.specs.declared.table.TableError.TheVariants.{TooMany, Refused, TooLarge, NoMemory}
+use Rattle.cidr_lookup.specs.Rows.{HaveTooManyWords, IsCountRefused}
+use Rattle.cidr_lookup.specs.declared.table.TableError.TheVariants.{TooLarge, NoMemory}
 use Rattle.cidr_routes.specs.declared.origins.Payload.{Payload}
 use Rattle.cidr_routes.specs.declared.origins.Validity.{Validity}
 use Rattle.cidr_routes.specs.declared.origins.Validity.TheVariants.{Valid, InvalidLength, InvalidOrigin, NotFound}
@@ -37,9 +40,14 @@ module _ {C : Type 0} (bits : C → List Bool) (route : List Bool) where
         ((vrp : Payload C) × Held vrp × Covers vrp) × ((vrp : Payload C) → Held vrp → Covers vrp → ¬ (IsOfOrigin vrp))
     IsValidity Held NotFound = (vrp : Payload C) → Held vrp → ¬ (Covers vrp)
 
--- why payloads are not made ready: all but that a network is refused
-abbrev pub IsRefused : TableError → Type 0
-IsRefused TooMany = Unit {0}
-IsRefused (Refused place) = ⊥
-IsRefused TooLarge = Unit {0}
-IsRefused NoMemory = Unit {0}
+module _ {C : Type 0} (cmp : C → C → Ordering) where
+  -- a row for each network of a payload, once
+  pub record AreRowsOf (vrps : List (Payload C)) (rows : List (C × ℕ)) : Type 0 where
+    pub once : IsStrictlySortedBy cmp (keys_of rows)
+    pub each : (network : C) → ((value : ℕ) × Contains rows (network, value)) ↔ ((vrp : Payload C) × Contains vrps vrp × (vrp.network ≡ network))
+
+  -- why payloads are not made ready: an allocation failed; or their networks are too many, or their look-up table has too many words
+  abbrev pub IsRefused : (C → List Bool) → (w padding : ℕ) → (ℕ → ℕ) → List (Payload C) → TableError → Type 0
+  IsRefused bits w padding steps vrps error = (error ≡ NoMemory)
+      ⊎ ((rows : List (C × ℕ)) × AreRowsOf vrps rows × IsCountRefused (length rows) error
+      × (error ≡ TooLarge → HaveTooManyWords bits w padding steps rows))

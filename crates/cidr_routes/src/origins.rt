@@ -2,9 +2,11 @@
 ghost use Rattle.std.specs.Prelude.{◌≡◌, ◌≢◌, ◌↔◌, ◌++◌, ◌∷◌, [], ℕ, Bool, List, Option, Contains, IfErr, IfOk, Ok, Some, length};
 ghost use Rattle.std.specs.Bool.{Decides};
 ghost use Rattle.std.specs.List.Sorted.{IsStrictlySortedBy};
+ghost use Rattle.std.specs.Map.{keys_of};
 ghost use Rattle.cidr.specs.either.IpAddress.{TiesEqual};
 ghost use Rattle.cidr.specs.model.Network.{first_of, width_of};
-ghost use Rattle.cidr_lookup.specs.declared.table.TableError.TheVariants.{NoMemory};
+ghost use Rattle.cidr_lookup.specs.Rows.{HaveTooManyWords, IsCountRefused};
+ghost use Rattle.cidr_lookup.specs.declared.table.TableError.TheVariants.{TooLarge, NoMemory};
 ghost use Rattle.cidr_routes.specs.Links.{AreEnds, IsUpto};
 ghost use Rattle.cidr_routes.specs.Origins.{Covers, IsRefused, IsValidity, payload_cmp};
 ghost use Rattle.cidr_routes.specs.declared.origins.Payload.{Payload};
@@ -86,7 +88,7 @@ impl<C: Keyed> Payloads<C> {
     pub fn new(alloc: Global, payloads: Vec<Payload<C>>) -> Result<Self, TableError>
         ensures same { IfOk result (λ held. (vrp : Payload C) → Contains held vrp ↔ Contains payloads.items vrp) }
         ensures ascending { IfOk result (λ held. IsStrictlySortedBy (payload_cmp C.cmp) held) }
-        ensures refused { IfErr result IsRefused }
+        ensures refused { IfErr result (IsRefused C.cmp C.bits C.Number.width C.Number.padding C.Number.steps payloads.items) }
     {
         let payloads = ascending(payloads);
         let above = or_no_memory(links(alloc, payloads.as_slice()))?;
@@ -226,7 +228,8 @@ fn ends_of<C: NetworkBits + Copy>(
     alloc: Global,
     payloads: &[Payload<C>],
 ) -> Result<LpmTable<C, usize>, AllocError>
-    ensures { IfOk result (λ table. AreEnds payloads.now table.rows) }
+    ensures ends { IfOk result (λ table. AreEnds payloads.now table.rows) }
+    ensures once { IfOk result (λ table. IsStrictlySortedBy C.cmp (keys_of table.rows)) }
 {
     let mut rows = Vec::with_capacity(alloc, payloads.len())?;
     for (i, payload) in payloads.iter().enumerate() {
@@ -241,7 +244,8 @@ fn ready<C: Keyed>(
     table: LpmTable<C, usize>,
 ) -> Result<ReadyTable<C, usize>, TableError>
     ensures ok { IfOk result (λ ready. ready ≡ table) }
-    ensures err { IfErr result IsRefused }
+    ensures refused { IfErr result (IsCountRefused (length table.rows)) }
+    ensures large { IfErr result (λ error. error ≡ TooLarge → HaveTooManyWords C.bits C.Number.width C.Number.padding C.Number.steps table.rows) }
 {
     match ReadyTable::new(alloc, table) {
         Ok(ready) => Ok(ready),

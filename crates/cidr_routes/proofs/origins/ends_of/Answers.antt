@@ -10,8 +10,8 @@ any : {X : Type 0} (xs : List X) (k : ℕ) → k < length xs → X
 any [] k lt = absurd (omega (arith, lt))
 any (x ∷ xs) k lt = x
 
-pub returns : goal.returns
-returns g c =
+pub returns-clause-ends : goal.returns-clause-ends
+returns-clause-ends g c =
     let exact = cmp_exact g.C.Ord.cmp g.C.BitString.bits g.met.C.NetworkBits.ordered g.met.C.NetworkBits.determined in
     let vs = c.args.payloads.now in
     let l = c.loop-i in

@@ -1,9 +1,12 @@
-use Rattle.std.proofs.Common.{◌≡◌, sym, ◌∙◌, ap, subst, length}
+use Rattle.std.proofs.Common.{◌≡◌, inr, sym, ◌∙◌, ap, subst, length}
+use Rattle.std.proofs.lemmas.Result.{err_from_is_err_and}
 use Rattle.std.specs.List.Sorted.{IsStrictlySortedBy}
+use Rattle.std.specs.Map.{keys_of}
 use Rattle.std.specs.Prelude.{IfOk}
 use Rattle.cidr_table.proofs.Beginnings.{cmp_exact}
 use Rattle.cidr_routes.specs.Links.{AreEnds, AreLinked, AreOrdered}
 use Rattle.cidr_routes.specs.Origins.{payload_cmp}
+use Rattle.cidr_routes.proofs.Networks.{rows_of}
 use Rattle.cidr_routes.proofs.Sorting.{networks_ordered, payloads_tie}
 use Rattle.cidr_routes.proofs.origins.Payloads.new.Goals as goal
 
@@ -23,7 +26,7 @@ invariant_of-result g c =
     let bits = g.C.BitString.bits in
     let made = subst (λ r. IfOk r (λ above. AreLinked bits c.as_slice.result.now above.items)) c.in_ok-above.ensures.ok c.links.ensures.linked in
     let size = subst (λ r. IfOk r (λ above. length above.items ≡ length c.as_slice.result.now)) c.in_ok-above.ensures.ok c.links.ensures.len in
-    let ends = subst (λ r. IfOk r (λ table. AreEnds c.as_slice-2.result.now table.rows)) c.in_ok-or_no_memory.ensures.ok c.ends_of.ensures in (
+    let ends = subst (λ r. IfOk r (λ table. AreEnds c.as_slice-2.result.now table.rows)) c.in_ok-or_no_memory.ensures.ok c.ends_of.ensures.ends in (
       c.ascending-payloads.ensures.ascending,
       networks_ordered g.C.Ord.cmp bits g.met.C.NetworkBits.ordered c.ascending-payloads.result.items c.ascending-payloads.ensures.ascending,
       subst (λ vs. AreLinked bits vs c.in_ok-above.above.items) c.as_slice.ensures.value made,
@@ -31,3 +34,17 @@ invariant_of-result g c =
       subst (λ t. AreEnds c.ascending-payloads.result.items t.rows) (sym c.in_ok-ends.ensures.ok)
           (subst (λ vs. AreEnds vs c.in_ok-or_no_memory.field-0.rows) c.as_slice-2.ensures.value ends),
     )
+
+pub returns-in_err-ends-clause-refused : goal.returns-in_err-ends-clause-refused
+returns-in_err-ends-clause-refused g c =
+    let (y, is, same) = err_from_is_err_and c.from_residual-in_err-ends.result c.from_residual-in_err-ends.ensures.1 in
+    let rows = c.in_ok-or_no_memory.field-0.rows in
+    let kept = c.ascending-payloads.result.items in
+    let ends = subst (λ r. IfOk r (λ table. AreEnds c.as_slice-2.result.now table.rows)) c.in_ok-or_no_memory.ensures.ok c.ends_of.ensures.ends in
+    let once = subst (λ r. IfOk r (λ table. IsStrictlySortedBy g.C.Ord.cmp (keys_of table.rows))) c.in_ok-or_no_memory.ensures.ok c.ends_of.ensures.once in
+    rw is (inr (
+      rows,
+      rows_of g.C.Ord.cmp c.args.payloads.items kept rows c.ascending-payloads.ensures.same once (subst (λ vs. AreEnds vs rows) c.as_slice-2.ensures.value ends),
+      rw same c.in_err-ends.ensures.refused,
+      λ e. c.in_err-ends.ensures.large (sym same ∙ e),
+    ))
