@@ -1,5 +1,4 @@
 use Rattle.std.proofs.Common.{sym, map, ◌∷◌}
-use Rattle.std.proofs.lemmas.Result.{err_from_is_err_and}
 use Rattle.cidr_lists.specs.Formats.{style_in}
 use Rattle.netset_commands.specs.Causes.{FileFails}
 use Rattle.netset_commands.proofs.Causes.{output_cause}
@@ -13,21 +12,6 @@ returns-clause-answers g c =
     (g.O.Sink.state c.write_bytes.new.out) c.write_bytes.result c.by_output.result c.in_ok-several.ensures.reads
     (rw (sym c.in_ok-sets.ensures.made) at c.combination-sets.ensures) (rw (sym c.in_ok-text.ensures.made) at c.to_style-text.ensures)
     (rw c.as_slice.ensures.value at c.write_bytes.ensures) c.by_output.ensures
-
-pub returns-in_err-several-clause-cause : goal.returns-in_err-several-clause-cause
-returns-in_err-several-clause-cause g c =
-    let (y, is, same) = err_from_is_err_and c.from_residual.result c.from_residual.ensures.1 in
-    rw (is, same) c.in_err-several.ensures.cause
-
-pub returns-in_err-sets-clause-cause : goal.returns-in_err-sets-clause-cause
-returns-in_err-sets-clause-cause g c =
-    let (y, is, same) = err_from_is_err_and c.from_residual-in_err-sets.result c.from_residual-in_err-sets.ensures.1 in
-    rw (is, same) c.in_err-sets.ensures.refused
-
-pub returns-in_err-text-clause-cause : goal.returns-in_err-text-clause-cause
-returns-in_err-text-clause-cause g c =
-    let (y, is, same) = err_from_is_err_and c.from_residual-in_err-text.result c.from_residual-in_err-text.ensures.1 in
-    rw (is, same) c.in_err-text.ensures.refused
 
 pub returns-clause-cause : goal.returns-clause-cause
 returns-clause-cause g c = output_cause (FileFails (g.F.Sources.contents c.args.sources.now) (g.F.Sources.reasons c.args.sources.now)) _ _ _ c.by_output.result c.by_output.ensures

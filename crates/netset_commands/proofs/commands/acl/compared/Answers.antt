@@ -11,11 +11,6 @@ returns-in_err-before-clause-answers g c =
     let (y, is, same) = err_from_is_err_and c.from_residual.result c.from_residual.ensures.1 in
     rw (is, same) (inl (refl, first_unread (g.F.Sources.contents c.args.sources.now) c.args.old.now (c.args.new.now ∷ []) _ c.in_err-before.ensures.reads))
 
-pub returns-in_err-before-clause-cause : goal.returns-in_err-before-clause-cause
-returns-in_err-before-clause-cause g c =
-    let (y, is, same) = err_from_is_err_and c.from_residual.result c.from_residual.ensures.1 in
-    rw (is, same) c.in_err-before.ensures.cause
-
 pub returns-in_err-after-clause-answers : goal.returns-in_err-after-clause-answers
 returns-in_err-after-clause-answers g c =
     let (y, is, same) = err_from_is_err_and c.from_residual-in_err-after.result c.from_residual-in_err-after.ensures.1 in
@@ -25,30 +20,15 @@ returns-in_err-after-clause-answers g c =
           c.in_err-after.ensures.reads,
     ))
 
-pub returns-in_err-after-clause-cause : goal.returns-in_err-after-clause-cause
-returns-in_err-after-clause-cause g c =
-    let (y, is, same) = err_from_is_err_and c.from_residual-in_err-after.result c.from_residual-in_err-after.ensures.1 in
-    rw (is, same) c.in_err-after.ensures.cause
-
 pub returns-in_err-added-clause-answers : goal.returns-in_err-added-clause-answers
 returns-in_err-added-clause-answers g c =
     let (y, is, same) = err_from_is_err_and c.from_residual-in_err-added.result c.from_residual-in_err-added.ensures.1 in
     rw (is, same) (inl (refl, first_unread (g.F.Sources.contents c.args.sources.now) c.args.old.now (c.args.new.now ∷ []) error.NoMemory tt))
 
-pub returns-in_err-added-clause-cause : goal.returns-in_err-added-clause-cause
-returns-in_err-added-clause-cause g c =
-    let (y, is, same) = err_from_is_err_and c.from_residual-in_err-added.result c.from_residual-in_err-added.ensures.1 in
-    rw (is, same) c.in_err-added.ensures.refused
-
 pub returns-in_err-lacking-clause-answers : goal.returns-in_err-lacking-clause-answers
 returns-in_err-lacking-clause-answers g c =
     let (y, is, same) = err_from_is_err_and c.from_residual-in_err-lacking.result c.from_residual-in_err-lacking.ensures.1 in
     rw (is, same) (inl (refl, first_unread (g.F.Sources.contents c.args.sources.now) c.args.old.now (c.args.new.now ∷ []) error.NoMemory tt))
-
-pub returns-in_err-lacking-clause-cause : goal.returns-in_err-lacking-clause-cause
-returns-in_err-lacking-clause-cause g c =
-    let (y, is, same) = err_from_is_err_and c.from_residual-in_err-lacking.result c.from_residual-in_err-lacking.ensures.1 in
-    rw (is, same) c.in_err-lacking.ensures.refused
 
 pub returns-clause-answers : goal.returns-clause-answers
 returns-clause-answers g c =

@@ -12,11 +12,6 @@ returns-in_err-sets-clause-answers g c =
     let (y, is, same) = err_from_is_err_and c.from_residual.result c.from_residual.ensures.1 in
     rw (is, same) (inl (refl, first_unread (g.F.Sources.contents c.args.sources.now) c.args.file.now [] _ c.in_err-sets.ensures.reads))
 
-pub returns-in_err-sets-clause-cause : goal.returns-in_err-sets-clause-cause
-returns-in_err-sets-clause-cause g c =
-    let (y, is, same) = err_from_is_err_and c.from_residual.result c.from_residual.ensures.1 in
-    rw (is, same) c.in_err-sets.ensures.cause
-
 pub returns-clause-answers : goal.returns-clause-answers
 returns-clause-answers g c =
     permitted_told (g.F.Sources.contents c.args.sources.now) (option_map (λ s. style_in s) c.args.style) c.args.file.now c.in_ok-sets.sets

@@ -8,16 +8,6 @@ returns-in_err-rules-clause-reads g c =
     let (y, is, same) = err_from_is_err_and c.from_residual.result c.from_residual.ensures.1 in
     rw (is, same) c.in_err-rules.ensures.reads
 
-pub returns-in_err-rules-clause-cause : goal.returns-in_err-rules-clause-cause
-returns-in_err-rules-clause-cause g c =
-    let (y, is, same) = err_from_is_err_and c.from_residual.result c.from_residual.ensures.1 in
-    rw (is, same) c.in_err-rules.ensures.cause
-
-pub returns-in_err-sets-clause-cause : goal.returns-in_err-sets-clause-cause
-returns-in_err-sets-clause-cause g c =
-    let (y, is, same) = err_from_is_err_and c.from_residual-in_err-sets.result c.from_residual-in_err-sets.ensures.1 in
-    rw (is, same) c.in_err-sets.ensures.refused
-
 pub returns-clause-reads : goal.returns-clause-reads
 returns-clause-reads g c =
     permitted_read (g.F.Sources.contents c.args.sources.now c.args.file.now) c.args.file.now c.in_ok-rules.rules c.in_ok-sets.sets c.in_ok-rules.ensures.reads

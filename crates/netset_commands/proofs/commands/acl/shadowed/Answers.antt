@@ -11,20 +11,10 @@ returns-in_err-rules-clause-answers g c =
     let (y, is, same) = err_from_is_err_and c.from_residual.result c.from_residual.ensures.1 in
     rw (is, same) (inl (refl, first_unread (g.F.Sources.contents c.args.sources.now) c.args.file.now [] _ c.in_err-rules.ensures.reads))
 
-pub returns-in_err-rules-clause-cause : goal.returns-in_err-rules-clause-cause
-returns-in_err-rules-clause-cause g c =
-    let (y, is, same) = err_from_is_err_and c.from_residual.result c.from_residual.ensures.1 in
-    rw (is, same) c.in_err-rules.ensures.cause
-
 pub returns-in_err-text-clause-answers : goal.returns-in_err-text-clause-answers
 returns-in_err-text-clause-answers g c =
     let (y, is, same) = err_from_is_err_and c.from_residual-in_err-text.result c.from_residual-in_err-text.ensures.1 in
     rw (is, same) (inl (refl, first_unread (g.F.Sources.contents c.args.sources.now) c.args.file.now [] error.NoMemory tt))
-
-pub returns-in_err-text-clause-cause : goal.returns-in_err-text-clause-cause
-returns-in_err-text-clause-cause g c =
-    let (y, is, same) = err_from_is_err_and c.from_residual-in_err-text.result c.from_residual-in_err-text.ensures.1 in
-    rw (is, same) c.in_err-text.ensures.refused
 
 pub returns-clause-answers : goal.returns-clause-answers
 returns-clause-answers g c =

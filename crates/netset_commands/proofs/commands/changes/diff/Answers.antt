@@ -1,5 +1,4 @@
 use Rattle.std.proofs.Common.{sym}
-use Rattle.std.proofs.lemmas.Result.{err_from_is_err_and}
 use Rattle.netset_commands.specs.Causes.{FileFails}
 use Rattle.netset_commands.proofs.Causes.{output_cause}
 use Rattle.netset_commands.proofs.Changed.{diff_written}
@@ -10,21 +9,6 @@ returns-clause-answers g c =
     diff_written (g.F.Sources.contents c.args.sources.now) c.args.format c.args.old.now c.args.new.now c.in_ok-old.old c.in_ok-old.new c.in_ok-added.added c.in_ok-lacking.lacking
     (g.O.Sink.state c.args.out.now) (g.O.Sink.state c.write_both.new.out) c.verdict_of.result c.write_both.result c.by_output.result
     c.in_ok-old.ensures.reads.0 c.in_ok-old.ensures.reads.1 (rw (sym c.in_ok-added.ensures.made) at c.stepped-added.ensures) (rw (sym c.in_ok-lacking.ensures.made) at c.stepped-lacking.ensures) c.verdict_of.ensures c.write_both.ensures c.by_output.ensures
-
-pub returns-in_err-old-clause-cause : goal.returns-in_err-old-clause-cause
-returns-in_err-old-clause-cause g c =
-    let (y, is, same) = err_from_is_err_and c.from_residual.result c.from_residual.ensures.1 in
-    rw (is, same) c.in_err-old.ensures.cause
-
-pub returns-in_err-added-clause-cause : goal.returns-in_err-added-clause-cause
-returns-in_err-added-clause-cause g c =
-    let (y, is, same) = err_from_is_err_and c.from_residual-in_err-added.result c.from_residual-in_err-added.ensures.1 in
-    rw (is, same) c.in_err-added.ensures.refused
-
-pub returns-in_err-lacking-clause-cause : goal.returns-in_err-lacking-clause-cause
-returns-in_err-lacking-clause-cause g c =
-    let (y, is, same) = err_from_is_err_and c.from_residual-in_err-lacking.result c.from_residual-in_err-lacking.ensures.1 in
-    rw (is, same) c.in_err-lacking.ensures.refused
 
 pub returns-clause-cause : goal.returns-clause-cause
 returns-clause-cause g c = output_cause (FileFails (g.F.Sources.contents c.args.sources.now) (g.F.Sources.reasons c.args.sources.now)) _ _ _ c.by_output.result c.by_output.ensures

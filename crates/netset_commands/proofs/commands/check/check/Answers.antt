@@ -1,5 +1,4 @@
 use Rattle.std.proofs.Common.{map, sym}
-use Rattle.std.proofs.lemmas.Result.{err_from_is_err_and}
 use Rattle.netset_commands.proofs.Checked.{check_answered, check_lost}
 use Rattle.netset_commands.proofs.commands.check.check.Goals as goal
 
@@ -16,13 +15,3 @@ pub returns-clause-answers : goal.returns-clause-answers
 returns-clause-answers g c =
     check_lost (g.F.Sources.contents c.args.sources.now) (map (λ file. file.now) c.args.files.now) c.in_ok-entries.entries.items (g.O.Sink.state c.args.out.now)
     (g.O.Sink.state c.answer.new.out) _ c.in_ok-entries.ensures.reads (rw c.as_slice-2.ensures.value at c.in-Err.ensures)
-
-pub returns-in_err-entries-clause-cause : goal.returns-in_err-entries-clause-cause
-returns-in_err-entries-clause-cause g c =
-    let (y, is, same) = err_from_is_err_and c.from_residual.result c.from_residual.ensures.1 in
-    rw (is, same) c.in_err-entries.ensures.cause
-
-pub returns-in_err-near-clause-cause : goal.returns-in_err-near-clause-cause
-returns-in_err-near-clause-cause g c =
-    let (y, is, same) = err_from_is_err_and c.from_residual-in_err-near.result c.from_residual-in_err-near.ensures.1 in
-    rw (is, same) c.in_err-near.ensures.refused

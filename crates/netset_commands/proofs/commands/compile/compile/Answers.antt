@@ -44,11 +44,6 @@ returns-in_err-rows-clause-cause g c =
     (record { memory = g.M.Memory.refused c.read_table.new.memory; folder = g.D.Folder.refused c.args.folder.now; files = g.F.Sources.reasons c.args.sources.now }) c.args.form c.args.table.now c.args.name.now _
     (inr c.in_err-rows.ensures.reads) c.in_err-rows.ensures.cause)
 
-pub returns-in_err-file-clause-cause : goal.returns-in_err-file-clause-cause
-returns-in_err-file-clause-cause g c =
-    let (y, is, same) = err_from_is_err_and c.from_residual-in_err-file.result c.from_residual-in_err-file.ensures.1 in
-    rw (is, same) c.in_err-file.ensures.refused
-
 pub returns-clause-cause : goal.returns-clause-cause
 returns-clause-cause g c = inr c.in-Err.ensures.refused
 

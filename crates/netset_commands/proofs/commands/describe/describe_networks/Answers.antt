@@ -17,8 +17,3 @@ pub returns-in_err-sets-clause-describes : goal.returns-in_err-sets-clause-descr
 returns-in_err-sets-clause-describes g c =
     let (y, is, same) = err_from_is_err_and c.from_residual.result c.from_residual.ensures.1 in
     rw (is, same) (inl (refl, _, refl, c.in_err-sets.ensures.reads))
-
-pub returns-in_err-sets-clause-cause : goal.returns-in_err-sets-clause-cause
-returns-in_err-sets-clause-cause g c =
-    let (y, is, same) = err_from_is_err_and c.from_residual.result c.from_residual.ensures.1 in
-    rw (is, same) c.in_err-sets.ensures.cause

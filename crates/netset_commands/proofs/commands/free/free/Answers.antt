@@ -22,17 +22,7 @@ returns-in_err-several-clause-answers g c =
     let (y, is, same) = err_from_is_err_and c.from_residual.result c.from_residual.ensures.1 in
     rw (is, same) (inl (refl, c.in_err-several.ensures.reads))
 
-pub returns-in_err-several-clause-cause : goal.returns-in_err-several-clause-cause
-returns-in_err-several-clause-cause g c =
-    let (y, is, same) = err_from_is_err_and c.from_residual.result c.from_residual.ensures.1 in
-    rw (is, same) c.in_err-several.ensures.cause
-
 pub returns-in_err-rest-clause-answers : goal.returns-in_err-rest-clause-answers
 returns-in_err-rest-clause-answers g c =
     let (y, is, same) = err_from_is_err_and c.from_residual-in_err-rest.result c.from_residual-in_err-rest.ensures.1 in
     rw (is, same) (inl (refl, inl (inr refl)))
-
-pub returns-in_err-rest-clause-cause : goal.returns-in_err-rest-clause-cause
-returns-in_err-rest-clause-cause g c =
-    let (y, is, same) = err_from_is_err_and c.from_residual-in_err-rest.result c.from_residual-in_err-rest.ensures.1 in
-    rw (is, same) c.in_err-rest.ensures.refused

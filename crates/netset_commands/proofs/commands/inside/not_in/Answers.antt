@@ -19,26 +19,6 @@ returns-in_err-network-clause-cause g c =
     let (y, is, same) = err_from_is_err_and c.from_residual.result c.from_residual.ensures.1 in
     rw (is, same) (argument_cause (FileFails (g.F.Sources.contents c.args.sources.now) (g.F.Sources.reasons c.args.sources.now)) _ _ c.in_err-network.field-0.0 c.in_err-network.ensures)
 
-pub returns-in_err-several-clause-cause : goal.returns-in_err-several-clause-cause
-returns-in_err-several-clause-cause g c =
-    let (y, is, same) = err_from_is_err_and c.from_residual-in_err-several.result c.from_residual-in_err-several.ensures.1 in
-    rw (is, same) c.in_err-several.ensures.cause
-
-pub returns-in_err-rest-clause-cause : goal.returns-in_err-rest-clause-cause
-returns-in_err-rest-clause-cause g c =
-    let (y, is, same) = err_from_is_err_and c.from_residual-in_err-rest.result c.from_residual-in_err-rest.ensures.1 in
-    rw (is, same) c.in_err-rest.ensures.refused
-
-pub returns-in_err-whole-clause-cause : goal.returns-in_err-whole-clause-cause
-returns-in_err-whole-clause-cause g c =
-    let (y, is, same) = err_from_is_err_and c.from_residual-in_err-whole.result c.from_residual-in_err-whole.ensures.1 in
-    rw (is, same) c.in_err-whole.ensures.refused
-
-pub returns-in_err-inside-clause-cause : goal.returns-in_err-inside-clause-cause
-returns-in_err-inside-clause-cause g c =
-    let (y, is, same) = err_from_is_err_and c.from_residual-in_err-inside.result c.from_residual-in_err-inside.ensures.1 in
-    rw (is, same) c.in_err-inside.ensures.refused
-
 pub returns-clause-cause : goal.returns-clause-cause
 returns-clause-cause g c =
     prints_cause (FileFails (g.F.Sources.contents c.args.sources.now) (g.F.Sources.reasons c.args.sources.now)) _ (option_map (λ s. style_in s) c.args.style) (networks_of c.in_ok-inside.inside) _ _

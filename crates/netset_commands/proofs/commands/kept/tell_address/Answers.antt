@@ -8,11 +8,6 @@ returns-in_err-object-clause-tells g c =
     let (y, is, same) = err_from_is_err_and c.from_residual.result c.from_residual.ensures.1 in
     rw (is, same) (refl, refl)
 
-pub returns-in_err-object-clause-cause : goal.returns-in_err-object-clause-cause
-returns-in_err-object-clause-cause g c =
-    let (y, is, same) = err_from_is_err_and c.from_residual.result c.from_residual.ensures.1 in
-    rw (is, same) c.in_err-object.ensures.refused
-
 pub returns-in-Ok-clause-tells : goal.returns-in-Ok-clause-tells
 returns-in-Ok-clause-tells g c =
     told_object (g.T.LookUps.rows c.args.table.now) c.args.address.now c.in_ok-object.object.0.items c.as_slice.result.now (g.S.Sink.state c.args.out.now) (g.S.Sink.state c.push.new.out)

@@ -21,8 +21,3 @@ pub returns-clause-answers : goal.returns-clause-answers
 returns-clause-answers g c =
     matched_each (g.F.Sources.contents c.args.sources.now) c.args.picking c.args.list.now (bytes_of c.args.files.now) c.in_ok-addresses.addresses
     (g.O.Sink.state c.args.out.now) (g.O.Sink.state c.match_files.new.out) c.match_files.result c.in_ok-addresses.ensures.reads c.match_files.ensures.streams
-
-pub returns-in_err-addresses-clause-cause : goal.returns-in_err-addresses-clause-cause
-returns-in_err-addresses-clause-cause g c =
-    let (y, is, same) = err_from_is_err_and c.from_residual.result c.from_residual.ensures.1 in
-    rw (is, same) c.in_err-addresses.ensures.cause

@@ -49,8 +49,3 @@ returns-clause-streams g c =
     files_streamed (g.F.Sources.contents c.args.sources.now) c.args.matcher.now.picking.headed (PicksOf c.args.matcher.now.picking (IsInSets c.args.matcher.now.sets.now))
     c.args.matcher.now.picking.written c.args.files.now c.loop-file.file-index (g.O.Sink.state c.args.out.now) (g.O.Sink.state c.loop-file.out) c.loop-file.verdict
     c.loop-file-test.false (sym c.if-failed.ensures) c.loop-file.invariant.0
-
-pub returns-in_err-one-clause-cause : goal.returns-in_err-one-clause-cause
-returns-in_err-one-clause-cause g c =
-    let (y, is, same) = err_from_is_err_and c.from_residual.result c.from_residual.ensures.1 in
-    rw (is, same) c.in_err-one.ensures.cause

@@ -1,4 +1,4 @@
-use Rattle.std.proofs.Common.{inl, inr, refl, [], ◌∷◌}
+use Rattle.std.proofs.Common.{inl, refl, [], ◌∷◌}
 use Rattle.std.proofs.lemmas.Result.{err_from_is_err_and}
 use Rattle.netset_commands.proofs.EachFile.{first_not_read}
 use Rattle.netset_commands.proofs.Listed.{no_list}
@@ -20,8 +20,3 @@ pub returns-clause-answers : goal.returns-clause-answers
 returns-clause-answers g c =
     matched_file (g.F.Sources.contents c.args.sources.now) c.args.picking c.args.list.now c.args.file.now c.in_ok-sets.sets
     (g.O.Sink.state c.args.out.now) (g.O.Sink.state c.match_file.new.out) c.match_file.result c.in_ok-sets.ensures.reads c.match_file.ensures.streams
-
-pub returns-in_err-sets-clause-cause : goal.returns-in_err-sets-clause-cause
-returns-in_err-sets-clause-cause g c =
-    let (y, is, same) = err_from_is_err_and c.from_residual.result c.from_residual.ensures.1 in
-    rw (is, same) c.in_err-sets.ensures.cause

@@ -27,20 +27,5 @@ returns-in_err-made-clause-answers g c =
     let (y, is, same) = err_from_is_err_and c.from_residual-in_err-made.result c.from_residual-in_err-made.ensures.1 in
     rw (is, same) (inl (refl, inl tt))
 
-pub returns-in_err-before-clause-cause : goal.returns-in_err-before-clause-cause
-returns-in_err-before-clause-cause g c =
-    let (y, is, same) = err_from_is_err_and c.from_residual.result c.from_residual.ensures.1 in
-    rw (is, same) c.in_err-before.ensures.cause
-
-pub returns-in_err-after-clause-cause : goal.returns-in_err-after-clause-cause
-returns-in_err-after-clause-cause g c =
-    let (y, is, same) = err_from_is_err_and c.from_residual-in_err-after.result c.from_residual-in_err-after.ensures.1 in
-    rw (is, same) c.in_err-after.ensures.cause
-
-pub returns-in_err-made-clause-cause : goal.returns-in_err-made-clause-cause
-returns-in_err-made-clause-cause g c =
-    let (y, is, same) = err_from_is_err_and c.from_residual-in_err-made.result c.from_residual-in_err-made.ensures.1 in
-    rw (is, same) c.in_err-made.ensures.refused
-
 pub returns-clause-cause : goal.returns-clause-cause
 returns-clause-cause g c = output_cause (FileFails (g.F.Sources.contents c.args.sources.now) (g.F.Sources.reasons c.args.sources.now)) _ _ _ c.by_output.result c.by_output.ensures

@@ -10,11 +10,6 @@ returns-in_err-rows-clause-answers g c =
     let (y, is, same) = err_from_is_err_and c.from_residual.result c.from_residual.ensures.1 in
     rw (is, same) (inl (refl, inl c.in_err-rows.ensures.reads))
 
-pub returns-in_err-rows-clause-cause : goal.returns-in_err-rows-clause-cause
-returns-in_err-rows-clause-cause g c =
-    let (y, is, same) = err_from_is_err_and c.from_residual.result c.from_residual.ensures.1 in
-    rw (is, same) c.in_err-rows.ensures.cause
-
 pub returns-then-is_refused-clause-answers : goal.returns-then-is_refused-clause-answers
 returns-then-is_refused-clause-answers g c =
     let both = c.is_refused.ensures.0 c.if-is_refused.true in

@@ -1,4 +1,4 @@
-use Rattle.std.proofs.Common.{inl, inr, refl, None, option_map}
+use Rattle.std.proofs.Common.{inl, refl, None, option_map}
 use Rattle.std.proofs.lemmas.Result.{err_from_is_err_and}
 use Rattle.cidr_lists.specs.Formats.{style_in}
 use Rattle.cidr_lists.specs.Sets.{networks_of}
@@ -19,8 +19,3 @@ pub returns-in_err-sets-clause-splits : goal.returns-in_err-sets-clause-splits
 returns-in_err-sets-clause-splits g c =
     let (y, is, same) = err_from_is_err_and c.from_residual.result c.from_residual.ensures.1 in
     rw (is, same) (inl (refl, _, refl, c.in_err-sets.ensures.reads))
-
-pub returns-in_err-sets-clause-cause : goal.returns-in_err-sets-clause-cause
-returns-in_err-sets-clause-cause g c =
-    let (y, is, same) = err_from_is_err_and c.from_residual.result c.from_residual.ensures.1 in
-    rw (is, same) c.in_err-sets.ensures.cause

@@ -29,8 +29,3 @@ pub returns-in_err-entries-clause-answers : goal.returns-in_err-entries-clause-a
 returns-in_err-entries-clause-answers g c =
     let (y, is, same) = err_from_is_err_and c.from_residual-in_err-entries.result c.from_residual-in_err-entries.ensures.1 in
     rw (is, same) (inl (refl, inr (c.in_ok-address.address, c.in_ok-address.ensures, c.in_err-entries.ensures.reads)))
-
-pub returns-in_err-entries-clause-cause : goal.returns-in_err-entries-clause-cause
-returns-in_err-entries-clause-cause g c =
-    let (y, is, same) = err_from_is_err_and c.from_residual-in_err-entries.result c.from_residual-in_err-entries.ensures.1 in
-    rw (is, same) c.in_err-entries.ensures.cause

@@ -30,13 +30,3 @@ pub returns-clause-reads : goal.returns-clause-reads
 returns-clause-reads g c =
     all_files_at (g.F.Sources.contents c.args.sources.now) c.args.file.now c.args.files.now c.loop-other.other-index c.loop-other.entries.items
     c.loop-other-test.false c.loop-other.invariant
-
-pub returns-in_err-add_file-clause-cause : goal.returns-in_err-add_file-clause-cause
-returns-in_err-add_file-clause-cause g c =
-    let (y, is, same) = err_from_is_err_and c.from_residual.result c.from_residual.ensures.1 in
-    rw (is, same) c.in_err-add_file.ensures.cause
-
-pub returns-in_err-add_file-2-clause-cause : goal.returns-in_err-add_file-2-clause-cause
-returns-in_err-add_file-2-clause-cause g c =
-    let (y, is, same) = err_from_is_err_and c.from_residual-in_err-add_file-2.result c.from_residual-in_err-add_file-2.ensures.1 in
-    rw (is, same) c.in_err-add_file-2.ensures.cause

@@ -35,11 +35,6 @@ returns-in_err-len-clause-keeps g c =
     (g.E.Sink.state c.loop-number.err) (g.E.Sink.state c.loop-number.err) c.loop-number.block c.loop-number.block c.loop-number.found c.loop-number.said c.loop-number.text.items c.loop-number.number
     NoMemory c.loop-number.invariant tt refl refl)
 
-pub returns-in_err-len-clause-cause : goal.returns-in_err-len-clause-cause
-returns-in_err-len-clause-cause g c =
-    let (y, is, same) = err_from_is_err_and c.from_residual-in_err-len.result c.from_residual-in_err-len.ensures.1 in
-    rw (is, same) c.in_err-len.ensures.refused
-
 pub returns-in_err-is_bad-clause-keeps : goal.returns-in_err-is_bad-clause-keeps
 returns-in_err-is_bad-clause-keeps g c =
     let (y, is, same) = err_from_is_err_and c.from_residual-in_err-is_bad.result c.from_residual-in_err-is_bad.ensures.1 in

@@ -33,13 +33,3 @@ returns-in_err-push-clause-loads g c =
     (file_loaded c.args.takes_file c.args.skips (g.F.Sources.contents c.args.sources.now) c.args.kind c.args.names.now c.loop-name.name-index _ (g.E.Sink.state c.args.err.now)
     (g.E.Sink.state c.loop-name.err) c.loop-name.lists.items c.loop-name.found c.loop-name-test.true c.loop-name.invariant (g.E.Sink.state c.keep_list.new.err)
     c.in_ok-list.is_bad c.in_ok-list.list c.in_ok-list.ensures.keeps))
-
-pub returns-in_err-list-clause-cause : goal.returns-in_err-list-clause-cause
-returns-in_err-list-clause-cause g c =
-    let (y, is, same) = err_from_is_err_and c.from_residual.result c.from_residual.ensures.1 in
-    rw (is, same) c.in_err-list.ensures.cause
-
-pub returns-in_err-push-clause-cause : goal.returns-in_err-push-clause-cause
-returns-in_err-push-clause-cause g c =
-    let (y, is, same) = err_from_is_err_and c.from_residual-in_err-push.result c.from_residual-in_err-push.ensures.1 in
-    rw (is, same) c.in_err-push.ensures.refused

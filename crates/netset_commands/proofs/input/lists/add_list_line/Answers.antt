@@ -17,11 +17,6 @@ returns-in_err-watch-in-Ok-clause-adds g c =
     let (y, is, same) = err_from_is_err_and c.from_residual.result c.from_residual.ensures.1 in
     rw (is, same) tt
 
-pub returns-in_err-watch-in-Ok-clause-cause : goal.returns-in_err-watch-in-Ok-clause-cause
-returns-in_err-watch-in-Ok-clause-cause g c =
-    let (y, is, same) = err_from_is_err_and c.from_residual.result c.from_residual.ensures.1 in
-    rw (is, same) c.in_err-watch-in-Ok.ensures.refused
-
 pub returns-in-Err-clause-adds : goal.returns-in-Err-clause-adds
 returns-in-Err-clause-adds g c =
     (refl, line_fails c.args.list_form c.args.line.now c.in-Err.e (fits c.args.line.now c.is_too_long.result c.is_too_long.ensures c.if-is_too_long.false) c.in-Err.ensures)

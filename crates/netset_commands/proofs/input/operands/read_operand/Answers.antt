@@ -1,5 +1,4 @@
 use Rattle.std.proofs.Common.{sym}
-use Rattle.std.proofs.lemmas.Result.{err_from_is_err_and}
 use Rattle.netset_commands.proofs.Operands.{network_read}
 use Rattle.netset_commands.proofs.input.operands.read_operand.Goals as goal
 
@@ -7,8 +6,3 @@ pub returns-in_ok-sets-in-Ok-clause-reads : goal.returns-in_ok-sets-in-Ok-clause
 returns-in_ok-sets-in-Ok-clause-reads g c =
     network_read (g.F.Sources.contents c.args.sources.now) c.args.operand.now c.in-Ok.network c.in_ok-sets-in-Ok.sets c.in-Ok.ensures.value
     (rw (sym c.in_ok-sets-in-Ok.ensures.made) at c.of_network-sets.ensures)
-
-pub returns-in_err-sets-in-Ok-clause-cause : goal.returns-in_err-sets-in-Ok-clause-cause
-returns-in_err-sets-in-Ok-clause-cause g c =
-    let (y, is, same) = err_from_is_err_and c.from_residual.result c.from_residual.ensures.1 in
-    rw (is, same) c.in_err-sets-in-Ok.ensures.refused

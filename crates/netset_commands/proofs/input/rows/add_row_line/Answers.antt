@@ -1,5 +1,4 @@
 use Rattle.std.proofs.Common.{None, Some, refl, sym, inl, inr}
-use Rattle.std.proofs.lemmas.Result.{err_from_is_err_and}
 use Rattle.netset_commands.proofs.LinesRead.{fits}
 use Rattle.netset_commands.proofs.input.rows.add_row_line.Goals as goal
 
@@ -19,11 +18,6 @@ returns-in_ok-watch-in-Ok-Some-clause-adds g c = (
   (fits c.args.line.now c.is_too_long.result c.is_too_long.ensures c.if-is_too_long.false, rw (c.in-Ok-Some.field-0-is, c.host_bits.ensures) at c.in-Ok-Some.ensures),
   (rw (sym c.in_ok-watch-in-Ok-Some.ensures.made) at c.push-pushed.ensures),
 )
-
-pub returns-in_err-watch-in-Ok-Some-clause-cause : goal.returns-in_err-watch-in-Ok-Some-clause-cause
-returns-in_err-watch-in-Ok-Some-clause-cause g c =
-    let (y, is, same) = err_from_is_err_and c.from_residual.result c.from_residual.ensures.1 in
-    rw (is, same) c.in_err-watch-in-Ok-Some.ensures.refused
 
 pub returns-in-Err-clause-adds : goal.returns-in-Err-clause-adds
 returns-in-Err-clause-adds g c =

@@ -1,5 +1,4 @@
 use Rattle.std.proofs.Common.{sym}
-use Rattle.std.proofs.lemmas.Result.{err_from_is_err_and}
 use Rattle.netset_commands.proofs.EachFile.{list_read, networks_copied}
 use Rattle.netset_commands.proofs.input.several.add_file.Goals as goal
 
@@ -7,11 +6,6 @@ pub returns-in_ok-watch-in-Some-Lines-Networks-clause-adds : goal.returns-in_ok-
 returns-in_ok-watch-in-Some-Lines-Networks-clause-adds g c =
     networks_copied (g.F.Sources.contents c.args.sources.now c.args.file.now) c.args.file.now c.args.lists.now c.extend-added.new.self c.in-Some-Lines-Networks.kept
     (rw (c.in-Some-Lines-Networks.field-0-is, c.in-Some-Lines-Networks.field-0-0-is) at c.in-Some-Lines-Networks.ensures) (rw (sym c.in_ok-watch-in-Some-Lines-Networks.ensures.made) at c.extend-added.ensures)
-
-pub returns-in_err-watch-in-Some-Lines-Networks-clause-cause : goal.returns-in_err-watch-in-Some-Lines-Networks-clause-cause
-returns-in_err-watch-in-Some-Lines-Networks-clause-cause g c =
-    let (y, is, same) = err_from_is_err_and c.from_residual.result c.from_residual.ensures.1 in
-    rw (is, same) c.in_err-watch-in-Some-Lines-Networks.ensures.refused
 
 pub returns-in_default-clause-adds : goal.returns-in_default-clause-adds
 returns-in_default-clause-adds g c =

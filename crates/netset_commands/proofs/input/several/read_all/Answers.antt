@@ -16,13 +16,3 @@ loop-file-preserved g c =
 pub returns-clause-reads : goal.returns-clause-reads
 returns-clause-reads g c =
     all_read_at (g.F.Sources.contents c.args.sources.now) c.args.files.now c.loop-file.file-index c.loop-file.sets.items c.loop-file-test.false c.loop-file.invariant
-
-pub returns-in_err-set-clause-cause : goal.returns-in_err-set-clause-cause
-returns-in_err-set-clause-cause g c =
-    let (y, is, same) = err_from_is_err_and c.from_residual.result c.from_residual.ensures.1 in
-    rw (is, same) c.in_err-set.ensures.cause
-
-pub returns-in_err-push-clause-cause : goal.returns-in_err-push-clause-cause
-returns-in_err-push-clause-cause g c =
-    let (y, is, same) = err_from_is_err_and c.from_residual-in_err-push.result c.from_residual-in_err-push.ensures.1 in
-    rw (is, same) c.in_err-push.ensures.refused

@@ -13,13 +13,3 @@ returns-in_err-those-clause-reads g c =
     let (y, is, same) = err_from_is_err_and c.from_residual-in_err-those.result c.from_residual-in_err-those.ensures.1 in
     rw (is, same) (others_not_read (g.F.Sources.contents c.args.sources.now) c.args.old.now (c.args.new.now ∷ []) _ _ c.in_ok-these.ensures.reads
     (first_not_read (g.F.Sources.contents c.args.sources.now) c.args.new.now [] _ c.in_err-those.ensures.reads))
-
-pub returns-in_err-these-clause-cause : goal.returns-in_err-these-clause-cause
-returns-in_err-these-clause-cause g c =
-    let (y, is, same) = err_from_is_err_and c.from_residual.result c.from_residual.ensures.1 in
-    rw (is, same) c.in_err-these.ensures.cause
-
-pub returns-in_err-those-clause-cause : goal.returns-in_err-those-clause-cause
-returns-in_err-those-clause-cause g c =
-    let (y, is, same) = err_from_is_err_and c.from_residual-in_err-those.result c.from_residual-in_err-those.ensures.1 in
-    rw (is, same) c.in_err-those.ensures.cause

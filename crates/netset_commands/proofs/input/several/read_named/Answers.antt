@@ -18,13 +18,3 @@ pub returns-clause-reads : goal.returns-clause-reads
 returns-clause-reads g c =
     first_read (g.F.Sources.contents c.args.sources.now) c.args.file.now (map (λ file. file.now) c.args.files.now) c.in_ok-first.first c.in_ok-others.others.items
     c.in_ok-first.ensures.reads c.in_ok-others.ensures.reads
-
-pub returns-in_err-first-clause-cause : goal.returns-in_err-first-clause-cause
-returns-in_err-first-clause-cause g c =
-    let (y, is, same) = err_from_is_err_and c.from_residual.result c.from_residual.ensures.1 in
-    rw (is, same) c.in_err-first.ensures.cause
-
-pub returns-in_err-others-clause-cause : goal.returns-in_err-others-clause-cause
-returns-in_err-others-clause-cause g c =
-    let (y, is, same) = err_from_is_err_and c.from_residual-in_err-others.result c.from_residual-in_err-others.ensures.1 in
-    rw (is, same) c.in_err-others.ensures.cause

@@ -1,4 +1,3 @@
-use Rattle.std.proofs.lemmas.Result.{err_from_is_err_and}
 use Rattle.netset_commands.specs.Rows.{kept}
 use Rattle.netset_commands.proofs.Stored.{table_read}
 use Rattle.netset_commands.proofs.input.table.read_table.Goals as goal
@@ -7,8 +6,3 @@ pub returns-clause-reads : goal.returns-clause-reads
 returns-clause-reads g c =
     table_read c.args.form (g.F.Sources.contents c.args.sources.now c.args.file.now) c.args.file.now c.in_ok-rows.rows (kept c.of_rows.result) c.in_ok-rows.ensures.reads
     c.of_rows.ensures
-
-pub returns-in_err-rows-clause-cause : goal.returns-in_err-rows-clause-cause
-returns-in_err-rows-clause-cause g c =
-    let (y, is, same) = err_from_is_err_and c.from_residual.result c.from_residual.ensures.1 in
-    rw (is, same) c.in_err-rows.ensures.cause

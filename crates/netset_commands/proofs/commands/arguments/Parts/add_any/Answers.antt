@@ -1,5 +1,4 @@
 use Rattle.std.proofs.Common.{◌∙◌, sym}
-use Rattle.std.proofs.lemmas.Result.{err_from_is_err_and}
 use Rattle.netset_commands.specs.Arguments.{no_parts, only_operand}
 use Rattle.netset_commands.specs.Command.{given_parts}
 use Rattle.netset_commands.proofs.Parts.{added_as, end_word, long_word, none_behind, operand_pushed, operand_word, short_word}
@@ -18,11 +17,6 @@ returns-then-not-is_option g c = (
   operand_word c.args.command c.args.word.now (sym c.if-eq.ensures) (sym c.is_option.ensures ∙ c.if-not-is_option.true),
   operand_pushed c.args.self.now.options.items c.args.self.now.values.items c.args.self.now.operands.items c.push.new.items.items c.args.word c.in_ok-push.ensures.pushed,
 )
-
-pub returns-in_err-push : goal.returns-in_err-push
-returns-in_err-push g c =
-    let (y, is, same) = err_from_is_err_and c.from_residual.result c.from_residual.ensures.1 in
-    rw (is, same) c.in_err-push.ensures.refused
 
 pub returns-then-starts_with : goal.returns-then-starts_with
 returns-then-starts_with g c =

@@ -1,5 +1,4 @@
 use Rattle.std.proofs.Common.{[], ◌∷◌, ◌∙◌, ap₂, List, ℕ, Ok, sym}
-use Rattle.std.proofs.lemmas.Result.{err_from_is_err_and}
 use Rattle.netset_commands.specs.Arguments.{named_value, only_options, only_value}
 use Rattle.netset_commands.specs.Command.{given_parts}
 use Rattle.netset_commands.specs.declared.commands.arguments.Next.TheVariants.{Any}
@@ -12,11 +11,6 @@ returns-then-has g c = (
   long_option c.args.command c.args.word.now (sym (rw c.options_of.ensures at c.has.ensures) ∙ c.if-has.true),
   option_pushed c.args.self.now.options.items c.args.self.now.values.items c.args.self.now.operands.items c.push.new.items.items c.args.word c.in_ok-push.ensures.pushed,
 )
-
-pub returns-in_err-push : goal.returns-in_err-push
-returns-in_err-push g c =
-    let (y, is, same) = err_from_is_err_and c.from_residual.result c.from_residual.ensures.1 in
-    rw (is, same) c.in_err-push.ensures.refused
 
 pub returns-then-takes_value : goal.returns-then-takes_value
 returns-then-takes_value g c = (

@@ -1,5 +1,4 @@
 use Rattle.std.proofs.Common.{◌∙◌, sym}
-use Rattle.std.proofs.lemmas.Result.{err_from_is_err_and}
 use Rattle.netset_commands.specs.Arguments.{only_value}
 use Rattle.netset_commands.specs.Command.{given_parts}
 use Rattle.netset_commands.proofs.Parts.{added_as, letter_word, short_value, value_pushed}
@@ -11,11 +10,6 @@ returns-then-takes_value g c = (
   short_value c.args.command c.args.word.now (sym c.takes_value.ensures ∙ c.if-takes_value.true),
   value_pushed c.args.self.now.options.items c.args.self.now.values.items c.args.self.now.operands.items c.push.new.items.items c.args.word c.in_ok-push.ensures.pushed,
 )
-
-pub returns-in_err-push : goal.returns-in_err-push
-returns-in_err-push g c =
-    let (y, is, same) = err_from_is_err_and c.from_residual.result c.from_residual.ensures.1 in
-    rw (is, same) c.in_err-push.ensures.refused
 
 pub returns : goal.returns
 returns g c =

@@ -1,5 +1,4 @@
 use Rattle.std.proofs.Common.{◌∙◌, sym}
-use Rattle.std.proofs.lemmas.Result.{err_from_is_err_and}
 use Rattle.netset_commands.specs.Arguments.{only_operand}
 use Rattle.netset_commands.proofs.Parts.{error_of, no_topic, operand_pushed, topic}
 use Rattle.netset_commands.proofs.commands.arguments.Parts.add_topic.Goals as goal
@@ -9,11 +8,6 @@ returns-then-not-is_topic g c =
     error_of _ _ (g.M.Memory.refused c.args.memory.now) c.no_option.result
     (no_topic c.args.command c.args.word.now (sym c.is_topic.ensures ∙ c.if-not-is_topic.true))
     (c.no_option.ensures (g.M.Memory.refused c.args.memory.now))
-
-pub returns-in_err-push : goal.returns-in_err-push
-returns-in_err-push g c =
-    let (y, is, same) = err_from_is_err_and c.from_residual.result c.from_residual.ensures.1 in
-    rw (is, same) c.in_err-push.ensures.refused
 
 pub returns : goal.returns
 returns g c = (
