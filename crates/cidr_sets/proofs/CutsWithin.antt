@@ -1,5 +1,5 @@
 -- What is left of a network without others, the first of which is not before it.
-use Rattle.std.proofs.Common.{◌≡◌, ◌≢◌, ℕ, ◌<◌, ◌≤◌, Bool, true, false, List, [], ◌∷◌, ◌++◌, length, refl, sym, ap, ◌∙◌, subst, arith, inl, inr, Some}
+use Rattle.std.proofs.Common.{◌≡◌, ◌≢◌, ℕ, ◌<◌, ◌≤◌, Bool, true, false, List, [], ◌∷◌, ◌++◌, length, refl, sym, ap, subst, arith, inl, inr, Some}
 use Rattle.std.proofs.lemmas.Bool.{cases_lt}
 use Rattle.std.proofs.lemmas.Option.{same_Some}
 use Rattle.std.specs.List.{Contains, slice_get}
@@ -10,11 +10,11 @@ use Rattle.cidr.specs.model.Network.{BeginsWith}
 use Rattle.cidr.specs.laws.BitLaws.{bit_cmp_total}
 use Rattle.cidr_table.specs.model.Cover.{Covers}
 use Rattle.cidr_table.proofs.Ascending.{first_less}
-use Rattle.cidr_table.proofs.Beginnings.{begins_length, bits_exact, not_before}
-use Rattle.cidr_table.proofs.Halves.{begins_begins, begins_itself, either_half, half_begins, length_half, same_length}
+use Rattle.cidr_table.proofs.Beginnings.{bits_exact, not_before}
+use Rattle.cidr_table.proofs.Halves.{begins_itself, either_half, same_length}
 use Rattle.cidr_table.proofs.MapLaws.{contains_first, contains_later, contains_nothing}
 use Rattle.cidr_table.proofs.Order.{between_halves, halves_less, less_not_itself, whole_less}
-use Rattle.cidr_sets.specs.internal.Steps.{AreApart, Ascend, IsBehind, IsDifferenceStep, IsOver, StartsBehind, StartsFrom}
+use Rattle.cidr_sets.specs.internal.Steps.{AreApart, Ascend, IsDifferenceStep, IsOver, StartsBehind, StartsFrom}
 use Rattle.cidr_sets.proofs.Cuts.{cut_covered, cut_same, cut_whole}
 use Rattle.cidr_sets.proofs.Steps.{apart_from, one_ascends, turned}
 

@@ -1,4 +1,4 @@
-use Rattle.std.proofs.Common.{◌*◌, [], length, map, sym, ap, subst, arith}
+use Rattle.std.proofs.Common.{◌*◌, length, map, sym, ap, subst, arith}
 use Rattle.std.proofs.lemmas.List.{length-map}
 use Rattle.cidr_table.proofs.Stacks.{spread_from_reduced}
 use Rattle.cidr_sets.specs.internal.Steps.{Ascend, IsDifferenceStep, IsOver}
