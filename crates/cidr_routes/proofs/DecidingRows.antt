@@ -1,9 +1,9 @@
 -- Which rows of a prefix list decide nothing, one length at a time.
-use Rattle.std.proofs.Common.{◌≡◌, ◌≢◌, ◌↔◌, ◌⊎◌, ℕ, zero, suc, ◌+◌, ◌-◌, ◌<◌, ◌≤◌, Bool, true, false, cond, List, [], ◌∷◌, ◌++◌, length, take, drop, get_or, set, replicate, map, refl, sym, ap, ◌∙◌, subst, arith, inl, inr, Some, None, Option, Result, Ok, Err}
-use Rattle.std.proofs.lemmas.Bool.{cases_eq, cases_lt, false≢true, true≢false}
+use Rattle.std.proofs.Common.{◌≡◌, ◌≢◌, ◌↔◌, ℕ, zero, suc, ◌+◌, ◌-◌, ◌<◌, ◌≤◌, Bool, true, false, cond, List, [], ◌∷◌, ◌++◌, length, take, drop, get_or, set, replicate, map, refl, sym, ap, ◌∙◌, subst, arith, inl, inr, Some, Result, Ok, Err}
+use Rattle.std.proofs.lemmas.Bool.{cases_eq, cases_lt, false≢true}
 use Rattle.std.proofs.lemmas.List.{take-append-drop, drop_more, take_at, map-append, length-append, length-map, length-take, length-replicate, get_or-take, get_or_default}
 use Rattle.std.proofs.lemmas.List.Sorted.{searched}
-use Rattle.std.proofs.lemmas.Option.{none-some, same_Some, slice_get_within, slice_get-get_or, get_or_from_slice_get}
+use Rattle.std.proofs.lemmas.Option.{same_Some, slice_get_within, slice_get-get_or, get_or_from_slice_get}
 use Rattle.std.specs.Bool.{Decides}
 use Rattle.std.specs.List.{Contains, slice_get}
 use Rattle.std.specs.List.Sorted.{IsBinarySearchResult, IsStrictlyIncreasing}
@@ -14,9 +14,8 @@ use Rattle.cidr_table.specs.model.Cover.{Covers}
 use Rattle.cidr_table.proofs.Beginnings.{begins_length}
 use Rattle.cidr_table.proofs.MapLaws.{contains_first, contains_later, contains_cases, contains_nothing}
 use Rattle.cidr_sets.specs.model.FirstRules as access
-use Rattle.cidr_sets.specs.declared.access.Rule.{Rule}
 use Rattle.cidr_routes.specs.declared.lists.Row.{Row}
-use Rattle.cidr_routes.specs.Lengths.{AreMarkedBelow, DecidesNoneBelow, DecidesNoneOf, IsOfLength, has_length, rules_of}
+use Rattle.cidr_routes.specs.Lengths.{AreMarkedBelow, DecidesNoneBelow, DecidesNoneOf, has_length, rules_of}
 use Rattle.cidr_routes.specs.PrefixLists.{IsDecidedBy, IsShadowed, Matches}
 use Rattle.cidr_routes.proofs.Lengths.{begins_short, length_first, length_tells, longer, longer_first, longer_length, matches_where, passes, rule_of, rules_append, rules_more, true_or}
 

@@ -1,5 +1,5 @@
 -- The networks of payloads, each once.
-use Rattle.std.proofs.Common.{◌≡◌, ◌↔◌, subst, ap, ◌∙◌, ℕ, ◌-◌, List, Some}
+use Rattle.std.proofs.Common.{◌↔◌, subst, ap, ◌∙◌, ℕ, ◌-◌, List, Some}
 use Rattle.std.proofs.lemmas.Option.{slice_get-get_or}
 use Rattle.std.specs.List.{Contains}
 use Rattle.std.specs.List.Sorted.{IsStrictlySortedBy}

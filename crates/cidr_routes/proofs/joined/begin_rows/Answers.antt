@@ -1,7 +1,6 @@
 use Rattle.std.proofs.Common.{◌≡◌, ◌+◌, ◌++◌, ◌∷◌, [], take, map, refl, rules, sym, ap, ◌∙◌, subst}
 use Rattle.std.proofs.lemmas.List.{take_more}
 use Rattle.cidr.specs.model.Network.{width_of}
-use Rattle.cidr_table.specs.model.Cover.{Covers}
 use Rattle.cidr_sets.specs.declared.access.Action.TheVariants.{Permit}
 use Rattle.cidr_routes.specs.declared.lists.Row.{Row}
 use Rattle.cidr_routes.specs.Lengths.{AreBegun}

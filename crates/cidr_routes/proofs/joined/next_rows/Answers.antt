@@ -1,4 +1,4 @@
-use Rattle.std.proofs.Common.{◌≡◌, ◌≤◌, arith, map, sym, ◌∙◌, subst}
+use Rattle.std.proofs.Common.{◌≤◌, arith, map, subst}
 use Rattle.cidr.specs.model.Network.{width_of}
 use Rattle.cidr.specs.declared.family.Family.{Family}
 use Rattle.cidr.specs.declared.family.Family.TheVariants.{Ipv4, Ipv6}

@@ -1,4 +1,4 @@
-use Rattle.std.proofs.Common.{◌≡◌, ◌<◌, ◌≤◌, ◌+◌, [], arith, rules, subst, sym}
+use Rattle.std.proofs.Common.{◌≡◌, [], arith, rules, subst, sym}
 use Rattle.cidr.specs.model.Network.{width_of}
 use Rattle.cidr_routes.specs.Lengths.{AreSoFar}
 use Rattle.cidr_routes.proofs.PermitRows.{all_permit, all_same, so_far_none}

@@ -1,4 +1,4 @@
-use Rattle.std.proofs.Common.{◌≡◌, ◌<◌, ◌≤◌, ◌+◌, false, length, arith, sym, subst}
+use Rattle.std.proofs.Common.{◌≡◌, false, length, arith, sym, subst}
 use Rattle.std.proofs.lemmas.List.{length-replicate}
 use Rattle.cidr.specs.model.Network.{width_of}
 use Rattle.cidr_routes.specs.Lengths.{AreMarkedBelow}

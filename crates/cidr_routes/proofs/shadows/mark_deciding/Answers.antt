@@ -1,8 +1,8 @@
-use Rattle.std.proofs.Common.{◌≡◌, ◌↔◌, ◌≤◌, ◌+◌, ℕ, length, take, sym, ap, ◌∙◌, subst, arith, cond}
+use Rattle.std.proofs.Common.{◌≡◌, ◌↔◌, ℕ, sym, ap, ◌∙◌, subst, arith, cond}
 use Rattle.std.proofs.Math.ListN.{length-set}
 use Rattle.std.specs.List.{Contains}
 use Rattle.cidr_sets.specs.model.FirstRules.{IsShadowed}
-use Rattle.cidr_routes.specs.Lengths.{DecidesNoneOf, has_length}
+use Rattle.cidr_routes.specs.Lengths.{has_length}
 use Rattle.cidr_routes.proofs.DecidingRows.{count_more, idle_told, mark_end, mark_set, networks_of}
 use Rattle.cidr_routes.proofs.Lengths.{told}
 use Rattle.cidr_routes.proofs.shadows.mark_deciding.Goals as goal

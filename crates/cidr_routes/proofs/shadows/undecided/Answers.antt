@@ -1,4 +1,4 @@
-use Rattle.std.proofs.Common.{◌≡◌, ◌↔◌, ℕ, false, Some, Result, Ok, Err}
+use Rattle.std.proofs.Common.{◌≡◌, ◌↔◌, false, Some, Result, Ok, Err}
 use Rattle.std.specs.List.{Contains, slice_get}
 use Rattle.std.specs.Result.{IfOk}
 use Rattle.cidr_routes.proofs.shadows.undecided.Goals as goal

@@ -5,7 +5,6 @@ use Rattle.std.specs.Map.{keys_of}
 use Rattle.std.specs.Prelude.{IfOk}
 use Rattle.cidr_table.proofs.Beginnings.{cmp_exact}
 use Rattle.cidr_routes.specs.Links.{AreEnds, AreLinked, AreOrdered}
-use Rattle.cidr_routes.specs.Origins.{payload_cmp}
 use Rattle.cidr_routes.proofs.Networks.{rows_of}
 use Rattle.cidr_routes.proofs.Sorting.{networks_ordered, payloads_tie}
 use Rattle.cidr_routes.proofs.origins.Payloads.new.Goals as goal
