@@ -1,5 +1,5 @@
 -- Where two tables give addresses different values.
-use Rattle.std.proofs.Common.{◌≡◌, ◌≢◌, ◌∙◌, ℕ, ◌==◌, Bool, true, false, List, [], ◌∷◌, ◌++◌, codes, length, map, Option, Some, None, Result, Ok, Err, refl, sym, ap, ap₂, subst, arith, inr, append_assoc, true≢false}
+use Rattle.std.proofs.Common.{◌≡◌, ◌≢◌, ℕ, Bool, List, [], ◌∷◌, ◌++◌, codes, map, Option, Some, None, Result, Ok, Err, refl, sym, ap, ap₂, subst, inr, append_assoc}
 use Rattle.std.specs.List.{Contains, flat_map}
 use Rattle.cidr.specs.model.Network.{HasWidth, width_of}
 use Rattle.cidr.specs.texts.Printed.{plain_text}

@@ -1,6 +1,5 @@
 -- The fewest rows of a table as they are told.
-use Rattle.std.proofs.Common.{◌≡◌, ◌≢◌, refl, sym, ◌∙◌, ap, ap₂, subst, arith, inl, inr, Bor, ℕ, ◌<◌, Bool, true, false, List, [], ◌∷◌, ◌++◌, codes, get_or, length, map, true≢false, ◌==◌, Option, Some, Result, Ok, Err, IfErr}
-use Rattle.std.proofs.lemmas.Bool.{eqb-true}
+use Rattle.std.proofs.Common.{◌≡◌, ◌≢◌, refl, sym, ◌∙◌, ap, ap₂, subst, arith, inl, inr, Bor, ℕ, ◌<◌, Bool, true, false, List, [], ◌∷◌, ◌++◌, codes, get_or, length, map, true≢false, Option, Some, Result, Ok, Err, IfErr}
 use Rattle.std.specs.Bool.{Decides}
 use Rattle.std.specs.List.{All, Contains}
 use Rattle.std.specs.Map.{values_of}

@@ -1,5 +1,5 @@
 -- Addresses that are looked up, one line after the other.
-use Rattle.std.proofs.Common.{◌≡◌, ◌≢◌, ◌⊎◌, refl, sym, ◌∙◌, ap, subst, inl, inr, ℕ, ◌+◌, Bool, true, false, List, [], ◌∷◌, ◌++◌, ◌==◌, ◌<◌, ◌≤◌, length, take, drop, get_or, arith, codes, map, is_some, option_map, Bor, Option, Some, None, Result, Ok, Err, ◌||◌}
+use Rattle.std.proofs.Common.{◌≡◌, ◌≢◌, ◌⊎◌, refl, sym, ◌∙◌, ap, subst, inl, inr, ℕ, ◌+◌, Bool, true, false, List, [], ◌∷◌, ◌++◌, ◌<◌, ◌≤◌, length, take, drop, get_or, arith, map, is_some, option_map, Bor, Option, Some, None, Result, Ok, Err, ◌||◌}
 use Rattle.std.specs.Option.{IfSome}
 use Rattle.std.specs.List.{AllZip, flat_map, list_any}
 use Rattle.std.proofs.lemmas.Bool.{true≢false}
@@ -11,7 +11,6 @@ use Rattle.cidr.specs.either.IpAddress.{address_family, plain_bits}
 use Rattle.cidr.specs.texts.PrintedAddress.{ip_text}
 use Rattle.cidr.specs.declared.addr.ip.IpAddr.{IpAddr}
 use Rattle.cidr.specs.declared.family.Family.{Family}
-use borrow.Author.Tests.{eqb-true}
 use Rattle.cidr_io.specs.Writing.{State, Part, Writes, Answered}
 use Rattle.cidr_io.specs.declared.sink.OutputFailed.{OutputFailed}
 use Rattle.cidr_io.proofs.Chains.{part_none, answered, then_writes}
@@ -26,7 +25,7 @@ use Rattle.cidr_lists.specs.declared.objects.Telling.{Telling}
 use Rattle.cidr_lists.specs.declared.objects.Telling.TheVariants.{Alone, Kept, Objects}
 use Rattle.netset_commands.specs.Gathering.{IsNotReadFurther}
 use Rattle.netset_commands.specs.KeptLines.{IsRowAmong, IsRowOf, TellsFile, TellsLeft, TellsText}
-use Rattle.netset_commands.specs.Look.{HeadedTell, IsLook, IsLookCut, verdict_of}
+use Rattle.netset_commands.specs.Look.{HeadedTell, verdict_of}
 use Rattle.netset_commands.specs.declared.commands.picking.Seeking.{Seeking}
 use Rattle.netset_commands.specs.LookUps.{AreFirstSaid, AllFound, AskLooks, AsksLines, EndsReading, IsFoundOf, LooksAll, LooksEach, LooksLines, LooksOne, LooksUp, PushesFound, answer_of, answer_row, unread}
 use Rattle.cidr_lists.specs.Tables.{resolved, value_at}

@@ -1,5 +1,5 @@
 -- The free networks of a pool, and those inside the networks of a list.
-use Rattle.std.proofs.Common.{◌↔◌, refl, sym, subst, arith, inl, inr, ℕ, ◌<◌, ◌≤◌, ◌≡◌, Bool, true, false, nat_lt, List, [], ◌∷◌, length, Option, None, Result, Ok, IfErr}
+use Rattle.std.proofs.Common.{◌↔◌, refl, sym, subst, inl, inr, ℕ, ◌<◌, ◌≤◌, ◌≡◌, Bool, true, false, nat_lt, List, [], ◌∷◌, length, Option, None, Result, Ok, IfErr}
 use Rattle.std.proofs.lemmas.Bool.{ltb-true, ltb-false}
 use Rattle.cidr.specs.either.IpNetwork.{network_family, network_prefix}
 use Rattle.cidr.specs.either.IpText.{IsIpNetworkText}
@@ -20,14 +20,11 @@ use Rattle.cidr_lists.specs.Texts.{SaysAddress}
 use Rattle.netset_commands.specs.Commands.{AreTold, Free, IsFree, OfLists, Split}
 use Rattle.netset_commands.specs.Free.{inside_of}
 use Rattle.netset_commands.specs.Operands.{IsNoNetworkText, OfOperand}
-use Rattle.netset_commands.specs.Program.{AnswersRequest, IsBadArgument}
-use Rattle.netset_commands.specs.Single.{HasNone, IsNumber}
+use Rattle.netset_commands.specs.Program.{AnswersRequest}
+use Rattle.netset_commands.specs.Single.{HasNone}
 use Rattle.netset_commands.specs.declared.commands.operations.Operation.TheVariants.{Minus}
 use Rattle.netset_commands.specs.Causes.{Cause}
-use Rattle.netset_commands.specs.declared.errors.ArgumentError.{ArgumentError}
-use Rattle.netset_commands.specs.declared.errors.ArgumentError.TheVariants as bad
 use Rattle.netset_commands.specs.declared.errors.CommandError.{CommandError}
-use Rattle.netset_commands.specs.declared.errors.CommandError.TheVariants as error
 use Rattle.netset_commands.specs.declared.output.answers.Verdict.{Verdict}
 use Rattle.netset_commands.specs.declared.output.answers.Verdict.TheVariants.{Yes}
 use Rattle.netset_commands.proofs.Causes.{argument_cause, output_cause}

@@ -19,7 +19,6 @@ use Rattle.netset_commands.specs.declared.output.answers.Verdict.{Verdict}
 use Rattle.netset_commands.specs.declared.commands.Reading.{Reading}
 use Rattle.netset_commands.specs.declared.commands.table.Verb.{Verb}
 use Rattle.netset_commands.specs.declared.errors.CommandError.{CommandError}
-use Rattle.netset_commands.specs.declared.errors.CommandError.TheVariants as error
 use Rattle.netset_commands.specs.declared.errors.Reason.{Reason}
 use Rattle.netset_commands.specs.declared.errors.Unsaved.{Unsaved}
 use Rattle.netset_commands.specs.declared.errors.Unsaved.TheVariants.{Denied}

@@ -1,5 +1,5 @@
 -- What functions that read several lists promise.
-use Rattle.std.specs.Prelude.{◌≡◌, ◌≢◌, ◌⊎◌, ℕ, ◌≤◌, Bool, true, List, [], ◌∷◌, Option, Some, None, Result, Ok, Err}
+use Rattle.std.specs.Prelude.{◌≡◌, ◌≢◌, ◌⊎◌, ℕ, Bool, true, List, [], ◌∷◌, Option, Some, None, Result, Ok, Err}
 use Rattle.std.specs.List.{AllZip}
 use Rattle.cidr.specs.declared.cidr.combined.IpCidr.{IpCidr}
 use Rattle.cidr.specs.declared.family.Family.{Family}
@@ -19,7 +19,7 @@ use Rattle.cidr_io.specs.Writing.{State, Answered}
 use Rattle.cidr_io.specs.declared.sink.OutputFailed.{OutputFailed}
 use Rattle.netset_commands.specs.Describing.{told_of}
 use Rattle.netset_commands.specs.Free.{IsFreeText}
-use Rattle.netset_commands.specs.Single.{HasNone, IsNumber}
+use Rattle.netset_commands.specs.Single.{HasNone}
 use Rattle.netset_commands.specs.Operands.{IsUnlisted, IsUnreadOperand, OfList, OfOperand}
 use Rattle.netset_commands.specs.declared.commands.describe.Description.{Description}
 use Rattle.netset_commands.specs.declared.output.answers.Verdict.{Verdict}

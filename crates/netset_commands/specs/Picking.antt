@@ -1,5 +1,5 @@
 -- Which lines `match` picks and which addresses `look` takes, by the options.
-use Rattle.std.specs.Prelude.{◌≡◌, ℕ, ◌+◌, ◌^◌, ◌<◌, Bool, true, false, List, codes, Option, Some, None, Result, unwrap_or}
+use Rattle.std.specs.Prelude.{ℕ, ◌+◌, ◌^◌, ◌<◌, Bool, true, false, List, codes, Option, Some, None, Result, unwrap_or}
 use Rattle.cidr.specs.declared.family.Family.{Family}
 use Rattle.cidr_lists.specs.LookUps.{telling_by}
 use Rattle.cidr_lists.specs.declared.columns.Column.{Column}

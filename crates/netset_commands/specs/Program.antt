@@ -30,7 +30,7 @@ use Rattle.netset_commands.specs.Matching.{has, IsEndedBy, IsEndedIn}
 use Rattle.netset_commands.specs.Streaming.{IsCutShort}
 use Rattle.netset_commands.specs.Picking.{PicksOf}
 use Rattle.netset_commands.specs.Same.{AreUnreadTables}
-use Rattle.netset_commands.specs.Single.{HasNone, IsBadSingle, IsNoNetwork, IsNumber}
+use Rattle.netset_commands.specs.Single.{HasNone, IsBadSingle, IsNoNetwork}
 use Rattle.netset_commands.specs.Unchecked.{IsUnchecked}
 use Rattle.netset_commands.specs.Which.{IsNoAddressArgument}
 use Rattle.cidr.specs.either.IpAddress.{IsIpText}

@@ -1,6 +1,4 @@
-use Rattle.std.proofs.Common.{◌∙◌, ap, codes, List, ℕ, Err, sym}
-use Rattle.netset_commands.specs.Arguments.{misuse_text}
-use Rattle.netset_commands.specs.declared.errors.Misfit.TheVariants.{Missing}
+use Rattle.std.proofs.Common.{◌∙◌, ap, List, ℕ, Err, sym}
 use Rattle.std.proofs.lemmas.Result.{err_from_is_err_and}
 use Rattle.netset_commands.specs.Command.{given_parts}
 use Rattle.netset_commands.proofs.Parts.{all_left, any_left, operand_left, value_missing, word_left, word_wrong}
