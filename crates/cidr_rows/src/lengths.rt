@@ -26,7 +26,7 @@ pub fn add_lengths<C: BitString + Copy, K: Keys<C>>(rows: &K, lengths: &mut [u8]
 /// The longest of the lengths up to one that keys may have, or `None` where they may have none of them.
 pub fn longest_length(lengths: &[u8], most: usize) -> Option<usize>
     ensures { MatchOption result ((n : ℕ) → n ≤ most → ¬ (MayHave lengths.now n))
-        (λ len. (len ≤ most) × ((n : ℕ) → len < n → n ≤ most → ¬ (MayHave lengths.now n))) }
+        (λ len. (len ≤ most) × MayHave lengths.now len × ((n : ℕ) → len < n → n ≤ most → ¬ (MayHave lengths.now n))) }
 {
     if most >= lengths.len() {
         return Some(most);

@@ -40,7 +40,7 @@ loop-end-preserved g c =
           shorter g.C.Ord.cmp bits g.met.C.NetworkBits.ordered (g.K.Keys.keys c.args.rows.now) s c.args.asked.now
           c.loop-end.sought c.loop-end.end h.within h.begins (h.left s known) c.args.lengths.now known c.in-Err.index n len (omega arith) (c.in-Err.ensures.index s)
           (rw before (not_whole sought (bits c.key-before.result) n (λ e. omega (arith, c.len.ensures.value, e)) c.shared_prefix_len-shared.ensures))
-          (rw before c.shared_prefix_len-shared.ensures) c.in_ok-len-in-Err.ensures.1 j l b);
+          (rw before c.shared_prefix_len-shared.ensures) c.in_ok-len-in-Err.ensures.2 j l b);
     }
 
 pub returns-in_err-len-in-Err-clause-longest : goal.returns-in_err-len-in-Err-clause-longest
