@@ -142,7 +142,8 @@ fn listed<T: Words>(words: &T, index: usize, address: u32) -> u32
     words.word(values + upto(words, starts, count, address))
 }
 
-/// How many of the changes of a list, whose words ascend, are at most a word.
+/// How many of the changes of a list, whose words ascend, are at most a word. All are compared: the compiler compares several by
+/// one instruction, where halving would guess at each word.
 #[inline(always)]
 fn upto<T: Words>(words: &T, starts: usize, count: usize, word: u32) -> usize
     requires words { starts + count ≤ length (T.words words.now) }
@@ -153,14 +154,11 @@ fn upto<T: Words>(words: &T, starts: usize, count: usize, word: u32) -> usize
     ensures behind { AscendAt (T.words words.now) starts count → (i : ℕ) → result ≤ i → i < count → word < slice_index_or (T.words words.now) (starts + i) 0 }
 {
     let mut found = 0;
-    let mut left = count;
-    while left > 0 {
-        let half = left - left / 2;
-        let change = words.word(starts + (found + half - 1));
+    for i in 0..count {
+        let change = words.word(starts + i);
         if change <= word {
-            found += half;
+            found += 1;
         }
-        left /= 2;
     }
     found
 }
