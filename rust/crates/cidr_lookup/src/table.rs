@@ -78,7 +78,10 @@ impl Error for TableError {}
 pub fn build<A: Address>(alloc: Global, keys: &[Key<A>]) -> Result<LookupTable, TableError> {
     let ranges = ranges_of(alloc, keys)?;
     let steps = A::steps_for(keys.len());
-    let mut first = Vec::new(alloc);
+    let blocks = 1 << (A::padded_width() - 6 * steps);
+    let Ok(mut first) = Vec::with_capacity(alloc, blocks) else {
+        return Err(TableError::NoMemory);
+    };
     let mut words = Vec::new(alloc);
     let starts = ranges.starts.as_slice();
     let answers = ranges.answers.as_slice();
@@ -87,7 +90,6 @@ pub fn build<A: Address>(alloc: Global, keys: &[Key<A>]) -> Result<LookupTable, 
             if words.len() >= 1 << 30 {
                 return Err(TableError::TooLarge);
             }
-            first.shrink_to_fit();
             words.shrink_to_fit();
             Ok(LookupTable {
                 first,

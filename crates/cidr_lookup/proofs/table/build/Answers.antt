@@ -1,4 +1,4 @@
-use Rattle.std.proofs.Common.{ap, arith, subst, ℕ, ◌+◌, length}
+use Rattle.std.proofs.Common.{arith, subst, ℕ, ◌+◌, length}
 use Rattle.cidr_lookup.specs.Keys.{key_networks}
 use Rattle.cidr_lookup.proofs.Numbers.{length_networks}
 use Rattle.cidr_lookup.specs.Tables.{HasTooManyWords}
@@ -14,15 +14,14 @@ returns-then-len-clause-refused g c =
       omega (arith, c.in_ok-ranges.ensures.few, length_networks g.A.Address.value c.args.keys.now),
       c.in_ok-ranges.ensures.keys,
       subst (λ (n : ℕ). HasTooManyWords w padding n networks) c.steps_for-steps.ensures.own
-          (too_large w padding c.steps_for-steps.result networks c.put_table.new.first.items c.put_table.new.words.items c.in-Ok.ensures.table
+          (too_large w padding c.steps_for-steps.result networks c.put_table.new.first.items c.put_table.new.words.items c.in-Ok-put_table.ensures.table
           (omega (arith, c.len.ensures, c.if-len.true, c.put_table.new.words.ok.0))),
     )
 
-pub returns-in-Ok-clause-entries : goal.returns-in-Ok-clause-entries
-returns-in-Ok-clause-entries g c =
+pub returns-in-Ok-put_table-clause-entries : goal.returns-in-Ok-put_table-clause-entries
+returns-in-Ok-put_table-clause-entries g c =
     omega (
       arith,
-      ap length c.shrink_to_fit.ensures.items,
-      few_blocks c.steps_for-steps.result (g.A.Address.width + g.A.Address.padding) (length c.put_table.new.first.items) c.in-Ok.ensures.table.size c.steps_for-steps.ensures.some
+      few_blocks c.steps_for-steps.result (g.A.Address.width + g.A.Address.padding) (length c.put_table.new.first.items) c.in-Ok-put_table.ensures.table.size c.steps_for-steps.ensures.some
           c.steps_for-steps.ensures.few,
     )
