@@ -1,23 +1,19 @@
 -- Two forwardings agree exactly where they give each address the same value.
-use Rattle.std.proofs.Common.{◌≡◌, ◌↔◌, ◌&&◌, ℕ, zero, suc, ◌+◌, ◌-◌, ◌≤◌, Bool, true, false, List, [], ◌∷◌, length, take, drop, Option, Some, None, refl, sym, ap, ap₂, ◌∙◌, subst, arith, inl, inr, true≢false}
+use Rattle.std.proofs.Common.{◌≡◌, ◌↔◌, ◌&&◌, ℕ, suc, ◌≤◌, Bool, true, false, List, [], ◌∷◌, Some, None, refl, sym, ap₂, ◌∙◌, subst, true≢false}
 use Rattle.std.specs.Bool.{Decides}
-use Rattle.std.specs.List.{AllByRecursion}
-use Rattle.std.specs.List.Sorted.{IsStrictlySortedBy}
 use Rattle.std.specs.Option.{option_eq}
-use Rattle.std.proofs.lemmas.Bool.{cases_lt}
 use Rattle.cidr.specs.model.Network.{HasWidth}
 use Rattle.cidr_table.specs.model.CoverAddresses.{IsIpAddressBits}
 use Rattle.cidr_table.specs.model.Prefixes.{IsValueLookedUp}
 use Rattle.cidr_forwarding.specs.Forwarding.{in_bits, AreNetworksOf, AreIpRows, ForwardSame}
-use Rattle.cidr_forwarding.specs.Trees.{own, below, Region, Even, Halves, region, all_are, agree}
-use Rattle.cidr_forwarding.specs.Plans.{tails, planned, IsNode, AreDeep, NextIs}
+use Rattle.cidr_forwarding.specs.Trees.{Region, Even, Halves, region, IsOfHalves, OfHalves, OfEven, all_are, agree}
+use Rattle.cidr_forwarding.specs.Plans.{planned, IsNode}
 use Rattle.cidr_forwarding.proofs.RowParts.{forward}
 use Rattle.cidr_forwarding.proofs.Regions.{at, Fits}
 use Rattle.cidr_forwarding.proofs.Looking.{seen_as}
 use Rattle.cidr_forwarding.proofs.Shapes.{at_region}
 use Rattle.cidr_forwarding.proofs.Order.{Ascend}
 use Rattle.cidr_forwarding.proofs.Smallest.{looks_up, only_value, decides_option}
-use Rattle.cidr_forwarding.proofs.Passes.{read_even, read_halves, read_low, read_high, whole_rest, planned_even}
 use Rattle.cidr_forwarding.proofs.Calls.{rows_same, bits_same}
 use Rattle.cidr_forwarding.proofs.Final.{plan_is, rows_ascend, rows_within, fits_of, fits_both}
 
@@ -35,27 +31,21 @@ twice false = refl
 
 -- ---- of the halves
 module _ {X : Type 0} where
-  -- a forwarding by its halves, which are as the whole where that has one value
-  pub data IsOfHalves (t l r : Region X) : Type 0 where
-    OfHalves : t ≡ Halves l r → IsOfHalves t l r
-    OfEven : (x : X) → t ≡ Even x → l ≡ Even x → r ≡ Even x → IsOfHalves t l r
-
   pub some_address : (t : Region X) (IsAddress : List Bool → Type 0) → Fits t IsAddress → (a : List Bool) × IsAddress a
   some_address (Even x) IsAddress fits = fits
   some_address (Halves l r) IsAddress fits =
       let s = some_address l (λ a. IsAddress (false ∷ a)) fits.1 in (false ∷ s.0, s.1)
 
-module _ {X : Type 0} (same : X → X → Bool) where
-  pub agree_halves : (t l r u k s : Region X) → IsOfHalves t l r → IsOfHalves u k s → agree same t u ≡ (agree same l k && agree same r s)
-  agree_halves t l r u k s (OfHalves e) (OfHalves f) = ap₂ (agree same) e f
-  agree_halves t l r u k s (OfHalves e) (OfEven y f g h) =
-      ap₂ (agree same) e f ∙ ap₂ (λ x z. agree same l x && agree same r z) (sym g) (sym h)
-  agree_halves t l r u k s (OfEven x e g h) (OfHalves f) =
-      ap₂ (agree same) e f ∙ ap₂ (λ y z. agree same y k && agree same z s) (sym g) (sym h)
-  agree_halves t l r u k s (OfEven x e g h) (OfEven y f i j) =
+module _ {X : Type 0} (same : X → X → Bool) {t l r u k s : Region X} where
+  pub agree_halves : IsOfHalves t l r → IsOfHalves u k s → agree same t u ≡ (agree same l k && agree same r s)
+  agree_halves (OfHalves e) (OfHalves f) = ap₂ (agree same) e f
+  agree_halves (OfHalves e) (OfEven y f g h) = ap₂ (agree same) e f ∙ ap₂ (λ x z. agree same l x && agree same r z) (sym g) (sym h)
+  agree_halves (OfEven x e g h) (OfHalves f) = ap₂ (agree same) e f ∙ ap₂ (λ y z. agree same y k && agree same z s) (sym g) (sym h)
+  agree_halves (OfEven x e g h) (OfEven y f i j) =
       ap₂ (agree same) e f ∙ twice (same x y)
       ∙ ap₂ (λ a b. a && b) (ap₂ (agree same) (sym g) (sym i)) (ap₂ (agree same) (sym h) (sym j))
 
+module _ {X : Type 0} (same : X → X → Bool) where
   -- ---- of the addresses
   module _ (decides : (x y : X) → Decides (same x y) (x ≡ y)) where
     all_at : (x : X) (u : Region X) (IsAddress : List Bool → Type 0) → Fits u IsAddress → all_are same x u ≡ true
@@ -100,63 +90,6 @@ module _ {X : Type 0} (same : X → X → Bool) where
         true_both (agree same l k) (agree same r s)
         (agreed_from l k (λ z. IsAddress (false ∷ z)) f.1 g.1 (λ a m. h (false ∷ a) m))
         (agreed_from r s (λ z. IsAddress (true ∷ z)) f.2 g.2 (λ a m. h (true ∷ a) m))
-
--- ---- no rows
-none_taken : {X : Type 0} (k : ℕ) (none : List X) → none ≡ [] → take k none ≡ []
-none_taken zero [] e = refl
-none_taken zero (x ∷ none) e = refl
-none_taken (suc k) [] e = refl
-none_taken (suc k) (x ∷ none) e = absurd (cc)
-
-none_dropped : {X : Type 0} (k : ℕ) (none : List X) → none ≡ [] → drop k none ≡ []
-none_dropped zero [] e = refl
-none_dropped zero (x ∷ none) e = absurd (cc)
-none_dropped (suc k) [] e = refl
-none_dropped (suc k) (x ∷ none) e = absurd (cc)
-
-node_of_none : {C V : Type 0} (bits : C → List Bool) (e : ℕ) (none : List (C × V)) → none ≡ [] → IsNode bits e none
-unfolding IsStrictlySortedBy
-node_of_none bits e [] is = record { ascending = tt; within = tt }
-node_of_none bits e (r ∷ none) is = absurd (cc)
-
--- ---- as the code reads the halves
-module _ {C V : Type 0} (bits : C → List Bool) (d : ℕ) (c o : Option V) (rows : List (C × V)) (skip : ℕ) (own_is : o ≡ own c (tails bits d rows))
-    (halves : (b : Bool) → below b (tails bits d rows) ≡ below b (tails bits d (drop skip rows))) (node : IsNode bits d (drop skip rows)) (deep : AreDeep bits d (drop skip rows))
-    (rest : List (C × V)) (rest_is : rest ≡ take (length rows - skip) (drop skip rows))
-    (n : ℕ) (lower : AllByRecursion (NextIs bits d false) (take n rest)) (upper : AllByRecursion (NextIs bits d true) (drop n rest)) where
-  even_at : (e : ℕ) (none : List (C × V)) → none ≡ [] → planned bits e o none ≡ Even o
-  even_at e none is = planned_even bits e o o none none (ap (λ l. own o (tails bits e l)) (sym is)) (λ b. refl) (omega (arith, ap length is))
-
-  empty_from : (l : List (C × V)) → length l ≤ 0 → l ≡ []
-  empty_from [] h = refl
-  empty_from (x ∷ l) h = absurd (omega arith)
-
-  take_none : rest ≡ [] → take n rest ≡ []
-  take_none e = none_taken n rest e
-
-  drop_none : rest ≡ [] → take (length rest - n) (drop n rest) ≡ []
-  drop_none e = whole_rest n rest ∙ none_dropped n rest e
-
-  pub of_halves : IsOfHalves (planned bits d c rows) (planned bits (d + 1) o (take n rest)) (planned bits (d + 1) o (take (length rest - n) (drop n rest)))
-  of_halves = elim (cases_lt 0 (length rest)) [
-    | inl some ↦ OfHalves (read_halves bits d c o rows skip own_is halves node deep rest rest_is some n lower upper)
-    | inr none ↦
-        let e : rest ≡ [] = empty_from rest none in
-        OfEven o (read_even bits d c o rows skip own_is halves (omega (arith, none, ap length rest_is)))
-        (even_at (d + 1) (take n rest) (take_none e)) (even_at (d + 1) (take (length rest - n) (drop n rest)) (drop_none e))
-  ]
-
-  pub low_half : IsNode bits (d + 1) (take n rest)
-  low_half = elim (cases_lt 0 (length rest)) [
-    | inl some ↦ read_low bits d c o rows skip own_is halves node deep rest rest_is some n lower upper
-    | inr none ↦ node_of_none bits (d + 1) (take n rest) (take_none (empty_from rest none))
-  ]
-
-  pub high_half : IsNode bits (d + 1) (take (length rest - n) (drop n rest))
-  high_half = elim (cases_lt 0 (length rest)) [
-    | inl some ↦ read_high bits d c o rows skip own_is halves node deep rest rest_is some n lower upper
-    | inr none ↦ node_of_none bits (d + 1) (take (length rest - n) (drop n rest)) (drop_none (empty_from rest none))
-  ]
 
 -- ---- the whole
 module _ {V : Type 0} (IsAddress : List Bool → Type 0) (rows others : List (List Bool × V)) (ascend : Ascend rows) (ascend' : Ascend others) where

@@ -93,8 +93,5 @@ module _ {C V : Type 0} (bits : C → List Bool) (IsAddress : List Bool → Type
       )
 
 -- a fact of rows and others, of rows that are the same
-pub carried : {R S : Type 0} (P : R → S → Type 0) (r r' : R) (s s' : S) → r ≡ r' → s' ≡ s → P r s → P r' s'
-carried P r r' s s' e f h = subst (λ x. P x s') e (subst (P r) (sym f) h)
-
 pub of_same : {R S : Type 0} (P : R → S → Type 0) (r r' : R) (s s' : S) → r ≡ r' → s ≡ s' → P r s → P r' s'
 of_same P r r' s s' e f h = subst (λ x. P x s') e (subst (P r) f h)

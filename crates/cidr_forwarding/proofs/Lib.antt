@@ -1,3 +1,4 @@
+pub mod Stretches
 pub mod Steps
 pub mod Joins
 pub mod RowParts

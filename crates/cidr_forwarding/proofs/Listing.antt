@@ -9,7 +9,7 @@ use Rattle.cidr_forwarding.specs.Forwarding.{in_bits}
 use Rattle.cidr_forwarding.specs.Plans.{behind}
 use Rattle.cidr_forwarding.proofs.Placing.{in_bits_push, behind_halves}
 use Rattle.cidr_forwarding.proofs.Final.{length_bits_of}
-use Rattle.cidr_forwarding.specs.Trees.{under, Region, Even, Halves, AllFitWidth, with_all, paired, shared_values, sole_values, listed, differing}
+use Rattle.cidr_forwarding.specs.Trees.{under, Region, Even, Halves, IsOfHalves, OfHalves, OfEven, AllFitWidth, with_all, paired, shared_values, sole_values, listed, differing}
 use Rattle.std.proofs.lemmas.List.Elements.{Contains-append_cases}
 use Rattle.cidr_forwarding.proofs.RowParts.{below_halves_false, below_halves_true}
 use Rattle.cidr_forwarding.proofs.Looking.{begins_nothing, begins_bit, begins_longer, in_half, from_half}
@@ -17,7 +17,7 @@ use Rattle.cidr_forwarding.proofs.Regions.{at, Fits}
 use Rattle.cidr_forwarding.proofs.Shapes.{AreIp}
 use Rattle.cidr_forwarding.proofs.Order.{Ascend, no_keys, row_before, ascend_halves}
 use Rattle.cidr_forwarding.proofs.Kept.{IsLow, IsOfFamilies, within_under, within_append, ip_append, ip_low, ip_high}
-use Rattle.cidr_forwarding.proofs.Agreement.{both_true, true_both, IsOfHalves, OfHalves, OfEven, some_address}
+use Rattle.cidr_forwarding.proofs.Agreement.{both_true, true_both, some_address}
 
 -- ---- both forwardings as one
 module _ {X : Type 0} where
@@ -71,14 +71,12 @@ module _ {X : Type 0} where
   families_paired (Halves l r) (Even y) h k = (low_paired 32 l (Even y) h.0 tt, low_paired 128 r (Even y) h.1 tt)
   families_paired (Halves l r) (Halves p s) h k = (low_paired 32 l p h.0 k.0, low_paired 128 r s h.1 k.1)
 
-  pub paired_halves : (t l r u k s : Region X) → IsOfHalves t l r → IsOfHalves u k s → IsOfHalves (paired t u) (paired l k) (paired r s)
-  paired_halves t l r u k s (OfHalves e) (OfHalves f) = OfHalves (ap₂ paired e f)
-  paired_halves t l r u k s (OfHalves e) (OfEven y f g h) =
-      OfHalves (ap₂ paired e f ∙ ap₂ Halves (ap (paired l) (sym g)) (ap (paired r) (sym h)))
-  paired_halves t l r u k s (OfEven x e g h) (OfHalves f) =
-      OfHalves (ap₂ paired e f ∙ ap₂ Halves (ap (λ q. paired q k) (sym g)) (ap (λ q. paired q s) (sym h)))
-  paired_halves t l r u k s (OfEven x e g h) (OfEven y f i j) =
-      OfEven (x, y) (ap₂ paired e f) (ap₂ paired g i) (ap₂ paired h j)
+module _ {X : Type 0} {t l r u k s : Region X} where
+  pub paired_halves : IsOfHalves t l r → IsOfHalves u k s → IsOfHalves (paired t u) (paired l k) (paired r s)
+  paired_halves (OfHalves e) (OfHalves f) = OfHalves (ap₂ paired e f)
+  paired_halves (OfHalves e) (OfEven y f g h) = OfHalves (ap₂ paired e f ∙ ap₂ Halves (ap (paired l) (sym g)) (ap (paired r) (sym h)))
+  paired_halves (OfEven x e g h) (OfHalves f) = OfHalves (ap₂ paired e f ∙ ap₂ Halves (ap (λ q. paired q k) (sym g)) (ap (λ q. paired q s) (sym h)))
+  paired_halves (OfEven x e g h) (OfEven y f i j) = OfEven (x, y) (ap₂ paired e f) (ap₂ paired g i) (ap₂ paired h j)
 
 -- ---- rows of both halves
 module _ {X : Type 0} where
@@ -373,11 +371,14 @@ module _ {C X : Type 0} (bits : C → List Bool) (same : X → X → Bool) where
       by true = ap (in_bits bits) (append-nil old) ∙ sym (append-nil (in_bits bits old))
       by false = in_bits_push bits old (network, x) ∙ ap (λ p. in_bits bits old ++ (p, x) ∷ []) (sym (append-nil (bits network)))
 
-module _ {X : Type 0} (same : X → X → Bool) (decides : (x y : X) → Decides (same x y) (x ≡ y)) (q l r : Region (X × X)) where
-  pub sole_halves : IsOfHalves q l r → sole_values same q ≡ shared_values same (sole_values same l) (sole_values same r)
+module _ {X : Type 0} (same : X → X → Bool) (decides : (x y : X) → Decides (same x y) (x ≡ y)) {q l r : Region (X × X)} where
+  sole_halves : IsOfHalves q l r → sole_values same q ≡ shared_values same (sole_values same l) (sole_values same r)
   sole_halves (OfHalves e) = ap (sole_values same) e
   sole_halves (OfEven x e f g) =
       ap (sole_values same) e ∙ sym (shared_both same decides x) ∙ ap₂ (shared_values same) (ap (sole_values same) (sym f)) (ap (sole_values same) (sym g))
+
+  pub sole_told : {low high both : Option (X × X)} → IsOfHalves q l r → low ≡ sole_values same l → high ≡ sole_values same r → shared_values same low high ≡ both → sole_values same q ≡ both
+  sole_told h a b e = sole_halves h ∙ ap₂ (shared_values same) (sym a) (sym b) ∙ e
 
   pub rows_apart : IsOfHalves q l r → sole_values same q ≡ None → differing same q ≡ under false (differing same l) ++ under true (differing same r)
   rows_apart (OfHalves e) n =

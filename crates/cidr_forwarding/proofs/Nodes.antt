@@ -1,12 +1,13 @@
 -- Rows of one network, by the next bit.
-use Rattle.std.proofs.Common.{◌≡◌, ℕ, ◌<◌, ◌≤◌, Bool, List, [], ◌∷◌, length, drop, Option, Some, slice_get, refl, sym, ap, ◌∙◌, subst, arith, length-drop}
+use Rattle.std.proofs.Common.{◌≡◌, ℕ, ◌-◌, ◌<◌, ◌≤◌, Bool, List, [], ◌∷◌, length, take, drop, Option, Some, slice_get, refl, sym, ap, ◌∙◌, subst, arith, length-drop}
 use Rattle.std.specs.List.{AllByRecursion}
 use Rattle.std.specs.List.Sorted.{IsStrictlySortedBy}
 use Rattle.std.specs.Map.{keys_of}
 use Rattle.std.specs.declared.cmp.Ordering.TheVariants.{Less}
 use Rattle.cidr.specs.model.Bits.{bit_cmp}
-use Rattle.cidr_forwarding.specs.Trees.{own_step, own, below_step, below}
-use Rattle.cidr_forwarding.specs.Plans.{tails, IsNode, AreDeep}
+use Rattle.cidr_forwarding.specs.Trees.{own_step, own, below_step, below, longer_step, longer}
+use Rattle.cidr_forwarding.specs.Plans.{tails, IsNode, AreDeep, IsRest}
+use Rattle.cidr_forwarding.proofs.Stretches.{whole_rest}
 
 not_first : (p q : List Bool) → bit_cmp p q ≡ Less → q ≡ [] → ⊥
 not_first [] [] e n = cc
@@ -65,25 +66,39 @@ module _ {C V : Type 0} (bits : C → List Bool) (depth : ℕ) where
   pub rest_halves : (r : C × V) (rows : List (C × V)) → length (bits r.0) ≤ depth → (b : Bool) → below b (tails bits depth (r ∷ rows)) ≡ below b (tails bits depth rows)
   rest_halves r rows s b = ap (λ p. below_step b p (Some r.1) (below b (tails bits depth rows))) (shallow depth (bits r.0) s)
 
+  longer_one : (p : List Bool) (x : Option V) (rest : List (List Bool × Option V)) → (p ≡ [] → ⊥) → longer_step p x rest ≡ (p, x) ∷ rest
+  longer_one [] x rest n = absurd (n refl)
+  longer_one (b ∷ p) x rest n = refl
+
+  longer_deep : (rows : List (C × V)) → AreDeep bits depth rows → longer (tails bits depth rows) ≡ tails bits depth rows
+  longer_deep [] h = refl
+  longer_deep (r ∷ rows) h = longer_one (drop depth (bits r.0)) (Some r.1) (longer (tails bits depth rows)) h.0 ∙ ap (λ l. (drop depth (bits r.0), Some r.1) ∷ l) (longer_deep rows h.1)
+
+  longer_rest : (r : C × V) (rows : List (C × V)) → length (bits r.0) ≤ depth → AreDeep bits depth rows → longer (tails bits depth (r ∷ rows)) ≡ tails bits depth rows
+  longer_rest r rows s h = ap (λ p. longer_step p (Some r.1) (longer (tails bits depth rows))) (shallow depth (bits r.0) s) ∙ longer_deep rows h
+
   -- ---- by the first row, as it is read
-  pub own_default : (c : Option V) (rows : List (C × V)) (r : C × V) → ◌≡◌ {A = Option (C × V)} (Some r) (slice_get rows 0) → IsNode bits depth rows → depth < length (bits r.0)
-      → own c (tails bits depth rows) ≡ c
-  own_default c [] r e h l = absurd (cc)
-  own_default c (s ∷ rows) r e h l =
+  pub rest_first : (c : Option V) (rows : List (C × V)) (r : C × V) → ◌≡◌ {A = Option (C × V)} (Some r) (slice_get rows 0) → IsNode bits depth rows → length (bits r.0) ≤ depth
+      → IsRest bits depth c rows (Some r.1) (take (length rows - 1) (drop 1 rows))
+  rest_first c [] r e node l = absurd (cc)
+  rest_first c (s ∷ rows) r e node l =
       let f : s ≡ r = cc in
-      own_none c (s ∷ rows) (all_deep s rows h (subst (λ (x : C × V). depth < length (bits x.0)) (sym f) l))
+      let m : length (bits s.0) ≤ depth = subst (λ (x : C × V). length (bits x.0) ≤ depth) (sym f) l in
+      let is : IsRest bits depth c (s ∷ rows) (Some r.1) rows = record {
+        value_is = ap (λ (x : C × V). Some x.1) (sym f) ∙ sym (own_first c s rows node m);
+        halves = rest_halves s rows m;
+        longer_is = longer_rest s rows m (rest_deep s rows node);
+        node = rest_node s rows node;
+        deep = rest_deep s rows node;
+      } in
+      subst (IsRest bits depth c (s ∷ rows) (Some r.1)) (sym (whole_rest 1 (s ∷ rows))) is
 
-  pub deep_default : (rows : List (C × V)) (r : C × V) → ◌≡◌ {A = Option (C × V)} (Some r) (slice_get rows 0) → IsNode bits depth rows → depth < length (bits r.0)
-      → AreDeep bits depth rows
-  deep_default [] r e h l = tt
-  deep_default (s ∷ rows) r e h l =
-      let f : s ≡ r = cc in
-      all_deep s rows h (subst (λ (x : C × V). depth < length (bits x.0)) (sym f) l)
+  deep_from : (rows : List (C × V)) → IsNode bits depth rows → ((r : C × V) → ◌≡◌ {A = Option (C × V)} (Some r) (slice_get rows 0) → depth < length (bits r.0)) → AreDeep bits depth rows
+  deep_from [] node far = tt
+  deep_from (s ∷ rows) node far = all_deep s rows node (far s refl)
 
-  pub drop_node : (rows : List (C × V)) → 0 < length rows → IsNode bits depth rows → IsNode bits depth (drop 1 rows)
-  drop_node [] l h = absurd (omega arith)
-  drop_node (r ∷ rows) l h = rest_node r rows h
-
-  pub drop_deep : (rows : List (C × V)) → 0 < length rows → IsNode bits depth rows → AreDeep bits depth (drop 1 rows)
-  drop_deep [] l h = absurd (omega arith)
-  drop_deep (r ∷ rows) l h = rest_deep r rows h
+  pub rest_default : (c : Option V) (rows : List (C × V)) → IsNode bits depth rows → ((r : C × V) → ◌≡◌ {A = Option (C × V)} (Some r) (slice_get rows 0) → depth < length (bits r.0))
+      → IsRest bits depth c rows c rows
+  rest_default c rows node far =
+      let deep = deep_from rows node far in
+      record { value_is = sym (own_none c rows deep); halves = λ b. refl; longer_is = longer_deep rows deep; node = node; deep = deep }

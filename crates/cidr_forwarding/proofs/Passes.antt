@@ -1,21 +1,20 @@
 -- What the two passes over the rows have at a network, from what they have at its halves.
-use Rattle.std.proofs.Common.{◌≡◌, ℕ, zero, suc, ◌+◌, ◌-◌, ◌<◌, ◌≤◌, Bool, true, false, List, [], ◌∷◌, ◌++◌, length, take, drop, Option, refl, sym, ap, ap₂, ◌∙◌, subst, arith, append_assoc, length-append, length-drop}
-use Rattle.std.proofs.Math.Seq.{drop-append_seam}
-use Rattle.std.proofs.lemmas.List.{take_all}
+use Rattle.std.proofs.Common.{◌≡◌, ℕ, zero, suc, ◌+◌, ◌-◌, ◌<◌, ◌≤◌, Bool, true, false, List, [], ◌∷◌, ◌++◌, length, drop, Option, refl, sym, ap, ap₂, ◌∙◌, subst, arith, inl, inr, append_assoc, length-append}
+use Rattle.std.proofs.lemmas.Bool.{cases_lt}
 use Rattle.std.specs.List.{All, AllByRecursion}
 use Rattle.std.specs.List.Sorted.{IsStrictlySortedBy}
 use Rattle.std.specs.Map.{keys_of}
+use Rattle.std.specs.Option.{option_eq}
 use Rattle.std.specs.declared.cmp.Ordering.{Ordering}
 use Rattle.std.specs.declared.cmp.Ordering.TheVariants.{Less}
 use Rattle.std.proofs.lemmas.List.Elements.{recursion_from_All}
 use Rattle.cidr.specs.model.Bits.{bit_cmp}
-use Rattle.cidr_forwarding.specs.Trees.{own, below, under, AllFitWidth, Region, Even, Halves, deeper, region}
-use Rattle.cidr_forwarding.specs.Choices.{joined_candidates, EndsIn, is_free, Measured, Fork, noted, counted}
-use Rattle.std.specs.Option.{option_eq}
-use Rattle.cidr_forwarding.specs.Plans.{tails, planned, IsNode, AreDeep, NextIs, choices}
+use Rattle.cidr_forwarding.specs.Trees.{own, below, under, AllFitWidth, Region, Even, Halves, deeper, region, IsOfHalves, OfHalves, OfEven}
+use Rattle.cidr_forwarding.specs.Choices.{joined_candidates, EndsIn, is_free, Measured, Fork, noted}
+use Rattle.cidr_forwarding.specs.Plans.{tails, planned, IsNode, AreDeep, IsRest, AreHalves, choices}
 use Rattle.cidr_forwarding.proofs.RowParts.{below_halves_false, below_halves_true}
-use Rattle.cidr_forwarding.proofs.Steps.{part, part_kept}
-use Rattle.cidr_forwarding.proofs.Splits.{split_under}
+use Rattle.cidr_forwarding.proofs.Stretches.{empty_from, part, part_kept, part_end, ends_more}
+use Rattle.cidr_forwarding.proofs.Splits.{parts_under}
 use Rattle.cidr_forwarding.proofs.Order.{Ascend}
 
 -- ---- trees
@@ -100,13 +99,6 @@ module _ {C V : Type 0} (bits : C → List Bool) where
       fits [] h = tt
       fits (r ∷ rows) h = (h.0, fits rows h.1)
 
-  -- ---- a network with no longer rows
-  pub planned_even : (d : ℕ) (c o : Option V) (rows rest : List (C × V)) → o ≡ own c (tails bits d rows)
-      → ((b : Bool) → below b (tails bits d rows) ≡ below b (tails bits d rest)) → length rest ≤ 0 → planned bits d c rows ≡ Even o
-  unfolding planned
-  planned_even d c o rows [] s h l = even_region (129 - d) c (tails bits d rows) (h false) (h true) ∙ ap Even (sym s)
-  planned_even d c o rows (r ∷ rest) s h l = absurd (omega arith)
-
   -- ---- a network with longer rows
   pub depth_small : (d : ℕ) (rest : List (C × V)) → IsNode bits d rest → AreDeep bits d rest → 0 < length rest → d < 129
   depth_small d [] node deep l = absurd (omega arith)
@@ -116,48 +108,79 @@ module _ {C V : Type 0} (bits : C → List Bool) where
   none_left d [] node deep h = omega arith
   none_left d (r ∷ rest) node deep h = absurd (omega (arith, h, depth_small d (r ∷ rest) node deep (omega arith)))
 
-  module _ (d : ℕ) (c o : Option V) (rows rest : List (C × V)) (n : ℕ) (own_is : o ≡ own c (tails bits d rows))
-      (halves : (b : Bool) → below b (tails bits d rows) ≡ below b (tails bits d rest)) (node : IsNode bits d rest) (deep : AreDeep bits d rest)
-      (some : 0 < length rest) (lower : AllByRecursion (NextIs bits d false) (take n rest)) (upper : AllByRecursion (NextIs bits d true) (drop n rest)) where
-    small : d < 129
-    small = depth_small d rest node deep some
+  planned_none : (d : ℕ) (o : Option V) → planned bits d o [] ≡ Even o
+  unfolding planned
+  planned_none d o = even_region (129 - d) o [] refl refl
 
-    left : suc (129 - (d + 1)) ≡ 129 - d
-    left = omega (arith, small)
+  node_none : (d : ℕ) → IsNode {V = V} bits d []
+  unfolding IsStrictlySortedBy
+  node_none d = record { ascending = tt; within = tt }
 
-    parts : tails bits d rest ≡ under false (tails bits (d + 1) (take n rest)) ++ under true (tails bits (d + 1) (drop n rest))
-    parts = split_under bits d rest n lower upper
-
-    pub lows_are : below false (tails bits d rows) ≡ tails bits (d + 1) (take n rest)
-    lows_are = let lows = tails bits (d + 1) (take n rest) in halves false ∙ ap (below false) parts ∙ below_halves_false lows (tails bits (d + 1) (drop n rest))
-
-    pub highs_are : below true (tails bits d rows) ≡ tails bits (d + 1) (drop n rest)
-    highs_are = let lows = tails bits (d + 1) (take n rest) in halves true ∙ ap (below true) parts ∙ below_halves_true lows (tails bits (d + 1) (drop n rest))
-
-    pub planned_halves : planned bits d c rows ≡ Halves (planned bits (d + 1) o (take n rest)) (planned bits (d + 1) o (drop n rest))
+  -- ---- by the longer rows
+  module _ {d : ℕ} {c o : Option V} {rows rest : List (C × V)} (r : IsRest bits d c rows o rest) where
+    pub planned_even : length rest ≤ 0 → planned bits d c rows ≡ Even o
     unfolding planned
-    planned_halves =
-        let lows = tails bits (d + 1) (take n rest) in
-        let highs = tails bits (d + 1) (drop n rest) in
-        ap (λ w. region w c (tails bits d rows)) (sym left)
-        ∙ halves_region (129 - (d + 1)) c o (tails bits d rows) lows highs own_is
-        lows_are highs_are
-        (omega (arith, ap length parts, length_parts lows highs, length_tails d rest, some))
+    planned_even l =
+        let none : (b : Bool) → below b (tails bits d rows) ≡ [] = λ b. r.halves b ∙ ap (λ k. below b (tails bits d k)) (empty_from rest l) in
+        even_region (129 - d) c (tails bits d rows) (none false) (none true) ∙ ap Even (sym r.value_is)
 
-    both_within : AllFitWidth (129 - (d + 1)) (tails bits (d + 1) (take n rest)) × AllFitWidth (129 - (d + 1)) (tails bits (d + 1) (drop n rest))
-    both_within =
-        within_low (129 - (d + 1)) (tails bits (d + 1) (take n rest)) (tails bits (d + 1) (drop n rest))
-        (subst (λ w. AllFitWidth w (under false (tails bits (d + 1) (take n rest)) ++ under true (tails bits (d + 1) (drop n rest)))) (sym left)
-        (subst (AllFitWidth (129 - d)) parts node.within))
+    module _ {lower upper : List (C × V)} (h : AreHalves bits d rest lower upper) where
+      parts : tails bits d rest ≡ under false (tails bits (d + 1) lower) ++ under true (tails bits (d + 1) upper)
+      parts = ap (tails bits d) h.whole ∙ parts_under bits d lower upper h.low h.high
 
-    both_ascend : Ascend (tails bits (d + 1) (take n rest)) × Ascend (tails bits (d + 1) (drop n rest))
-    both_ascend = ascend_parts (tails bits (d + 1) (take n rest)) (tails bits (d + 1) (drop n rest)) (subst Ascend parts node.ascending)
+      pub lows_are : below false (tails bits d rows) ≡ tails bits (d + 1) lower
+      lows_are = r.halves false ∙ ap (below false) parts ∙ below_halves_false (tails bits (d + 1) lower) (tails bits (d + 1) upper)
 
-    pub low_node : IsNode bits (d + 1) (take n rest)
-    low_node = record { ascending = both_ascend.0; within = both_within.0 }
+      pub highs_are : below true (tails bits d rows) ≡ tails bits (d + 1) upper
+      highs_are = r.halves true ∙ ap (below true) parts ∙ below_halves_true (tails bits (d + 1) lower) (tails bits (d + 1) upper)
 
-    pub high_node : IsNode bits (d + 1) (drop n rest)
-    high_node = record { ascending = both_ascend.1; within = both_within.1 }
+      module _ (some : 0 < length rest) where
+        small : d < 129
+        small = depth_small d rest r.node r.deep some
+
+        left : suc (129 - (d + 1)) ≡ 129 - d
+        left = omega (arith, small)
+
+        pub planned_halves : planned bits d c rows ≡ Halves (planned bits (d + 1) o lower) (planned bits (d + 1) o upper)
+        unfolding planned
+        planned_halves =
+            ap (λ w. region w c (tails bits d rows)) (sym left)
+            ∙ halves_region (129 - (d + 1)) c o (tails bits d rows) (tails bits (d + 1) lower) (tails bits (d + 1) upper) r.value_is lows_are highs_are
+            (omega (arith, ap length parts, length_parts (tails bits (d + 1) lower) (tails bits (d + 1) upper), length_tails d rest, some))
+
+        both_within : AllFitWidth (129 - (d + 1)) (tails bits (d + 1) lower) × AllFitWidth (129 - (d + 1)) (tails bits (d + 1) upper)
+        both_within =
+            within_low (129 - (d + 1)) (tails bits (d + 1) lower) (tails bits (d + 1) upper)
+            (subst (λ w. AllFitWidth w (under false (tails bits (d + 1) lower) ++ under true (tails bits (d + 1) upper))) (sym left)
+            (subst (AllFitWidth (129 - d)) parts r.node.within))
+
+        both_ascend : Ascend (tails bits (d + 1) lower) × Ascend (tails bits (d + 1) upper)
+        both_ascend = ascend_parts (tails bits (d + 1) lower) (tails bits (d + 1) upper) (subst Ascend parts r.node.ascending)
+
+        both_nodes : IsNode bits (d + 1) lower × IsNode bits (d + 1) upper
+        both_nodes = (record { ascending = both_ascend.0; within = both_within.0 }, record { ascending = both_ascend.1; within = both_within.1 })
+
+      -- ---- also where none is longer
+      none_of : length rest ≤ 0 → (lower ≡ []) × (upper ≡ [])
+      none_of n =
+          let e : length rest ≡ length lower + length upper = ap length h.whole ∙ length-append lower upper in
+          (empty_from lower (omega arith), empty_from upper (omega arith))
+
+      pub planned_of_halves : IsOfHalves (planned bits d c rows) (planned bits (d + 1) o lower) (planned bits (d + 1) o upper)
+      planned_of_halves = elim (cases_lt 0 (length rest)) [
+        | inl some ↦ OfHalves (planned_halves some)
+        | inr none ↦
+            let e = none_of none in
+            OfEven o (planned_even none) (ap (planned bits (d + 1) o) e.0 ∙ planned_none (d + 1) o) (ap (planned bits (d + 1) o) e.1 ∙ planned_none (d + 1) o)
+      ]
+
+      pub half_nodes : IsNode bits (d + 1) lower × IsNode bits (d + 1) upper
+      half_nodes = elim (cases_lt 0 (length rest)) [
+        | inl some ↦ both_nodes some
+        | inr none ↦
+            let e = none_of none in
+            (subst (IsNode bits (d + 1)) (sym e.0) (node_none (d + 1)), subst (IsNode bits (d + 1)) (sym e.1) (node_none (d + 1)))
+      ]
 
 -- ---- lists of candidates
 module _ {V : Type 0} (eq : V → V → Bool) (holes : Bool) where
@@ -169,116 +192,25 @@ module _ {V : Type 0} (eq : V → V → Bool) (holes : Bool) where
   unfolding choices
   choices_halves l r = refl
 
-module _ {X : Type 0} where
-  -- the last of a list
-  pub part_end : (whole end : List X) (start stop : ℕ) → EndsIn whole end → stop ≡ length whole → start ≡ stop - length end → part whole start stop ≡ end
-  part_end whole end start stop ends s e =
-      let len : length whole ≡ length ends.0 + length end = ap length ends.1 ∙ length-append ends.0 end in
-      let f : start ≡ length ends.0 = omega arith in
-      let n : stop - start ≡ length end = omega arith in
-      let g : drop start whole ≡ end = ap₂ drop f ends.1 ∙ drop-append_seam ends.0 end in
-      ap₂ take n g ∙ take_all (length end) end (omega arith)
-
-  pub ends_more : (xs whole end : List X) → EndsIn whole end → EndsIn (xs ++ whole) end
-  ends_more xs whole end e = (xs ++ e.0, ap (λ l. xs ++ l) e.1 ∙ sym (append_assoc xs e.0 end))
-
-  pub ends_of_end : (whole mid end : List X) → EndsIn whole mid → EndsIn mid end → EndsIn whole end
-  ends_of_end whole mid end e f = (e.0 ++ f.0, e.1 ∙ ap (λ l. e.0 ++ l) f.1 ∙ sym (append_assoc e.0 f.0 end))
-
-  pub ends_fit : (whole end : List X) → EndsIn whole end → length end ≤ length whole
-  ends_fit whole end e = omega (arith, ap length e.1, length-append e.0 end)
-
-  -- what `&xs[n..]` is
-  pub whole_rest : (n : ℕ) (xs : List X) → take (length xs - n) (drop n xs) ≡ drop n xs
-  whole_rest n xs = take_all (length xs - n) (drop n xs) (omega (arith, length-drop n xs))
-
--- ---- as the code reads them
-module _ {C V : Type 0} (bits : C → List Bool) (d : ℕ) (c o : Option V) (rows : List (C × V)) (skip : ℕ) (own_is : o ≡ own c (tails bits d rows))
-    (halves : (b : Bool) → below b (tails bits d rows) ≡ below b (tails bits d (drop skip rows))) where
-  pub read_even : length (take (length rows - skip) (drop skip rows)) ≤ 0 → planned bits d c rows ≡ Even o
-  read_even l = planned_even bits d c o rows (drop skip rows) own_is halves (omega (arith, l, ap length (whole_rest skip rows)))
-
-  module _ (node : IsNode bits d (drop skip rows)) (deep : AreDeep bits d (drop skip rows)) (rest : List (C × V)) (rest_is : rest ≡ take (length rows - skip) (drop skip rows))
-      (some : 0 < length rest) where
-    pub is_rest : drop skip rows ≡ rest
-    is_rest = sym (rest_is ∙ whole_rest skip rows)
-
-    pub read_small : d < 129
-    read_small = depth_small bits d (drop skip rows) node deep (omega (arith, some, ap length is_rest))
-
-    pub read_deep : AreDeep bits d rest
-    read_deep = subst (AreDeep bits d) is_rest deep
-
-    module _ (n : ℕ) (lower : AllByRecursion (NextIs bits d false) (take n rest)) (upper : AllByRecursion (NextIs bits d true) (drop n rest)) where
-      pub halves_rest : (b : Bool) → below b (tails bits d rows) ≡ below b (tails bits d rest)
-      halves_rest b = halves b ∙ ap (λ l. below b (tails bits d l)) is_rest
-
-      pub node_rest : IsNode bits d rest
-      node_rest = subst (IsNode bits d) is_rest node
-
-      pub read_halves : planned bits d c rows ≡ Halves (planned bits (d + 1) o (take n rest)) (planned bits (d + 1) o (take (length rest - n) (drop n rest)))
-      read_halves =
-          planned_halves bits d c o rows rest n own_is halves_rest node_rest read_deep some lower upper
-          ∙ ap (λ l. Halves (planned bits (d + 1) o (take n rest)) (planned bits (d + 1) o l)) (sym (whole_rest n rest))
-
-      pub read_lows : below false (tails bits d rows) ≡ tails bits (d + 1) (take n rest)
-      read_lows = lows_are bits d c o rows rest n own_is halves_rest node_rest read_deep some lower upper
-
-      pub read_highs : below true (tails bits d rows) ≡ tails bits (d + 1) (take (length rest - n) (drop n rest))
-      read_highs = highs_are bits d c o rows rest n own_is halves_rest node_rest read_deep some lower upper ∙ ap (tails bits (d + 1)) (sym (whole_rest n rest))
-
-      pub read_low : IsNode bits (d + 1) (take n rest)
-      read_low = low_node bits d c o rows rest n own_is halves_rest node_rest read_deep some lower upper
-
-      pub read_high : IsNode bits (d + 1) (take (length rest - n) (drop n rest))
-      read_high = subst (IsNode bits (d + 1)) (sym (whole_rest n rest)) (high_node bits d c o rows rest n own_is halves_rest node_rest read_deep some lower upper)
-
 -- ---- what the first pass appends
+pub fork_ends : {X : Type 0} {n_t n_l n_r : Measured X} {s : List X} → n_t ≡ Fork s n_l n_r → EndsIn (noted n_t) s
+fork_ends {n_l = n_l} {n_r = n_r} {s = s} e = (noted n_r ++ noted n_l, ap noted e ∙ sym (append_assoc (noted n_r) (noted n_l) s))
+
+-- with the one candidate last
+pub one_last : {X : Type 0} {s l : List X} {o : X} (front : List X) → s ≡ o ∷ [] → l ≡ front ++ o ∷ [] → (1 ≡ length s) × EndsIn l s
+one_last front c e = (sym (ap length c), (front, e ∙ ap (λ k. front ++ k) (sym c)))
+
 module _ {V : Type 0} (eq : V → V → Bool) (holes : Bool) where
-  module _ (t l r : Region (Option V)) (n_t n_l n_r : Measured (Option V)) (is : t ≡ Halves l r) (fork : n_t ≡ Fork (choices eq holes t) n_l n_r)
-      (v0 v1 v2 v3 : List (Option V)) (low high n : ℕ) (low_is : (low ≡ length (choices eq holes l)) × EndsIn (noted n_l) (choices eq holes l))
-      (high_is : (high ≡ length (choices eq holes r)) × EndsIn (noted n_r) (choices eq holes r))
-      (first : v1 ≡ v0 ++ noted n_r) (second : v2 ≡ v1 ++ noted n_l) (stop other : ℕ) (stop_is : stop ≡ length v2) (other_is : other ≡ length v1)
-      (last : (v3 ≡ v2 ++ joined_candidates (option_eq eq) (is_free holes) (part v2 (stop - low) stop) (part v2 (other - high) other))
-      × (n ≡ length (joined_candidates (option_eq eq) (is_free holes) (part v2 (stop - low) stop) (part v2 (other - high) other)))) where
-    low_part : part v2 (stop - low) stop ≡ choices eq holes l
-    low_part =
-        part_end v2 (choices eq holes l) (stop - low) stop (subst (λ v. EndsIn v (choices eq holes l)) (sym second) (ends_more v1 (noted n_l) (choices eq holes l) low_is.1))
-        stop_is (omega (arith, low_is.0))
-
-    high_part : part v2 (other - high) other ≡ choices eq holes r
-    high_part =
-        ap (λ v. part v (other - high) other) second
-        ∙ part_kept v1 (noted n_l) (other - high) other (omega arith) (omega (arith, other_is))
-        ∙ part_end v1 (choices eq holes r) (other - high) other (subst (λ v. EndsIn v (choices eq holes r)) (sym first) (ends_more v0 (noted n_r) (choices eq holes r) high_is.1))
-        other_is (omega (arith, high_is.0))
-
-    both : joined_candidates (option_eq eq) (is_free holes) (part v2 (stop - low) stop) (part v2 (other - high) other) ≡ choices eq holes t
-    both = ap₂ (joined_candidates (option_eq eq) (is_free holes)) low_part high_part ∙ sym (choices_halves eq holes l r) ∙ ap (choices eq holes) (sym is)
-
-    pub measured_last : (n ≡ length (choices eq holes t)) × EndsIn (noted n_t) (choices eq holes t)
-    measured_last = (
-      last.1 ∙ ap length both,
-      (noted n_r ++ noted n_l, ap noted fork ∙ sym (append_assoc (noted n_r) (noted n_l) (choices eq holes t))),
-    )
-
-    pub measured_values : v3 ≡ v0 ++ noted n_t
-    measured_values =
-        let j = choices eq holes t in
-        last.0 ∙ ap₂ (λ x y. x ++ y) (second ∙ ap (λ v. v ++ noted n_l) first) both
-        ∙ ap (λ v. v ++ j) (append_assoc v0 (noted n_r) (noted n_l))
-        ∙ append_assoc v0 (noted n_r ++ noted n_l) j
-        ∙ ap (λ v. v0 ++ v) (append_assoc (noted n_r) (noted n_l) j ∙ ap noted (sym fork))
-
-    pub measured_counts : (c0 c1 c2 c3 : List ℕ) → c1 ≡ c0 ++ counted n_r → c2 ≡ c1 ++ counted n_l → c3 ≡ c2 ++ n ∷ [] → c3 ≡ c0 ++ counted n_t
-    measured_counts c0 c1 c2 c3 e f g =
-        let j : List ℕ = length (choices eq holes t) ∷ [] in
-        g ∙ ap₂ (λ x k. x ++ k ∷ []) (f ∙ ap (λ v. v ++ counted n_l) e) measured_last.0
-        ∙ ap (λ v. v ++ j) (append_assoc c0 (counted n_r) (counted n_l))
-        ∙ append_assoc c0 (counted n_r ++ counted n_l) j
-        ∙ ap (λ v. c0 ++ v) (append_assoc (counted n_r) (counted n_l) j ∙ ap counted (sym fork))
-
-  -- with the one candidate last
-  pub noted_one : (t : Region (Option V)) (n_t : Measured (Option V)) (o : Option V) (front : List (Option V)) → choices eq holes t ≡ o ∷ [] → noted n_t ≡ front ++ o ∷ []
-      → (1 ≡ length (choices eq holes t)) × EndsIn (noted n_t) (choices eq holes t)
-  noted_one t n_t o front c e = (sym (ap length c), (front, e ∙ ap (λ l. front ++ l) (sym c)))
+  -- the candidates of both halves, as they are read
+  pub parts_joined : {t l r : Region (Option V)} (n_l n_r : Measured (Option V)) → t ≡ Halves l r → (v0 v1 d e : List (Option V)) {low high : ℕ}
+      → (low ≡ length (choices eq holes l)) × EndsIn (noted n_l) (choices eq holes l) → (high ≡ length (choices eq holes r)) × EndsIn (noted n_r) (choices eq holes r)
+      → v1 ≡ v0 ++ noted n_r → d ≡ v1 ++ noted n_l → e ≡ v1 ++ noted n_l → {start middle : ℕ} → start ≡ length d - low → middle ≡ length v1
+      → joined_candidates (option_eq eq) (is_free holes) (part d start (length d)) (part e (middle - high) middle) ≡ choices eq holes t
+  parts_joined {t = t} {l = l} {r = r} n_l n_r is v0 v1 d e {low = low} {high = high} low_is high_is first second again {start = start} {middle = middle} s m =
+      let lower : part d start (length d) ≡ choices eq holes l =
+      ap (λ k. part d k (length d)) s
+      ∙ part_end d (choices eq holes l) low (length d) (subst (λ v. EndsIn v (choices eq holes l)) (sym second) (ends_more v1 low_is.1)) low_is.0 refl in
+      let upper : part e (middle - high) middle ≡ choices eq holes r =
+      ap (λ v. part v (middle - high) middle) again ∙ part_kept v1 (noted n_l) (middle - high) middle (omega arith) (omega (arith, m))
+      ∙ part_end v1 (choices eq holes r) high middle (subst (λ v. EndsIn v (choices eq holes r)) (sym first) (ends_more v0 high_is.1)) high_is.0 m in
+      ap₂ (joined_candidates (option_eq eq) (is_free holes)) lower upper ∙ sym (choices_halves eq holes l r) ∙ ap (choices eq holes) (sym is)

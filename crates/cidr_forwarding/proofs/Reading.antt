@@ -1,51 +1,23 @@
--- What the first pass leaves of a network, as the code reads its rows.
-use Rattle.std.proofs.Common.{◌≡◌, ℕ, zero, suc, ◌+◌, ◌-◌, ◌<◌, ◌≤◌, ◌==◌, Bool, true, false, List, [], ◌∷◌, ◌++◌, length, take, drop, slice_get, Option, Some, None, refl, sym, ap, ap₂, ◌∙◌, subst, arith, true≢false}
+-- What the rows of a network are, as they are read.
+use Rattle.std.proofs.Common.{◌≡◌, ℕ, zero, suc, ◌+◌, ◌-◌, ◌<◌, ◌≤◌, Bool, true, false, List, [], ◌∷◌, ◌++◌, length, get_or, take, Option, Some, None, refl, sym, ap, ap₂, ◌∙◌, subst, arith, length-append}
 use Rattle.std.specs.Bool.{Decides}
-use Rattle.std.specs.List.{AllByRecursion}
 use Rattle.std.specs.Option.{option_eq}
 use Rattle.cidr.specs.model.Network.{HasWidth}
-use Rattle.cidr_forwarding.specs.Trees.{own, below, region, longer_step, longer, dropped, sharing}
+use Rattle.cidr_forwarding.specs.Trees.{own, below, region, longer, dropped, sharing}
 use Rattle.cidr_forwarding.specs.Choices.{is_free, candidates, fill, Measured, Sole, Fork, Chain, measured_at, measured_of}
-use Rattle.cidr_forwarding.specs.Plans.{tails, planned, IsNode, AreDeep, NextIs, behind, choices, measured, put_rows}
+use Rattle.cidr_forwarding.specs.Plans.{tails, planned, IsNode, IsRest, AreHalves, AreOf, behind, choices, measured, put_rows, fill_rows}
+use Rattle.cidr_forwarding.specs.Opened.{IsEnded, IsNarrowed, IsParted}
+use Rattle.cidr_forwarding.proofs.Stretches.{empty_from}
 use Rattle.cidr_forwarding.proofs.RowParts.{AreFree}
 use Rattle.cidr_forwarding.proofs.Shapes.{fits_width, at_region}
 use Rattle.cidr_forwarding.proofs.Smallest.{decides_option}
 use Rattle.cidr_forwarding.proofs.Fewest.{pinned}
-use Rattle.cidr_forwarding.proofs.Nodes.{shallow, rest_deep, own_none}
-use Rattle.cidr_forwarding.proofs.Passes.{length_tails, whole_rest, is_rest, read_small, read_lows, read_highs}
-use Rattle.cidr_forwarding.proofs.Placing.{behind_nothing, fill_rows}
+use Rattle.cidr_forwarding.proofs.Nodes.{own_none}
+use Rattle.cidr_forwarding.proofs.Splits.{longer_than, deep_at}
+use Rattle.cidr_forwarding.proofs.Passes.{length_tails, depth_small, planned_even, planned_halves, half_nodes, lows_are, highs_are, choices_even}
+use Rattle.cidr_forwarding.proofs.Placing.{behind_nothing, of_parts, of_at, of_half}
 use Rattle.cidr_forwarding.proofs.Chains.{walk, Pins, one_candidate, fill_walk, region_behind, region_rest}
-use Rattle.cidr_forwarding.proofs.Sharing.{more_bits, length_more, more_tails, more_fits, more_node}
-
-pub not_empty : (n : ℕ) → (n == 0) ≡ false → 0 < n
-not_empty zero h = absurd (true≢false h)
-not_empty (suc n) h = omega arith
-
--- ---- the rows that have a bit
-module _ {C V : Type 0} (bits : C → List Bool) (d : ℕ) where
-  longer_one : (p : List Bool) (x : Option V) (rest : List (List Bool × Option V)) → (p ≡ [] → ⊥) → longer_step p x rest ≡ (p, x) ∷ rest
-  longer_one [] x rest n = absurd (n refl)
-  longer_one (b ∷ p) x rest n = refl
-
-  pub longer_deep : (rows : List (C × V)) → AreDeep bits d rows → longer (tails bits d rows) ≡ tails bits d rows
-  longer_deep [] h = refl
-  longer_deep (r ∷ rows) h = longer_one (drop d (bits r.0)) (Some r.1) (longer (tails bits d rows)) h.0 ∙ ap (λ l. (drop d (bits r.0), Some r.1) ∷ l) (longer_deep rows h.1)
-
-  pub longer_rest : (r : C × V) (rows : List (C × V)) → length (bits r.0) ≤ d → AreDeep bits d rows → longer (tails bits d (r ∷ rows)) ≡ tails bits d rows
-  longer_rest r rows s h = ap (λ p. longer_step p (Some r.1) (longer (tails bits d rows))) (shallow d (bits r.0) s) ∙ longer_deep rows h
-
-  -- by the first row, as it is read
-  pub longer_first : (rows : List (C × V)) (r : C × V) → ◌≡◌ {A = Option (C × V)} (Some r) (slice_get rows 0) → IsNode bits d rows → length (bits r.0) ≤ d
-      → longer (tails bits d rows) ≡ tails bits d (drop 1 rows)
-  longer_first [] r e h l = absurd (cc)
-  longer_first (s ∷ rows) r e h l =
-      let f : s ≡ r = cc in
-      longer_rest s rows (subst (λ (x : C × V). length (bits x.0) ≤ d) (sym f) l) (rest_deep bits d s rows h)
-
-  -- ---- no rows
-  tails_none : (rows : List (C × V)) → length rows ≤ 0 → tails bits d rows ≡ []
-  tails_none [] h = refl
-  tails_none (r ∷ rows) h = absurd (omega arith)
+use Rattle.cidr_forwarding.proofs.Sharing.{more_bits, length_more, more_tails, more_fits, more_node, more_of}
 
 module _ {X : Type 0} (same : X → X → Bool) (free : X → Bool) where
   sole_of : (w : ℕ) (c : X) (rows : List (List Bool × X)) → longer rows ≡ [] → measured_of same free w 0 c rows ≡ Sole (own c rows)
@@ -116,65 +88,89 @@ tails_free : {C V : Type 0} → (bits : C → List Bool) (holes : Bool) (d : ℕ
 tails_free bits holes d [] = tt
 tails_free bits holes d (r ∷ rows) = (some_free holes r.1, tails_free bits holes d rows)
 
--- ---- as the code reads them
-module _ {C V : Type 0} (bits : C → List Bool) (eq : V → V → Bool) (holes : Bool) (d : ℕ) (c o : Option V) (rows : List (C × V)) (skip : ℕ) (own_is : o ≡ own c (tails bits d rows))
-    (halves : (b : Bool) → below b (tails bits d rows) ≡ below b (tails bits d (drop skip rows))) (longer_is : longer (tails bits d rows) ≡ tails bits d (drop skip rows)) where
-  pub read_sole : length (take (length rows - skip) (drop skip rows)) ≤ 0 → measured bits eq holes d c rows ≡ Sole o
+-- ---- by halves
+module _ {C V : Type 0} {bits : C → List Bool} {d : ℕ} {rest lower upper : List (C × V)} (h : AreHalves bits d rest lower upper) where
+  pub lower_of : (q : List Bool) → length q ≡ d → AreOf bits q rest → AreOf bits (q ++ false ∷ []) lower
+  lower_of q l k = of_half bits q d false lower l ((of_parts bits q lower upper (subst (AreOf bits q) h.whole k)).0) h.low
+
+  pub upper_of : (q : List Bool) → length q ≡ d → AreOf bits q rest → AreOf bits (q ++ true ∷ []) upper
+  upper_of q l k = of_half bits q d true upper l ((of_parts bits q lower upper (subst (AreOf bits q) h.whole k)).1) h.high
+
+-- ---- the rows as they are opened
+module _ {C V : Type 0} {bits : C → List Bool} (eq : V → V → Bool) (holes : Bool) {d : ℕ} {c o : Option V} {rows rest : List (C × V)} (r : IsRest bits d c rows o rest) where
+  pub ended : length rest ≤ 0 → IsEnded bits eq holes d c rows o
   unfolding measured
-  read_sole l =
-      sole_of (option_eq eq) (is_free holes) (129 - d) c (tails bits d rows) (longer_is ∙ tails_none bits d (drop skip rows) (omega (arith, l, ap length (whole_rest skip rows))))
-      ∙ ap Sole (sym own_is)
+  ended l = record {
+    plan = planned_even bits r l;
+    only = ap (choices eq holes) (planned_even bits r l) ∙ choices_even eq holes o;
+    left =
+        sole_of (option_eq eq) (is_free holes) (129 - d) c (tails bits d rows) (r.longer_is ∙ ap (tails bits d) (empty_from rest l)) ∙ ap Sole (sym r.value_is);
+  }
 
-  module _ (node : IsNode bits d (drop skip rows)) (deep : AreDeep bits d (drop skip rows)) (rest : List (C × V)) (rest_is : rest ≡ take (length rows - skip) (drop skip rows))
-      (some : 0 < length rest) where
-    at_rest : drop skip rows ≡ rest
-    at_rest = is_rest bits d c o rows skip own_is halves node deep rest rest_is some
-
-    longer_here : longer (tails bits d rows) ≡ tails bits d rest
-    longer_here = longer_is ∙ ap (tails bits d) at_rest
-
+  module _ (some : 0 < length rest) (of : (q : List Bool) → AreOf bits q rows → AreOf bits q rest) where
     some_tails : 0 < length (tails bits d rest)
     some_tails = omega (arith, some, length_tails bits d rest)
 
     small : d < 129
-    small = read_small bits d c o rows skip own_is halves node deep rest rest_is some
+    small = depth_small bits d rest r.node r.deep some
 
-    pub node_here : IsNode bits d rest
-    node_here = subst (IsNode bits d) at_rest node
-
-    module _ (n : ℕ) (lower : AllByRecursion (NextIs bits d false) (take n rest)) (upper : AllByRecursion (NextIs bits d true) (drop n rest)) (few : sharing (tails bits d rest) ≤ 1) where
-      pub read_fork : measured bits eq holes d c rows
-          ≡ Fork (choices eq holes (planned bits d c rows)) (measured bits eq holes (d + 1) o (take n rest)) (measured bits eq holes (d + 1) o (take (length rest - n) (drop n rest)))
+    -- the rows of both halves, and a key of them
+    module _ {lower upper : List (C × V)} (h : AreHalves bits d rest lower upper) (few : sharing (tails bits d rest) ≤ 1) where
+      left_fork : measured bits eq holes d c rows
+          ≡ Fork (choices eq holes (planned bits d c rows)) (measured bits eq holes (d + 1) o lower) (measured bits eq holes (d + 1) o upper)
       unfolding measured choices planned
-      read_fork =
-          let lows = tails bits (d + 1) (take n rest) in
-          let highs = tails bits (d + 1) (take (length rest - n) (drop n rest)) in
+      left_fork =
+          let lows = tails bits (d + 1) lower in
+          let highs = tails bits (d + 1) upper in
           let w = 129 - (d + 1) in
           let left : suc w ≡ 129 - d = omega (arith, small) in
           subst (λ k. measured_of (option_eq eq) (is_free holes) k 0 c (tails bits d rows)
           ≡ Fork (candidates (option_eq eq) (is_free holes) (region k c (tails bits d rows))) (measured_of (option_eq eq) (is_free holes) w 0 o lows) (measured_of (option_eq eq) (is_free holes) w 0 o highs)) left
-          (fork_of (option_eq eq) (is_free holes) w c o (tails bits d rows) (tails bits d rest) lows highs longer_here some_tails few own_is
-          (read_lows bits d c o rows skip own_is halves node deep rest rest_is some n lower upper)
-          (read_highs bits d c o rows skip own_is halves node deep rest rest_is some n lower upper))
+          (fork_of (option_eq eq) (is_free holes) w c o (tails bits d rows) (tails bits d rest) lows highs r.longer_is some_tails few r.value_is (lows_are bits r h) (highs_are bits r h))
 
+      pub parted : (first : C × V) → first ≡ get_or rest 0 first → IsParted bits eq holes d c rows o (get_or rest 0 first).0 lower upper
+      parted first is =
+          let nodes = half_nodes bits r h in
+          let of_first : IsParted bits eq holes d c rows o first.0 lower upper = record {
+            small = small;
+            long = longer_than d (bits first.0) (deep_at bits d rest 0 first r.deep some is);
+            key_of = λ q l k. ap (λ n. take n (bits first.0)) (sym l) ∙ of_at bits q rest 0 first some (of q k) is;
+            low_node = nodes.0;
+            high_node = nodes.1;
+            low_of = λ q l k. lower_of h q l (of q k);
+            high_of = λ q l k. upper_of h q l (of q k);
+            plan = planned_halves bits r h some;
+            left = left_fork;
+          } in
+          subst (λ (x : C × V). IsParted bits eq holes d c rows o x.0 lower upper) is of_first
+
+    -- the rows of a network that is at least two bits longer
     module _ (decides : (x y : V) → Decides (eq x y) (x ≡ y)) (many : 2 ≤ sharing (tails bits d rest)) (n : ℕ) (n_is : n ≡ d + sharing (tails bits d rest)) where
-      abbrev pub more : List Bool
-      more = more_bits bits d rest node_here
+      more : List Bool
+      more = more_bits bits d rest r.node
+
+      long : length more ≡ sharing (tails bits d rest)
+      unfolding more
+      long = length_more bits d rest r.node
 
       tails_are : tails bits d rest ≡ behind more (tails bits n rest)
-      tails_are = more_tails bits d rest node_here ∙ ap (λ k. behind more (tails bits k rest)) (sym n_is)
+      unfolding more
+      tails_are = more_tails bits d rest r.node ∙ ap (λ k. behind more (tails bits k rest)) (sym n_is)
 
-      room : 129 - d ≡ length more + (129 - n)
-      room = omega (arith, small, n_is, length_more bits d rest node_here, more_fits bits d rest node_here small)
+      fits : n ≤ 129
+      fits = omega (arith, n_is, more_fits bits d rest r.node small)
 
-      pub node_inside : IsNode bits n rest
-      node_inside = subst (λ k. IsNode bits k rest) (sym n_is) (more_node bits d rest node_here small)
+      space : 129 - d ≡ length more + (129 - n)
+      space = omega (arith, small, n_is, long, fits)
 
-      pub read_chain : measured bits eq holes d c rows ≡ Chain o (measured bits eq holes n o rest)
+      node_inside : IsNode bits n rest
+      node_inside = subst (λ k. IsNode bits k rest) (sym n_is) (more_node bits d rest r.node small)
+
+      left_chain : measured bits eq holes d c rows ≡ Chain o (measured bits eq holes n o rest)
       unfolding measured
-      read_chain =
-          chain_of (option_eq eq) (is_free holes) more (129 - n) (129 - d) c o (tails bits d rows) (tails bits d rest) (tails bits n rest) longer_here tails_are
-          (sym (length_more bits d rest node_here)) (omega (arith, many, length_more bits d rest node_here)) some_tails own_is room
+      left_chain =
+          chain_of (option_eq eq) (is_free holes) more (129 - n) (129 - d) c o (tails bits d rows) (tails bits d rest) (tails bits n rest) r.longer_is tails_are
+          (sym long) (omega (arith, many, long)) some_tails r.value_is space
 
       region_is : planned bits d c rows ≡ walk o more (planned bits n o rest)
       unfolding planned
@@ -182,27 +178,45 @@ module _ {C V : Type 0} (bits : C → List Bool) (eq : V → V → Bool) (holes 
           let v = 129 - (d + 1) in
           let left : 129 - d ≡ suc v = omega (arith, small) in
           ap (λ k. region k c (tails bits d rows)) left
-          ∙ region_rest v c o (tails bits d rows) (tails bits d rest) own_is (own_none bits d o rest (subst (AreDeep bits d) at_rest deep))
-          (λ b. halves b ∙ ap (λ l. below b (tails bits d l)) at_rest)
+          ∙ region_rest v c o (tails bits d rows) (tails bits d rest) r.value_is (own_none bits d o rest r.deep) r.halves
           ∙ ap (λ l. region (suc v) o l) tails_are
-          ∙ region_behind more (129 - n) (suc v) o (tails bits n rest) (sym left ∙ room) (omega (arith, some, length_tails bits n rest))
+          ∙ region_behind more (129 - n) (suc v) o (tails bits n rest) (sym left ∙ space) (omega (arith, some, length_tails bits n rest))
 
       pins : Pins (option_eq eq) (decides_option eq decides) (is_free holes) o (candidates (option_eq eq) (is_free holes) (planned bits n o rest))
       unfolding planned
       pins =
           let w = 129 - n in
-          let fits = fits_width w w o (tails bits n rest) (HasWidth w) (omega arith) node_inside.within (λ a e. e) (λ a e. e) in
-          pinned (option_eq eq) (is_free holes) (decides_option eq decides) (region w o (tails bits n rest)) (HasWidth w) o (tails bits n rest) fits (tails_free bits holes n rest)
-          (λ a m. sym (at_region w o (tails bits n rest) (HasWidth w) node_inside.within fits a m))
+          let fitted = fits_width w w o (tails bits n rest) (HasWidth w) (omega arith) node_inside.within (λ a e. e) (λ a e. e) in
+          pinned (option_eq eq) (is_free holes) (decides_option eq decides) (region w o (tails bits n rest)) (HasWidth w) o (tails bits n rest) fitted (tails_free bits holes n rest)
+          (λ a m. sym (at_region w o (tails bits n rest) (HasWidth w) node_inside.within fitted a m))
 
-      pub read_one : choices eq holes (planned bits d c rows) ≡ o ∷ []
+      one_choice : choices eq holes (planned bits d c rows) ≡ o ∷ []
       unfolding choices
-      read_one =
+      one_choice =
           ap (candidates (option_eq eq) (is_free holes)) region_is
-          ∙ one_candidate (option_eq eq) (decides_option eq decides) (is_free holes) o (planned bits n o rest) pins more (omega (arith, many, length_more bits d rest node_here))
+          ∙ one_candidate (option_eq eq) (decides_option eq decides) (is_free holes) o (planned bits n o rest) pins more (omega (arith, many, long))
 
-      pub read_fill : fill_rows eq holes (planned bits d c rows) o ≡ behind more (put_rows eq holes (planned bits n o rest) o)
+      filled : fill_rows eq holes (planned bits d c rows) o ≡ behind more (put_rows eq holes (planned bits n o rest) o)
       unfolding fill_rows put_rows
-      read_fill =
+      filled =
           ap (λ t. fill (option_eq eq) (is_free holes) None t o) region_is
-          ∙ fill_walk (option_eq eq) (decides_option eq decides) (is_free holes) o (planned bits n o rest) pins None more (omega (arith, many, length_more bits d rest node_here))
+          ∙ fill_walk (option_eq eq) (decides_option eq decides) (is_free holes) o (planned bits n o rest) pins None more (omega (arith, many, long))
+
+      pub narrowed : (first : C × V) → first ≡ get_or rest 0 first → IsNarrowed bits eq holes d c rows o (get_or rest 0 first).0 rest n
+      unfolding more
+      narrowed first is =
+          let inside_of : (q : List Bool) → length q ≡ d → AreOf bits q rows → AreOf bits (q ++ more) rest = λ q l k. more_of bits d rest r.node q l (of q k) in
+          let of_first : IsNarrowed bits eq holes d c rows o first.0 rest n = record {
+            more = more_bits bits d rest r.node;
+            long = n_is ∙ ap (λ k. d + k) (sym long);
+            two = omega (arith, many, long);
+            within = fits;
+            key_of = λ q l k.
+                ap (λ i. take i (bits first.0)) (omega (arith, length-append q more, l, n_is, long)) ∙ of_at bits (q ++ more) rest 0 first some (inside_of q l k) is;
+            node = node_inside;
+            of = inside_of;
+            only = one_choice;
+            filled = filled;
+            left = left_chain;
+          } in
+          subst (λ (x : C × V). IsNarrowed bits eq holes d c rows o x.0 rest n) is of_first

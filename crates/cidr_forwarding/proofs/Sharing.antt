@@ -1,5 +1,5 @@
 -- Bits that lists share: those of the first row and the last one are those of all rows between.
-use Rattle.std.proofs.Common.{◌≡◌, ℕ, zero, suc, ◌+◌, ◌-◌, ◌<◌, ◌≤◌, Bool, true, false, List, [], ◌∷◌, ◌++◌, length, get_or, take, drop, Option, Some, refl, sym, ap, ap₂, ◌∙◌, subst, arith, append-nil, append_assoc, length-append, length-take-le, drop-drop, take-add}
+use Rattle.std.proofs.Common.{◌≡◌, ℕ, zero, suc, ◌+◌, ◌-◌, ◌<◌, ◌≤◌, Bool, true, false, List, [], ◌∷◌, ◌++◌, length, get_or, take, drop, Option, Some, refl, sym, ap, ap₂, ◌∙◌, subst, arith, append-nil, append_assoc, length-append, length-take-le, drop-drop}
 use Rattle.std.proofs.Math.Seq.{take-append_seam}
 use Rattle.std.proofs.lemmas.List.{take-append-drop}
 use Rattle.std.specs.List.{AllByRecursion}
@@ -10,10 +10,10 @@ use Rattle.cidr.specs.model.Bits.{bit_cmp}
 use Rattle.cidr.specs.model.Network.{BeginsWith}
 use Rattle.cidr.specs.model.BitString.{IsSharedLength}
 use Rattle.cidr_forwarding.specs.Trees.{under, AllFitWidth, common, last_key, sharing}
-use Rattle.cidr_forwarding.specs.Plans.{tails, IsNode, NextIs, AreOf, AreOfOne, behind}
+use Rattle.cidr_forwarding.specs.Plans.{tails, IsNode, AreOf, AreOfOne, behind}
 use Rattle.cidr_forwarding.proofs.Order.{Ascend}
-use Rattle.cidr_forwarding.proofs.Passes.{ascend_high, ascend_parts, whole_rest}
-use Rattle.cidr_forwarding.proofs.Placing.{under_behind, behind_nothing, of_drop, of_take, of_half}
+use Rattle.cidr_forwarding.proofs.Passes.{ascend_high, ascend_parts}
+use Rattle.cidr_forwarding.proofs.Placing.{under_behind, behind_nothing, of_at}
 
 -- ---- two lists
 common_take : (a k : List Bool) (m : ℕ) → m ≤ common a k → take m k ≡ take m a
@@ -121,11 +121,6 @@ apart_from q d p l h = sym (take-append-drop d p) ∙ ap (λ x. x ++ drop d p) (
 
 -- ---- rows of a type of networks
 module _ {C V : Type 0} (bits : C → List Bool) where
-  of_at : (q : List Bool) (rows : List (C × V)) (i : ℕ) (r : C × V) → i < length rows → AreOf bits q rows → r ≡ get_or rows i r → take (length q) (bits r.0) ≡ q
-  of_at q [] i r l h e = absurd (omega arith)
-  of_at q (s ∷ rows) zero r l h e = subst (λ (x : C × V). take (length q) (bits x.0) ≡ q) (sym e) h.0
-  of_at q (s ∷ rows) (suc i) r l h e = of_at q rows i r (omega arith) h.1 e
-
   last_at : (d : ℕ) (r : C × V) (rows : List (C × V)) (last : C × V) → last ≡ get_or (r ∷ rows) (length rows) last
       → last_key (drop d (bits r.0)) (tails bits d rows) ≡ drop d (bits last.0)
   last_at d r [] last e = ap (λ (x : C × V). drop d (bits x.0)) (sym e)
@@ -138,8 +133,8 @@ module _ {C V : Type 0} (bits : C → List Bool) where
       let q = one.0 in
       let at : length (r ∷ rows) - 1 ≡ length rows = omega arith in
       let l' : last ≡ get_or (r ∷ rows) (length rows) last = l ∙ ap (λ i. get_or (r ∷ rows) i last) at in
-      let a : bits first.0 ≡ q ++ drop d (bits first.0) = apart_from q d (bits first.0) one.1 (of_at q (r ∷ rows) 0 first some one.2 f) in
-      let b : bits last.0 ≡ q ++ drop d (bits last.0) = apart_from q d (bits last.0) one.1 (of_at q (r ∷ rows) (length rows) last (omega arith) one.2 l') in
+      let a : bits first.0 ≡ q ++ drop d (bits first.0) = apart_from q d (bits first.0) one.1 (of_at bits q (r ∷ rows) 0 first some one.2 f) in
+      let b : bits last.0 ≡ q ++ drop d (bits last.0) = apart_from q d (bits last.0) one.1 (of_at bits q (r ∷ rows) (length rows) last (omega arith) one.2 l') in
       let e : common (bits first.0) (bits last.0) ≡ length q + common (drop d (bits first.0)) (drop d (bits last.0)) =
       ap₂ common a b ∙ common_behind q (drop d (bits first.0)) (drop d (bits last.0)) in
       let s : sharing (tails bits d (r ∷ rows)) ≡ common (drop d (bits first.0)) (drop d (bits last.0)) =
@@ -211,37 +206,3 @@ module _ {C V : Type 0} (bits : C → List Bool) where
 
     pub more_of : (q : List Bool) → length q ≡ d → AreOf bits q rows → AreOf bits (q ++ more_bits) rows
     more_of q l h = of_behind q more_bits d (d + sharing (tails bits d rows)) rows l h more_begin
-
-  pub more_one : (d : ℕ) (rows : List (C × V)) (node : IsNode bits d rows) → AreOfOne bits d rows → AreOfOne bits (d + sharing (tails bits d rows)) rows
-  more_one d rows node one = (
-    one.0 ++ more_bits d rows node,
-    length-append one.0 (more_bits d rows node) ∙ omega (arith, one.1, length_more d rows node),
-    more_of d rows node one.0 one.1 one.2,
-  )
-
-  -- as the code makes it of the first row
-  pub inside_bits : (d : ℕ) (rows : List (C × V)) (node : IsNode bits d rows) (q inside : List Bool) (r : C × V) → length q ≡ d → 0 < length rows → AreOf bits q rows
-      → r ≡ get_or rows 0 r → inside ≡ take (d + sharing (tails bits d rows)) (bits (get_or rows 0 r).0) → inside ≡ q ++ more_bits d rows node
-  inside_bits d [] node q inside r l some of e h = absurd (omega arith)
-  inside_bits d (s ∷ rows) node q inside r l some of e h =
-      h ∙ take-add d (sharing (tails bits d (s ∷ rows))) (bits s.0)
-      ∙ ap (λ x. x ++ take (sharing (tails bits d (s ∷ rows))) (drop d (bits s.0))) (ap (λ i. take i (bits s.0)) (sym l) ∙ of.0)
-
-  -- ---- the network of parts of rows
-  pub one_rest : (d k n : ℕ) (rows : List (C × V)) → AreOfOne bits d rows → AreOfOne bits d (take k (drop n rows))
-  one_rest d k n rows one = (one.0, one.1, of_take bits one.0 k (drop n rows) (of_drop bits one.0 n rows one.2))
-
-  one_half : (d : ℕ) (b : Bool) (rows : List (C × V)) → AreOfOne bits d rows → AllByRecursion (NextIs bits d b) rows → AreOfOne bits (d + 1) rows
-  one_half d b rows one next = (
-    one.0 ++ b ∷ [],
-    length-append one.0 (b ∷ []) ∙ omega (arith, one.1),
-    of_half bits one.0 d b (one.0 ++ b ∷ []) rows one.1 refl one.2 next,
-  )
-
-  pub one_lower : (d n : ℕ) (rest : List (C × V)) → AreOfOne bits d rest → AllByRecursion (NextIs bits d false) (take n rest) → AreOfOne bits (d + 1) (take n rest)
-  one_lower d n rest one next = one_half d false (take n rest) (one.0, one.1, of_take bits one.0 n rest one.2) next
-
-  pub one_upper : (d n : ℕ) (rest : List (C × V)) → AreOfOne bits d rest → AllByRecursion (NextIs bits d true) (drop n rest)
-      → AreOfOne bits (d + 1) (take (length rest - n) (drop n rest))
-  one_upper d n rest one next =
-      subst (AreOfOne bits (d + 1)) (sym (whole_rest n rest)) (one_half d true (drop n rest) (one.0, one.1, of_drop bits one.0 n rest one.2) next)

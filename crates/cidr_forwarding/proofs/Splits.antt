@@ -8,7 +8,7 @@ use Rattle.std.specs.Map.{keys_of}
 use Rattle.std.specs.declared.cmp.Ordering.TheVariants.{Less}
 use Rattle.cidr.specs.model.Bits.{bit_cmp}
 use Rattle.cidr_forwarding.specs.Trees.{under}
-use Rattle.cidr_forwarding.specs.Plans.{tails, IsNode, AreDeep, NextIs}
+use Rattle.cidr_forwarding.specs.Plans.{tails, IsNode, AreDeep, NextIs, AreHalves}
 
 -- ---- one list of bits
 next_suc : (p : List Bool) (d : ℕ) (b : Bool) → slice_get p d ≡ Some b → drop d p ≡ b ∷ drop (suc d) p
@@ -150,11 +150,12 @@ module _ {C V : Type 0} (bits : C → List Bool) (depth : ℕ) where
   parts_under [] ys h k = highs_under ys k
   parts_under (x ∷ xs) ys h k = ap₂ (λ p rows. (p, Some x.1) ∷ rows) h.0 (parts_under xs ys h.1 k)
 
-  pub upper_from : (rows : List (C × V)) (low high : ℕ) → IsSplit rows low high → high ≤ low → AllByRecursion (NextIs bits depth true) (drop low rows)
-  upper_from rows low high s h =
+  pub split_at : {rows : List (C × V)} {low high : ℕ} → IsSplit rows low high → high ≤ low → {lower upper : List (C × V)} → lower ≡ take low rows → upper ≡ drop low rows
+      → AreHalves bits depth rows lower upper
+  split_at {rows = rows} {low = low} {high = high} s h l u =
       let e : high ≡ low = omega (arith, s.order) in
-      subst (λ n. AllByRecursion (NextIs bits depth true) (drop n rows)) e s.upper
-
-  pub split_under : (rows : List (C × V)) (n : ℕ) → AllByRecursion (NextIs bits depth false) (take n rows) → AllByRecursion (NextIs bits depth true) (drop n rows)
-      → tails bits depth rows ≡ under false (tails bits (depth + 1) (take n rows)) ++ under true (tails bits (depth + 1) (drop n rows))
-  split_under rows n lower upper = ap (tails bits depth) (sym (take-append-drop n rows)) ∙ parts_under (take n rows) (drop n rows) lower upper
+      record {
+        whole = sym (ap₂ (λ x y. x ++ y) l u ∙ take-append-drop low rows);
+        low = subst (AllByRecursion (NextIs bits depth false)) (sym l) s.lower;
+        high = subst (AllByRecursion (NextIs bits depth true)) (sym (u ∙ ap (λ n. drop n rows) (sym e))) s.upper;
+      }

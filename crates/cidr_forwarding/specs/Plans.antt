@@ -1,11 +1,12 @@
 -- Rows of a type of networks, without the first bits, which they have in common.
-use Rattle.std.specs.Prelude.{◌≡◌, ℕ, ◌+◌, ◌-◌, Bool, List, [], ◌∷◌, ◌++◌, length, take, drop, Option, Some, None}
+use Rattle.std.specs.Prelude.{◌≡◌, ℕ, ◌+◌, ◌-◌, Bool, false, true, List, [], ◌∷◌, ◌++◌, length, take, drop, Option, Some, None}
+use Rattle.std.specs.List.{AllByRecursion}
 use Rattle.std.specs.List.Sorted.{IsStrictlySortedBy}
 use Rattle.std.specs.Map.{keys_of}
 use Rattle.std.specs.Option.{option_eq}
 use Rattle.cidr.specs.model.Bits.{bit_cmp}
-use Rattle.cidr_forwarding.specs.Trees.{Region, region, AllFitWidth}
-use Rattle.cidr_forwarding.specs.Choices.{candidates, put, is_free, Measured, measured_of}
+use Rattle.cidr_forwarding.specs.Trees.{Region, region, AllFitWidth, own, below, longer}
+use Rattle.cidr_forwarding.specs.Choices.{candidates, fill, put, is_free, Measured, measured_of}
 
 module _ {C V : Type 0} (bits : C → List Bool) where
   -- the bits of a row's network from depth on
@@ -30,6 +31,20 @@ module _ {C V : Type 0} (bits : C → List Bool) where
   abbrev pub AreDeep : ℕ → List (C × V) → Type 0
   AreDeep depth [] = Unit {0}
   AreDeep depth (r ∷ rows) = (drop depth (bits r.0) ≡ [] → ⊥) × AreDeep depth rows
+
+  -- the value of a network itself, and its longer rows
+  pub record IsRest (depth : ℕ) (inherited : Option V) (rows : List (C × V)) (value : Option V) (rest : List (C × V)) : Type 0 where
+    pub value_is : value ≡ own inherited (tails depth rows)
+    pub halves : (b : Bool) → below b (tails depth rows) ≡ below b (tails depth rest)
+    pub longer_is : longer (tails depth rows) ≡ tails depth rest
+    pub node : IsNode depth rest
+    pub deep : AreDeep depth rest
+
+  -- the rows of the lower half, and those of the upper one
+  pub record AreHalves (depth : ℕ) (rows lower upper : List (C × V)) : Type 0 where
+    pub whole : rows ≡ lower ++ upper
+    pub low : AllByRecursion (NextIs depth false) lower
+    pub high : AllByRecursion (NextIs depth true) upper
 
   -- each row is of this network
   abbrev pub AreOf : List Bool → List (C × V) → Type 0
@@ -56,3 +71,7 @@ module _ {V : Type 0} (eq : V → V → Bool) where
 
   unfoldable pub put_rows : Bool → Region (Option V) → Option V → List (List Bool × Option V)
   put_rows holes t c = put (option_eq eq) (is_free holes) None t c
+
+  -- the rows below a network where a candidate is inherited
+  unfoldable pub fill_rows : Bool → Region (Option V) → Option V → List (List Bool × Option V)
+  fill_rows holes t c = fill (option_eq eq) (is_free holes) None t c

@@ -1,5 +1,5 @@
 -- Rows by the next bit of their networks, and a forwarding as a tree of halves.
-use Rattle.std.specs.Prelude.{ℕ, zero, suc, ◌≤◌, ◌&&◌, Bool, true, false, cond, List, [], ◌∷◌, ◌++◌, length, drop, Option, Some, None}
+use Rattle.std.specs.Prelude.{◌≡◌, ℕ, zero, suc, ◌≤◌, ◌&&◌, Bool, true, false, cond, List, [], ◌∷◌, ◌++◌, length, drop, Option, Some, None}
 
 -- how many bits two lists begin with alike
 abbrev pub common : List Bool → List Bool → ℕ
@@ -79,6 +79,11 @@ module _ {X : Type 0} where
   abbrev pub sharing : List (List Bool × X) → ℕ
   sharing [] = 0
   sharing (r ∷ rows) = common r.0 (last_key r.0 rows)
+
+  -- a forwarding by its halves, which are as the whole where that has one value
+  pub data IsOfHalves (t l r : Region X) : Type 0 where
+    OfHalves : t ≡ Halves l r → IsOfHalves t l r
+    OfEven : (x : X) → t ≡ Even x → l ≡ Even x → r ≡ Even x → IsOfHalves t l r
 
 -- ---- whether two forwardings are the same
 module _ {X : Type 0} (same : X → X → Bool) where

@@ -1,5 +1,5 @@
-//! Lists of candidate values, one behind the other in one `Vec`.
-ghost use Rattle.std.specs.Prelude.{◌≡◌, ◌+◌, ◌-◌, ◌≤◌, ◌++◌, length, take, drop, OnOk, IfOk, false};
+//! Lists of candidate values.
+ghost use Rattle.std.specs.Prelude.{◌≡◌, ◌++◌, OnOk, IfOk, false};
 ghost use Rattle.std.specs.List.{filter};
 ghost use Rattle.std.specs.List.Sorted.{IsPermutation, IsSorted};
 ghost use Rattle.std.specs.Option.{option_eq, option_cmp};
@@ -50,152 +50,71 @@ fn holds_ascending<V: Copy + Ord>(values: &[Option<V>], wanted: Option<V>) -> bo
     values.binary_search(&wanted).is_ok()
 }
 
-/// Appends the values of one list that are in another, which is given in ascending order.
-fn push_found<V: Copy + Ord>(
-    values: &mut Vec<Option<V>>,
-    start: usize,
-    end: usize,
-    other_start: usize,
-    other_end: usize,
-    other: &[Option<V>],
-) -> Result<(), AllocError>
-    requires tells { TellsEqual V.eq }
-    requires order { start ≤ end }
-    requires within { end ≤ length values.old.items }
-    requires same { IsPermutation (take (other_end - other_start) (drop other_start values.old.items)) other.now }
-    requires sorted { IsSorted (option_cmp V.cmp) other.now }
-    ensures { OnOk result (values.new.items ≡ values.old.items ++ shared (option_eq V.eq)
-        (take (end - start) (drop start values.old.items)) (take (other_end - other_start) (drop other_start values.old.items))) }
-{
-    for i in start..end {
-        let value = values[i];
-        if holds_ascending(other, value) {
-            values.push(value)?;
-        }
-    }
-    Ok(())
-}
-
-/// Appends the values of one list that are in another, for short lists.
-fn push_few<V: Copy + Ord>(
-    values: &mut Vec<Option<V>>,
-    start: usize,
-    end: usize,
-    other_start: usize,
-    other_end: usize,
-) -> Result<(), AllocError>
-    requires order { start ≤ end }
-    requires within { end ≤ length values.old.items }
-    requires other_order { other_start ≤ other_end }
-    requires other_within { other_end ≤ length values.old.items }
-    ensures { OnOk result (values.new.items ≡ values.old.items ++ shared (option_eq V.eq)
-        (take (end - start) (drop start values.old.items)) (take (other_end - other_start) (drop other_start values.old.items))) }
-{
-    for i in start..end {
-        let value = values[i];
-        if holds(&values[other_start..other_end], value) {
-            values.push(value)?;
-        }
-    }
-    Ok(())
-}
-
 /// Appends the values of one list that are in another: by a look at each pair where one list is short, or else by
 /// searches in the other one, sorted.
 fn push_shared<V: Copy + Ord>(
-    values: &mut Vec<Option<V>>,
     alloc: Global,
-    start: usize,
-    end: usize,
-    other_start: usize,
-    other_end: usize,
+    values: &[Option<V>],
+    other: &[Option<V>],
+    out: &mut Vec<Option<V>>,
 ) -> Result<(), AllocError>
     requires tells { TellsEqual V.eq }
-    requires order { start ≤ end }
-    requires within { end ≤ length values.old.items }
-    requires other_order { other_start ≤ other_end }
-    requires other_within { other_end ≤ length values.old.items }
-    ensures { OnOk result (values.new.items ≡ values.old.items ++ shared (option_eq V.eq)
-        (take (end - start) (drop start values.old.items)) (take (other_end - other_start) (drop other_start values.old.items))) }
+    ensures { OnOk result (out.new.items ≡ out.old.items ++ shared (option_eq V.eq) values.now other.now) }
 {
-    if end - start <= 16 || other_end - other_start <= 16 {
-        push_few(values, start, end, other_start, other_end)?;
+    if values.len() <= 16 || other.len() <= 16 {
+        for value in values {
+            if holds(other, *value) {
+                out.push(*value)?;
+            }
+        }
     } else {
-        let other = ascending(alloc, &values[other_start..other_end])?;
-        push_found(values, start, end, other_start, other_end, &other)?;
+        let sorted = ascending(alloc, other)?;
+        for wanted in values {
+            if holds_ascending(&sorted, *wanted) {
+                out.push(*wanted)?;
+            }
+        }
     }
     Ok(())
 }
 
 /// Appends one `None` for each in a list.
-fn push_holes<V: Copy>(
-    values: &mut Vec<Option<V>>,
-    start: usize,
-    end: usize,
-) -> Result<(), AllocError>
-    requires order { start ≤ end }
-    requires within { end ≤ length values.old.items }
-    ensures { OnOk result (values.new.items ≡ values.old.items ++ filter (not_of (is_free false)) (take (end - start) (drop start values.old.items))) }
+fn push_holes<V: Copy>(values: &[Option<V>], out: &mut Vec<Option<V>>) -> Result<(), AllocError>
+    ensures { OnOk result (out.new.items ≡ out.old.items ++ filter (not_of (is_free false)) values.now) }
 {
-    for i in start..end {
-        let value = values[i];
+    for value in values {
         if value.is_none() {
-            values.push(value)?;
+            out.push(*value)?;
         }
     }
     Ok(())
 }
 
-/// Appends the values of a list.
-fn push_all<V: Copy>(
-    values: &mut Vec<Option<V>>,
-    start: usize,
-    end: usize,
-) -> Result<(), AllocError>
-    requires order { start ≤ end }
-    requires within { end ≤ length values.old.items }
-    ensures { OnOk result (values.new.items ≡ values.old.items ++ take (end - start) (drop start values.old.items)) }
-{
-    for i in start..end {
-        let value = values[i];
-        values.push(value)?;
-    }
-    Ok(())
-}
-
-/// Appends the candidates of a network, of which those of the halves are at `start..end` and `other_start..other_end`,
-/// and returns how many they are.
+/// The candidates of a network, of whose halves these are the candidates.
+#[inline]
 pub(crate) fn join<V: Copy + Ord>(
-    values: &mut Vec<Option<V>>,
     alloc: Global,
-    start: usize,
-    end: usize,
-    other_start: usize,
-    other_end: usize,
+    lower: &[Option<V>],
+    upper: &[Option<V>],
     holes: bool,
-) -> Result<usize, AllocError>
+    joined: &mut Vec<Option<V>>,
+) -> Result<(), AllocError>
     requires tells { TellsEqual V.eq }
-    requires order { start ≤ end }
-    requires within { end ≤ length values.old.items }
-    requires other_order { other_start ≤ other_end }
-    requires other_within { other_end ≤ length values.old.items }
-    ensures { let both = joined_candidates (option_eq V.eq) (is_free holes)
-        (take (end - start) (drop start values.old.items)) (take (other_end - other_start) (drop other_start values.old.items)) in
-        IfOk result (λ n. (values.new.items ≡ values.old.items ++ both) × (n ≡ length both)) }
+    ensures { OnOk result (joined.new.items ≡ joined_candidates (option_eq V.eq) (is_free holes) lower.now upper.now) }
 {
-    let before = values.len();
-    push_shared(values, alloc, start, end, other_start, other_end)?;
-    if values.len() > before {
-        return Ok(values.len() - before);
+    joined.clear();
+    push_shared(alloc, lower, upper, joined)?;
+    if !joined.is_empty() {
+        return Ok(());
     }
     if !holes {
-        push_holes(values, start, end)?;
-        push_holes(values, other_start, other_end)?;
-        if values.len() > before {
-            return Ok(values.len() - before);
+        push_holes(lower, joined)?;
+        push_holes(upper, joined)?;
+        if !joined.is_empty() {
+            return Ok(());
         }
     }
-    push_all(values, start, end)?;
-    push_all(values, other_start, other_end)?;
-    Ok(values.len() - before)
+    joined.extend_from_slice(lower)?;
+    joined.extend_from_slice(upper)?;
+    Ok(())
 }

@@ -9,7 +9,7 @@ ghost use Rattle.cidr_forwarding.specs.Forwarding.{in_bits, AreNetworksOf, AreIp
 ghost use Rattle.cidr_forwarding.specs.Trees.{paired, shared_values, sole_values, differing};
 ghost use Rattle.cidr_forwarding.specs.Plans.{planned, IsNode, AreDeep, AreOf, behind};
 
-use crate::halves::{half, own_value, skipped, split};
+use crate::halves::{half, halve};
 use crate::laws::keys_ascend_within_129_bits;
 use crate::same::are_ended;
 use crate::tables::rows_of;
@@ -79,34 +79,30 @@ fn differ<C: NetworkBits + Copy, V: Copy + Eq>(
     ensures sole { IfOk result (λ values. values ≡ sole_values (option_eq V.eq)
         (paired (planned C.bits depth inherited rows.now) (planned C.bits depth other_inherited others.now))) }
 {
-    let own = own_value(rows, depth, inherited);
-    let other_own = own_value(others, depth, other_inherited);
-    let rest = &rows[skipped(rows, depth)..];
-    let other_rest = &others[skipped(others, depth)..];
-    if are_ended(rest, other_rest, depth) {
-        list(network, (own, other_own), out)?;
-        return Ok(Some((own, other_own)));
+    let one = halve(rows, depth, inherited);
+    let other = halve(others, depth, other_inherited);
+    if are_ended(one.rest, other.rest, depth) {
+        list(network, (one.own, other.own), out)?;
+        return Ok(Some((one.own, other.own)));
     }
-    let mid = split(rest, depth);
-    let other_mid = split(other_rest, depth);
-    let lower = half_of(rest, other_rest, depth, network, false);
-    let upper = half_of(rest, other_rest, depth, network, true);
+    let lower = half_of(one.rest, other.rest, depth, network, false);
+    let upper = half_of(one.rest, other.rest, depth, network, true);
     let before = out.len();
     let low = differ(
-        &rest[..mid],
-        &other_rest[..other_mid],
+        one.lower,
+        other.lower,
         depth + 1,
-        own,
-        other_own,
+        one.own,
+        other.own,
         lower,
         out,
     )?;
     let high = differ(
-        &rest[mid..],
-        &other_rest[other_mid..],
+        one.upper,
+        other.upper,
         depth + 1,
-        own,
-        other_own,
+        one.own,
+        other.own,
         upper,
         out,
     )?;

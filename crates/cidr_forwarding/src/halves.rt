@@ -1,44 +1,95 @@
-//! Rows whose keys have their first bits in common, by the next bit.
-ghost use Rattle.std.specs.Prelude.{◌≡◌, ◌+◌, ◌<◌, ◌≤◌, ◌++◌, ◌∷◌, [], Bool, false, true, length, take, drop};
-ghost use Rattle.std.specs.List.{AllByRecursion};
-ghost use Rattle.cidr_forwarding.specs.Trees.{own, below, longer, sharing};
-ghost use Rattle.cidr_forwarding.specs.Plans.{tails, IsNode, AreDeep, AreOfOne, NextIs};
+//! Rows whose keys have their first bits in common: the value of the network of these bits, and its longer rows.
+ghost use Rattle.std.specs.Prelude.{◌≡◌, ◌+◌, ◌<◌, ◌++◌, ◌∷◌, [], Bool, List, length, take};
+ghost use Rattle.cidr.specs.either.IpAddress.{TellsEqual};
+ghost use Rattle.cidr_forwarding.specs.Trees.{sharing};
+ghost use Rattle.cidr_forwarding.specs.Plans.{tails, IsNode, AreDeep, AreOf, AreOfOne, IsRest, AreHalves};
+ghost use Rattle.cidr_forwarding.specs.Opened.{IsOpened, IsHalved};
 
 use cidr::NetworkBits;
 use cidr_table::laws::keys::has_at_most_129_bits;
 
-/// How many rows have no more than `depth` bits, which is at most one: the first.
-pub(crate) fn skipped<C: NetworkBits + Copy, V: Copy>(rows: &[(C, V)], depth: usize) -> usize
-    requires { IsNode C.bits depth rows.now }
-    ensures fits { result ≤ length rows.now }
-    ensures halves { (b : Bool) → below b (tails C.bits depth rows.now) ≡ below b (tails C.bits depth (drop result rows.now)) }
-    ensures longer { longer (tails C.bits depth rows.now) ≡ tails C.bits depth (drop result rows.now) }
-    ensures node { IsNode C.bits depth (drop result rows.now) }
-    ensures deep { AreDeep C.bits depth (drop result rows.now) }
-{
-    match rows.first() {
-        Some(row) if row.0.len() <= depth => 1,
-        _ => 0,
-    }
+/// What the rows of a network are, each with the value of the network itself.
+#[derive(Drop)]
+pub(crate) enum Opened<'a, C, V> {
+    /// None is longer.
+    Ended(Option<V>),
+    /// The longer ones share at least two bits more: the key of one, all of them, and how many bits they share.
+    Narrowed(Option<V>, C, &'a [(C, V)], usize),
+    /// The key of a longer one, and those of the lower half and of the upper one.
+    Parted(Option<V>, C, &'a [(C, V)], &'a [(C, V)]),
 }
 
-/// The value of the row of no more than `depth` bits, or that which is inherited where there is none.
-pub(crate) fn own_value<C: NetworkBits + Copy, V: Copy>(
+/// The rows of a network: its own value, the longer rows, and which of these are in the lower half and in the upper one.
+#[derive(Drop)]
+pub(crate) struct Halved<'a, C, V> {
+    pub own: Option<V>,
+    pub rest: &'a [(C, V)],
+    pub lower: &'a [(C, V)],
+    pub upper: &'a [(C, V)],
+}
+
+/// The rows of a network, where a value is inherited.
+#[inline(always)]
+pub(crate) fn open<C: NetworkBits + Copy, V: Copy + Ord>(
     rows: &[(C, V)],
     depth: usize,
     inherited: Option<V>,
-) -> Option<V>
+) -> Opened<'_, C, V>
+    requires tells { TellsEqual V.eq }
+    requires node { IsNode C.bits depth rows.now }
+    requires of { AreOfOne C.bits depth rows.now }
+    ensures { (holes : Bool) → IsOpened C.bits V.eq holes depth inherited rows.now result }
+{
+    let (own, rest) = longer(rows, depth, inherited);
+    if rest.is_empty() {
+        return Opened::Ended(own);
+    }
+    let more = shared(rest, depth);
+    if more > 1 {
+        return Opened::Narrowed(own, rest[0].0, rest, depth + more);
+    }
+    let (lower, upper) = split(rest, depth);
+    Opened::Parted(own, rest[0].0, lower, upper)
+}
+
+/// The rows of a network by halves, also where they share bits or none is longer.
+pub(crate) fn halve<C: NetworkBits + Copy, V: Copy>(
+    rows: &[(C, V)],
+    depth: usize,
+    inherited: Option<V>,
+) -> Halved<'_, C, V>
     requires { IsNode C.bits depth rows.now }
-    ensures { result ≡ own inherited (tails C.bits depth rows.now) }
+    ensures { IsHalved C.bits depth inherited rows.now result }
+{
+    let (own, rest) = longer(rows, depth, inherited);
+    let (lower, upper) = split(rest, depth);
+    Halved {
+        own,
+        rest,
+        lower,
+        upper,
+    }
+}
+
+/// The value of the row of no more than `depth` bits, which is the first, or that which is inherited where there is
+/// none; and the other rows.
+fn longer<C: NetworkBits + Copy, V: Copy>(
+    rows: &[(C, V)],
+    depth: usize,
+    inherited: Option<V>,
+) -> (Option<V>, &[(C, V)])
+    requires { IsNode C.bits depth rows.now }
+    ensures rest { IsRest C.bits depth inherited rows.now result.0 result.1.now }
+    ensures of { (q : List Bool) → AreOf C.bits q rows.now → AreOf C.bits q result.1.now }
 {
     match rows.first() {
-        Some(row) if row.0.len() <= depth => Some(row.1),
-        _ => inherited,
+        Some(row) if row.0.len() <= depth => (Some(row.1), &rows[1..]),
+        _ => (inherited, rows),
     }
 }
 
 /// How many bits more than `depth` all rows share.
-pub(crate) fn shared<C: NetworkBits + Copy, V: Copy>(rows: &[(C, V)], depth: usize) -> usize
+fn shared<C: NetworkBits + Copy, V: Copy>(rows: &[(C, V)], depth: usize) -> usize
     requires some { 0 < length rows.now }
     requires of { AreOfOne C.bits depth rows.now }
     ensures { result ≡ sharing (tails C.bits depth rows.now) }
@@ -46,13 +97,11 @@ pub(crate) fn shared<C: NetworkBits + Copy, V: Copy>(rows: &[(C, V)], depth: usi
     rows[0].0.shared_prefix_len(&rows[rows.len() - 1].0) - depth
 }
 
-/// How many rows are in the lower half.
-pub(crate) fn split<C: NetworkBits + Copy, V: Copy>(rows: &[(C, V)], depth: usize) -> usize
+/// The rows of the lower half, and those of the upper one.
+fn split<C: NetworkBits + Copy, V: Copy>(rows: &[(C, V)], depth: usize) -> (&[(C, V)], &[(C, V)])
     requires node { IsNode C.bits depth rows.now }
     requires deep { AreDeep C.bits depth rows.now }
-    ensures fits { result ≤ length rows.now }
-    ensures lower { AllByRecursion (NextIs C.bits depth false) (take result rows.now) }
-    ensures upper { AllByRecursion (NextIs C.bits depth true) (drop result rows.now) }
+    ensures { AreHalves C.bits depth rows.now result.0.now result.1.now }
 {
     let mut low = 0;
     let mut high = rows.len();
@@ -64,7 +113,7 @@ pub(crate) fn split<C: NetworkBits + Copy, V: Copy>(rows: &[(C, V)], depth: usiz
             low = mid + 1;
         }
     }
-    low
+    rows.split_at(low)
 }
 
 /// The network of the first `len` bits of a key.

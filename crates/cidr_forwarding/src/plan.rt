@@ -1,5 +1,5 @@
 //! The smallest rows, in two passes.
-ghost use Rattle.std.specs.Prelude.{◌≡◌, ℕ, ◌+◌, ◌-◌, ◌<◌, ◌≤◌, ◌++◌, ◌∷◌, [], length, cond, IfOk, OnOk, None};
+ghost use Rattle.std.specs.Prelude.{◌≡◌, ℕ, ◌≤◌, ◌++◌, ◌∷◌, [], length, cond, IfOk, OnOk, None};
 ghost use Rattle.std.specs.Option.{option_eq};
 ghost use Rattle.std.specs.List.Sorted.{IsStrictlySortedBy};
 ghost use Rattle.std.specs.Map.{keys_of};
@@ -8,10 +8,10 @@ ghost use Rattle.cidr.specs.model.Network.{HasWidth};
 ghost use Rattle.cidr_table.specs.model.CoverAddresses.{IsIpAddressBits};
 ghost use Rattle.cidr_forwarding.specs.Forwarding.{in_bits, AreNetworksOf, AreIpRows, IsSmallest, IsSmallestHoled};
 ghost use Rattle.cidr_forwarding.specs.Choices.{EndsIn, is_listed, head_or, noted, counted};
-ghost use Rattle.cidr_forwarding.specs.Plans.{planned, measured, IsNode, AreDeep, AreOf, AreOfOne, behind, choices, put_rows};
+ghost use Rattle.cidr_forwarding.specs.Plans.{planned, measured, IsNode, AreOf, AreOfOne, behind, choices, put_rows};
 
 use crate::candidates::{first_of, holds, join};
-use crate::halves::{first_bits, half, own_value, shared, skipped, split};
+use crate::halves::{Opened, first_bits, half, open};
 use crate::laws::keys_ascend_within_129_bits;
 use cidr::NetworkBits;
 use std::alloc::{AllocError, Global};
@@ -78,7 +78,17 @@ fn smallest<C: NetworkBits + Copy, V: Copy + Ord>(
     let quarter = rows.len() / 4;
     let mut counts = Vec::with_capacity(alloc, quarter.saturating_mul(5))?;
     let mut values = Vec::with_capacity(alloc, quarter.saturating_mul(13))?;
-    measure(alloc, rows, 0, None, holes, &mut counts, &mut values)?;
+    let mut joined = Vec::new(alloc);
+    measure(
+        alloc,
+        rows,
+        0,
+        None,
+        holes,
+        &mut counts,
+        &mut values,
+        &mut joined,
+    )?;
     let mut out = Vec::new(alloc);
     place(
         rows,
@@ -98,7 +108,7 @@ fn smallest<C: NetworkBits + Copy, V: Copy + Ord>(
 /// are where they may be more than one. Returns how many the last ones are.
 ///
 /// Where all longer rows share at least two bits more, the network of these bits is reached next, and the only candidate
-/// is the network's own value.
+/// is the network's own value. `joined` is room for the candidates of one network.
 fn measure<C: NetworkBits + Copy, V: Copy + Ord>(
     alloc: Global,
     rows: &[(C, V)],
@@ -107,6 +117,7 @@ fn measure<C: NetworkBits + Copy, V: Copy + Ord>(
     holes: bool,
     counts: &mut Vec<usize>,
     values: &mut Vec<Option<V>>,
+    joined: &mut Vec<Option<V>>,
 ) -> Result<usize, AllocError>
     requires tells { TellsEqual V.eq }
     requires node { IsNode C.bits depth rows.now }
@@ -116,34 +127,32 @@ fn measure<C: NetworkBits + Copy, V: Copy + Ord>(
     ensures last { IfOk result (λ n. (n ≡ length (choices V.eq holes (planned C.bits depth inherited rows.now)))
         × EndsIn (noted (measured C.bits V.eq holes depth inherited rows.now)) (choices V.eq holes (planned C.bits depth inherited rows.now))) }
 {
-    let own = own_value(rows, depth, inherited);
-    let rest = &rows[skipped(rows, depth)..];
-    if rest.is_empty() {
-        values.push(own)?;
-        return Ok(1);
+    match open(rows, depth, inherited) {
+        Opened::Ended(own) => {
+            values.push(own)?;
+            Ok(1)
+        }
+        Opened::Narrowed(own, _, rest, inside) => {
+            measure(alloc, rest, inside, own, holes, counts, values, joined)?;
+            values.push(own)?;
+            Ok(1)
+        }
+        Opened::Parted(own, _, lower, upper) => {
+            let high = measure(alloc, upper, depth + 1, own, holes, counts, values, joined)?;
+            let middle = values.len();
+            let low = measure(alloc, lower, depth + 1, own, holes, counts, values, joined)?;
+            join(
+                alloc,
+                &values[values.len() - low..],
+                &values[middle - high..middle],
+                holes,
+                joined,
+            )?;
+            values.extend_from_slice(joined)?;
+            counts.push(joined.len())?;
+            Ok(joined.len())
+        }
     }
-    let more = shared(rest, depth);
-    if more > 1 {
-        measure(alloc, rest, depth + more, own, holes, counts, values)?;
-        values.push(own)?;
-        return Ok(1);
-    }
-    let mid = split(rest, depth);
-    let upper = measure(alloc, &rest[mid..], depth + 1, own, holes, counts, values)?;
-    let upper_end = values.len();
-    let lower = measure(alloc, &rest[..mid], depth + 1, own, holes, counts, values)?;
-    let end = values.len();
-    let count = join(
-        values,
-        alloc,
-        end - lower,
-        end,
-        upper_end - upper,
-        upper_end,
-        holes,
-    )?;
-    counts.push(count)?;
-    Ok(count)
 }
 
 /// Appends the row of a network itself if what is inherited is none of its candidates. Returns the value that the
@@ -166,19 +175,19 @@ fn begin<C: NetworkBits + Copy, V: Copy + Ord>(
     Ok(first)
 }
 
-/// Appends the rows of a network where a value is inherited in the new table. Returns how many counts and values are
-/// before those of the network.
-fn place<C: NetworkBits + Copy, V: Copy + Ord>(
+/// Appends the rows of a network where a value is inherited in the new table. Returns the counts and values before those
+/// of the network.
+fn place<'a, C: NetworkBits + Copy, V: Copy + Ord>(
     rows: &[(C, V)],
     depth: usize,
     inherited: Option<V>,
     holes: bool,
     wanted: Option<V>,
     network: C,
-    counts: &[usize],
-    values: &[Option<V>],
+    counts: &'a [usize],
+    values: &'a [Option<V>],
     out: &mut Vec<(C, Option<V>)>,
-) -> Result<(usize, usize), AllocError>
+) -> Result<(&'a [usize], &'a [Option<V>]), AllocError>
     requires tells { TellsEqual V.eq }
     requires node { IsNode C.bits depth rows.now }
     requires of { AreOf C.bits (C.bits network) rows.now }
@@ -187,61 +196,52 @@ fn place<C: NetworkBits + Copy, V: Copy + Ord>(
     requires values { EndsIn values.now (noted (measured C.bits V.eq holes depth inherited rows.now)) }
     ensures rows { OnOk result (in_bits C.bits out.new.items
         ≡ in_bits C.bits out.old.items ++ behind (C.bits network) (put_rows V.eq holes (planned C.bits depth inherited rows.now) wanted)) }
-    ensures count { IfOk result (λ before. before.0 + length (counted (measured C.bits V.eq holes depth inherited rows.now)) ≡ length counts.now) }
-    ensures start { IfOk result (λ before. before.1 + length (noted (measured C.bits V.eq holes depth inherited rows.now)) ≡ length values.now) }
+    ensures counts { IfOk result (λ before. counts.now ≡ before.0.now ++ counted (measured C.bits V.eq holes depth inherited rows.now)) }
+    ensures values { IfOk result (λ before. values.now ≡ before.1.now ++ noted (measured C.bits V.eq holes depth inherited rows.now)) }
 {
-    let own = own_value(rows, depth, inherited);
-    let rest = &rows[skipped(rows, depth)..];
-    if rest.is_empty() {
-        let from = values.len() - 1;
-        begin(&values[from..], wanted, network, out)?;
-        return Ok((counts.len(), from));
+    match open(rows, depth, inherited) {
+        Opened::Ended(_) => {
+            let (before, last) = values.split_at(values.len() - 1);
+            begin(last, wanted, network, out)?;
+            Ok((counts, before))
+        }
+        Opened::Narrowed(own, key, rest, inside) => {
+            let (before, last) = values.split_at(values.len() - 1);
+            begin(last, wanted, network, out)?;
+            let narrow = first_bits(&key, inside);
+            let left = place(rest, inside, own, holes, own, narrow, counts, before, out)?;
+            Ok(left)
+        }
+        Opened::Parted(own, key, lower, upper) => {
+            let end = counts.len() - 1;
+            let (before, last) = values.split_at(values.len() - counts[end]);
+            let (others, _) = counts.split_at(end);
+            let value = begin(last, wanted, network, out)?;
+            let low = half(&key, depth, false);
+            let high = half(&key, depth, true);
+            let (upper_counts, upper_values) = place(
+                lower,
+                depth + 1,
+                own,
+                holes,
+                value,
+                low,
+                others,
+                before,
+                out,
+            )?;
+            let left = place(
+                upper,
+                depth + 1,
+                own,
+                holes,
+                value,
+                high,
+                upper_counts,
+                upper_values,
+                out,
+            )?;
+            Ok(left)
+        }
     }
-    let more = shared(rest, depth);
-    if more > 1 {
-        let from = values.len() - 1;
-        begin(&values[from..], wanted, network, out)?;
-        let inside = first_bits(&rest[0].0, depth + more);
-        let before = place(
-            rest,
-            depth + more,
-            own,
-            holes,
-            own,
-            inside,
-            counts,
-            &values[..from],
-            out,
-        )?;
-        return Ok(before);
-    }
-    let mid = split(rest, depth);
-    let last = counts.len() - 1;
-    let from = values.len() - counts[last];
-    let value = begin(&values[from..], wanted, network, out)?;
-    let lower = half(&rest[0].0, depth, false);
-    let upper = half(&rest[0].0, depth, true);
-    let (count, start) = place(
-        &rest[..mid],
-        depth + 1,
-        own,
-        holes,
-        value,
-        lower,
-        &counts[..last],
-        &values[..from],
-        out,
-    )?;
-    let before = place(
-        &rest[mid..],
-        depth + 1,
-        own,
-        holes,
-        value,
-        upper,
-        &counts[..count],
-        &values[..start],
-        out,
-    )?;
-    Ok(before)
 }

@@ -8,7 +8,7 @@ ghost use Rattle.cidr_forwarding.specs.Forwarding.{AreNetworksOf, AreIpRows, For
 ghost use Rattle.cidr_forwarding.specs.Trees.{agree};
 ghost use Rattle.cidr_forwarding.specs.Plans.{planned, IsNode, AreDeep};
 
-use crate::halves::{own_value, skipped, split};
+use crate::halves::halve;
 use crate::laws::keys_ascend_within_129_bits;
 use crate::tables::rows_of;
 use cidr::NetworkBits;
@@ -54,28 +54,13 @@ fn agree<C: NetworkBits + Copy, V: Copy + Eq>(
     requires other_node { IsNode C.bits depth others.now }
     ensures { result ≡ agree (option_eq V.eq) (planned C.bits depth inherited rows.now) (planned C.bits depth other_inherited others.now) }
 {
-    let own = own_value(rows, depth, inherited);
-    let other_own = own_value(others, depth, other_inherited);
-    let rest = &rows[skipped(rows, depth)..];
-    let other_rest = &others[skipped(others, depth)..];
-    if are_ended(rest, other_rest, depth) {
-        return own == other_own;
+    let one = halve(rows, depth, inherited);
+    let other = halve(others, depth, other_inherited);
+    if are_ended(one.rest, other.rest, depth) {
+        return one.own == other.own;
     }
-    let mid = split(rest, depth);
-    let other_mid = split(other_rest, depth);
-    agree(
-        &rest[..mid],
-        &other_rest[..other_mid],
-        depth + 1,
-        own,
-        other_own,
-    ) && agree(
-        &rest[mid..],
-        &other_rest[other_mid..],
-        depth + 1,
-        own,
-        other_own,
-    )
+    agree(one.lower, other.lower, depth + 1, one.own, other.own)
+        && agree(one.upper, other.upper, depth + 1, one.own, other.own)
 }
 
 /// Whether there are no rows of more bits.

@@ -2,7 +2,7 @@
 
 use cidr_support::vec::Vec;
 use crate::candidates::{first_of, holds, join};
-use crate::halves::{first_bits, half, own_value, shared, skipped, split};
+use crate::halves::{Opened, first_bits, half, open};
 use cidr::NetworkBits;
 use cidr_support::alloc::{AllocError, Global};
 
@@ -41,7 +41,17 @@ fn smallest<C: NetworkBits + Copy, V: Copy + Ord>(
     let quarter = rows.len() / 4;
     let mut counts = Vec::with_capacity(alloc, quarter.saturating_mul(5))?;
     let mut values = Vec::with_capacity(alloc, quarter.saturating_mul(13))?;
-    measure(alloc, rows, 0, None, holes, &mut counts, &mut values)?;
+    let mut joined = Vec::new(alloc);
+    measure(
+        alloc,
+        rows,
+        0,
+        None,
+        holes,
+        &mut counts,
+        &mut values,
+        &mut joined,
+    )?;
     let mut out = Vec::new(alloc);
     place(
         rows,
@@ -61,7 +71,7 @@ fn smallest<C: NetworkBits + Copy, V: Copy + Ord>(
 /// are where they may be more than one. Returns how many the last ones are.
 ///
 /// Where all longer rows share at least two bits more, the network of these bits is reached next, and the only candidate
-/// is the network's own value.
+/// is the network's own value. `joined` is room for the candidates of one network.
 fn measure<C: NetworkBits + Copy, V: Copy + Ord>(
     alloc: Global,
     rows: &[(C, V)],
@@ -70,35 +80,34 @@ fn measure<C: NetworkBits + Copy, V: Copy + Ord>(
     holes: bool,
     counts: &mut Vec<usize>,
     values: &mut Vec<Option<V>>,
+    joined: &mut Vec<Option<V>>,
 ) -> Result<usize, AllocError> {
-    let own = own_value(rows, depth, inherited);
-    let rest = &rows[skipped(rows, depth)..];
-    if rest.is_empty() {
-        values.push(own)?;
-        return Ok(1);
+    match open(rows, depth, inherited) {
+        Opened::Ended(own) => {
+            values.push(own)?;
+            Ok(1)
+        }
+        Opened::Narrowed(own, _, rest, inside) => {
+            measure(alloc, rest, inside, own, holes, counts, values, joined)?;
+            values.push(own)?;
+            Ok(1)
+        }
+        Opened::Parted(own, _, lower, upper) => {
+            let high = measure(alloc, upper, depth + 1, own, holes, counts, values, joined)?;
+            let middle = values.len();
+            let low = measure(alloc, lower, depth + 1, own, holes, counts, values, joined)?;
+            join(
+                alloc,
+                &values[values.len() - low..],
+                &values[middle - high..middle],
+                holes,
+                joined,
+            )?;
+            values.extend_from_slice(joined)?;
+            counts.push(joined.len())?;
+            Ok(joined.len())
+        }
     }
-    let more = shared(rest, depth);
-    if more > 1 {
-        measure(alloc, rest, depth + more, own, holes, counts, values)?;
-        values.push(own)?;
-        return Ok(1);
-    }
-    let mid = split(rest, depth);
-    let upper = measure(alloc, &rest[mid..], depth + 1, own, holes, counts, values)?;
-    let upper_end = values.len();
-    let lower = measure(alloc, &rest[..mid], depth + 1, own, holes, counts, values)?;
-    let end = values.len();
-    let count = join(
-        values,
-        alloc,
-        end - lower,
-        end,
-        upper_end - upper,
-        upper_end,
-        holes,
-    )?;
-    counts.push(count)?;
-    Ok(count)
 }
 
 /// Appends the row of a network itself if what is inherited is none of its candidates. Returns the value that the
@@ -118,71 +127,62 @@ fn begin<C: NetworkBits + Copy, V: Copy + Ord>(
     Ok(first)
 }
 
-/// Appends the rows of a network where a value is inherited in the new table. Returns how many counts and values are
-/// before those of the network.
-fn place<C: NetworkBits + Copy, V: Copy + Ord>(
+/// Appends the rows of a network where a value is inherited in the new table. Returns the counts and values before those
+/// of the network.
+fn place<'a, C: NetworkBits + Copy, V: Copy + Ord>(
     rows: &[(C, V)],
     depth: usize,
     inherited: Option<V>,
     holes: bool,
     wanted: Option<V>,
     network: C,
-    counts: &[usize],
-    values: &[Option<V>],
+    counts: &'a [usize],
+    values: &'a [Option<V>],
     out: &mut Vec<(C, Option<V>)>,
-) -> Result<(usize, usize), AllocError> {
-    let own = own_value(rows, depth, inherited);
-    let rest = &rows[skipped(rows, depth)..];
-    if rest.is_empty() {
-        let from = values.len() - 1;
-        begin(&values[from..], wanted, network, out)?;
-        return Ok((counts.len(), from));
+) -> Result<(&'a [usize], &'a [Option<V>]), AllocError> {
+    match open(rows, depth, inherited) {
+        Opened::Ended(_) => {
+            let (before, last) = values.split_at(values.len() - 1);
+            begin(last, wanted, network, out)?;
+            Ok((counts, before))
+        }
+        Opened::Narrowed(own, key, rest, inside) => {
+            let (before, last) = values.split_at(values.len() - 1);
+            begin(last, wanted, network, out)?;
+            let narrow = first_bits(&key, inside);
+            let left = place(rest, inside, own, holes, own, narrow, counts, before, out)?;
+            Ok(left)
+        }
+        Opened::Parted(own, key, lower, upper) => {
+            let end = counts.len() - 1;
+            let (before, last) = values.split_at(values.len() - counts[end]);
+            let (others, _) = counts.split_at(end);
+            let value = begin(last, wanted, network, out)?;
+            let low = half(&key, depth, false);
+            let high = half(&key, depth, true);
+            let (upper_counts, upper_values) = place(
+                lower,
+                depth + 1,
+                own,
+                holes,
+                value,
+                low,
+                others,
+                before,
+                out,
+            )?;
+            let left = place(
+                upper,
+                depth + 1,
+                own,
+                holes,
+                value,
+                high,
+                upper_counts,
+                upper_values,
+                out,
+            )?;
+            Ok(left)
+        }
     }
-    let more = shared(rest, depth);
-    if more > 1 {
-        let from = values.len() - 1;
-        begin(&values[from..], wanted, network, out)?;
-        let inside = first_bits(&rest[0].0, depth + more);
-        let before = place(
-            rest,
-            depth + more,
-            own,
-            holes,
-            own,
-            inside,
-            counts,
-            &values[..from],
-            out,
-        )?;
-        return Ok(before);
-    }
-    let mid = split(rest, depth);
-    let last = counts.len() - 1;
-    let from = values.len() - counts[last];
-    let value = begin(&values[from..], wanted, network, out)?;
-    let lower = half(&rest[0].0, depth, false);
-    let upper = half(&rest[0].0, depth, true);
-    let (count, start) = place(
-        &rest[..mid],
-        depth + 1,
-        own,
-        holes,
-        value,
-        lower,
-        &counts[..last],
-        &values[..from],
-        out,
-    )?;
-    let before = place(
-        &rest[mid..],
-        depth + 1,
-        own,
-        holes,
-        value,
-        upper,
-        &counts[..count],
-        &values[..start],
-        out,
-    )?;
-    Ok(before)
 }

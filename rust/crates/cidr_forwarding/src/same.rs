@@ -1,6 +1,6 @@
 //! Whether two tables forward each address to the same value.
 
-use crate::halves::{own_value, skipped, split};
+use crate::halves::halve;
 use crate::tables::rows_of;
 use cidr::NetworkBits;
 use cidr_table::LpmTable;
@@ -36,6 +36,7 @@ pub fn forwards_same<C: NetworkBits + Copy, V: Copy + Eq>(
 }
 
 /// Whether the rows of a network forward the same, where each has inherited a value.
+#[inline]
 fn agree<C: NetworkBits + Copy, V: Copy + Eq>(
     rows: &[(C, V)],
     others: &[(C, V)],
@@ -43,28 +44,13 @@ fn agree<C: NetworkBits + Copy, V: Copy + Eq>(
     inherited: Option<V>,
     other_inherited: Option<V>,
 ) -> bool {
-    let own = own_value(rows, depth, inherited);
-    let other_own = own_value(others, depth, other_inherited);
-    let rest = &rows[skipped(rows, depth)..];
-    let other_rest = &others[skipped(others, depth)..];
-    if are_ended(rest, other_rest, depth) {
-        return own == other_own;
+    let one = halve(rows, depth, inherited);
+    let other = halve(others, depth, other_inherited);
+    if are_ended(one.rest, other.rest, depth) {
+        return one.own == other.own;
     }
-    let mid = split(rest, depth);
-    let other_mid = split(other_rest, depth);
-    agree(
-        &rest[..mid],
-        &other_rest[..other_mid],
-        depth + 1,
-        own,
-        other_own,
-    ) && agree(
-        &rest[mid..],
-        &other_rest[other_mid..],
-        depth + 1,
-        own,
-        other_own,
-    )
+    agree(one.lower, other.lower, depth + 1, one.own, other.own)
+        && agree(one.upper, other.upper, depth + 1, one.own, other.own)
 }
 
 /// Whether there are no rows of more bits.

@@ -1,5 +1,5 @@
 use Rattle.std.proofs.Common.{◌+◌, ◌-◌, ◌/◌, arith}
-use Rattle.cidr_forwarding.proofs.Splits.{next_read, down_read, up_read, upper_from}
+use Rattle.cidr_forwarding.proofs.Splits.{next_read, down_read, up_read, split_at}
 use Rattle.cidr_forwarding.proofs.halves.split.Goals as goal
 
 pub get-requires : goal.get-requires
@@ -20,9 +20,5 @@ loop-low-preserved g c =
     up_read g.C.BitString.bits c.args.depth c.args.rows.now c.requires.node c.requires.deep c.loop-low.low c.loop-low.high mid c.loop-low.invariant
     (omega arith) (omega (arith, c.loop-low-test.true)) c.index-rows-mid.result c.index-rows-mid.is c.if-get.ensures
 
-pub returns-clause-lower : goal.returns-clause-lower
-returns-clause-lower g c = c.loop-low.invariant.lower
-
-pub returns-clause-upper : goal.returns-clause-upper
-returns-clause-upper g c =
-    upper_from g.C.BitString.bits c.args.depth c.args.rows.now c.loop-low.low c.loop-low.high c.loop-low.invariant (omega (arith, c.loop-low-test.false))
+pub returns : goal.returns
+returns g c = split_at g.C.BitString.bits c.args.depth c.loop-low.invariant (omega (arith, c.loop-low-test.false)) c.split_at.ensures.front c.split_at.ensures.back

@@ -1,240 +1,90 @@
-use Rattle.std.proofs.Common.{rules, ◌≡◌, ◌∙◌, ◌+◌, ◌-◌, ◌<◌, ◌≤◌, ◌++◌, ◌∷◌, [], length, take, drop, refl, sym, ap, subst, arith, append_assoc, append-nil}
-use Rattle.cidr_forwarding.specs.Trees.{Even, Halves, sharing}
-use Rattle.cidr_forwarding.specs.Choices.{Sole, Fork, Chain, noted, counted}
-use Rattle.cidr_forwarding.specs.Plans.{tails, planned, measured, choices, AreOfOne}
-use Rattle.cidr_forwarding.proofs.Passes.{read_even, read_small, read_halves, read_low, read_high, choices_even, noted_one, measured_values, measured_last, measured_counts}
-use Rattle.cidr_forwarding.proofs.Sharing.{more_fits, more_one, one_rest, one_lower, one_upper}
-use Rattle.cidr_forwarding.proofs.Reading.{read_sole, read_fork, read_chain, read_one, node_here, node_inside}
+use Rattle.std.proofs.Common.{rules, ◌≡◌, ◌∙◌, ◌+◌, ◌++◌, ◌∷◌, [], false, true, length, sym, ap, arith, append_assoc, append-nil, length-append}
+use Rattle.cidr_forwarding.specs.Choices.{noted, counted}
+use Rattle.cidr_forwarding.specs.Plans.{measured, choices, planned}
+use Rattle.cidr_forwarding.proofs.Stretches.{appended}
+use Rattle.cidr_forwarding.proofs.Passes.{fork_ends, one_last, parts_joined}
 use Rattle.cidr_forwarding.proofs.plan.+measure.Goals as goal
-
-pub returns-then-is_empty-clause-counts : goal.returns-then-is_empty-clause-counts
-returns-then-is_empty-clause-counts g t c =
-    let sole : measured g.C.BitString.bits g.V.PartialEq.eq c.args.holes c.args.depth c.args.inherited c.args.rows.now ≡ Sole c.own_value-own.result = read_sole g.C.BitString.bits g.V.PartialEq.eq c.args.holes c.args.depth c.args.inherited c.own_value-own.result c.args.rows.now c.skipped.result c.own_value-own.ensures
-    c.skipped.ensures.halves c.skipped.ensures.longer (search rules) in
-    sym (ap (λ n. c.args.counts.now.items ++ counted n) sole ∙ append-nil c.args.counts.now.items)
-
-pub returns-then-is_empty-clause-values : goal.returns-then-is_empty-clause-values
-returns-then-is_empty-clause-values g t c =
-    let sole : measured g.C.BitString.bits g.V.PartialEq.eq c.args.holes c.args.depth c.args.inherited c.args.rows.now ≡ Sole c.own_value-own.result = read_sole g.C.BitString.bits g.V.PartialEq.eq c.args.holes c.args.depth c.args.inherited c.own_value-own.result c.args.rows.now c.skipped.result c.own_value-own.ensures
-    c.skipped.ensures.halves c.skipped.ensures.longer (search rules) in
-    c.in_ok-push.ensures.items ∙ ap (λ n. c.args.values.now.items ++ noted n) (sym sole)
-
-pub returns-then-is_empty-clause-last : goal.returns-then-is_empty-clause-last
-returns-then-is_empty-clause-last g t c =
-    let sole : measured g.C.BitString.bits g.V.PartialEq.eq c.args.holes c.args.depth c.args.inherited c.args.rows.now ≡ Sole c.own_value-own.result = read_sole g.C.BitString.bits g.V.PartialEq.eq c.args.holes c.args.depth c.args.inherited c.own_value-own.result c.args.rows.now c.skipped.result c.own_value-own.ensures
-    c.skipped.ensures.halves c.skipped.ensures.longer (search rules) in
-    let even : planned g.C.BitString.bits c.args.depth c.args.inherited c.args.rows.now ≡ Even c.own_value-own.result = read_even g.C.BitString.bits c.args.depth c.args.inherited c.own_value-own.result c.args.rows.now c.skipped.result c.own_value-own.ensures
-    c.skipped.ensures.halves (search rules) in
-    noted_one g.V.PartialEq.eq c.args.holes (planned g.C.BitString.bits c.args.depth c.args.inherited c.args.rows.now) (measured g.C.BitString.bits g.V.PartialEq.eq c.args.holes c.args.depth c.args.inherited c.args.rows.now) c.own_value-own.result []
-    (ap (choices g.V.PartialEq.eq c.args.holes) even ∙ choices_even g.V.PartialEq.eq c.args.holes c.own_value-own.result) (ap noted sole)
-
-pub shared-more-requires-clause-of : goal.shared-more-requires-clause-of
-shared-more-requires-clause-of g t c =
-    one_rest g.C.BitString.bits c.args.depth (length c.args.rows.now - c.skipped.result) c.skipped.result c.args.rows.now c.requires.of
-
-pub overflow_add-depth : goal.overflow_add-depth
-overflow_add-depth g t c =
-    let rest = take (length c.args.rows.now - c.skipped.result) (drop c.skipped.result c.args.rows.now) in
-    let some : 0 < length rest = search rules in
-    let small : c.args.depth < 129 = read_small g.C.BitString.bits c.args.depth c.args.inherited c.own_value-own.result c.args.rows.now c.skipped.result c.own_value-own.ensures
-    c.skipped.ensures.halves c.skipped.ensures.node c.skipped.ensures.deep rest refl some in
-    let node = node_here g.C.BitString.bits g.V.PartialEq.eq c.args.holes c.args.depth c.args.inherited c.own_value-own.result c.args.rows.now c.skipped.result c.own_value-own.ensures
-    c.skipped.ensures.halves c.skipped.ensures.longer c.skipped.ensures.node c.skipped.ensures.deep rest refl some in
-    omega (arith, c.shared-more.ensures, more_fits g.C.BitString.bits c.args.depth rest node small)
 
 pub measure-requires : goal.measure-requires
 measure-requires g t c κs within =
-    let rest = take (length c.args.rows.now - c.skipped.result) (drop c.skipped.result c.args.rows.now) in
-    let some : 0 < length rest = search rules in
-    let small : c.args.depth < 129 = read_small g.C.BitString.bits c.args.depth c.args.inherited c.own_value-own.result c.args.rows.now c.skipped.result c.own_value-own.ensures
-    c.skipped.ensures.halves c.skipped.ensures.node c.skipped.ensures.deep rest refl some in
-    let node = node_here g.C.BitString.bits g.V.PartialEq.eq c.args.holes c.args.depth c.args.inherited c.own_value-own.result c.args.rows.now c.skipped.result c.own_value-own.ensures
-    c.skipped.ensures.halves c.skipped.ensures.longer c.skipped.ensures.node c.skipped.ensures.deep rest refl some in
-    let many : 2 ≤ sharing (tails g.C.BitString.bits c.args.depth rest) = omega (arith, c.if-more-gt1.true, c.shared-more.ensures) in
-    let inside = c.args.depth + c.shared-more.result in
-    let inside_is : inside ≡ c.args.depth + sharing (tails g.C.BitString.bits c.args.depth rest) = ap (λ k. c.args.depth + k) c.shared-more.ensures in (
-      omega (arith, c.decreases, small, c.if-more-gt1.true),
-      (
-        within.0,
-        (
-          within.1,
-          (
-            c.requires.tells,
-            (
-              node_inside g.C.BitString.bits g.V.PartialEq.eq c.args.holes c.args.depth c.args.inherited c.own_value-own.result c.args.rows.now c.skipped.result c.own_value-own.ensures
-                  c.skipped.ensures.halves c.skipped.ensures.longer c.skipped.ensures.node c.skipped.ensures.deep rest refl some c.requires.tells many inside inside_is,
-              subst (λ k. AreOfOne g.C.BitString.bits k rest) (sym inside_is) (more_one g.C.BitString.bits c.args.depth rest node (one_rest g.C.BitString.bits c.args.depth (length c.args.rows.now - c.skipped.result) c.skipped.result c.args.rows.now c.requires.of)),
-            ),
-          ),
-        ),
-      ),
-    )
+    let p = c.in-Narrowed.ensures c.args.holes in
+    let one = c.requires.of in
+    (omega (arith, c.decreases, p.long, p.two, p.within), (within.0, (within.1, (c.requires.tells, (p.node, (one.0 ++ p.more, omega (arith, length-append one.0 p.more, one.1, p.long), p.of one.0 one.1 one.2))))))
 
-pub returns-then-more-gt1-clause-counts : goal.returns-then-more-gt1-clause-counts
-returns-then-more-gt1-clause-counts g t c =
-    let rest = take (length c.args.rows.now - c.skipped.result) (drop c.skipped.result c.args.rows.now) in
-    let some : 0 < length rest = search rules in
-    let many : 2 ≤ sharing (tails g.C.BitString.bits c.args.depth rest) = omega (arith, c.if-more-gt1.true, c.shared-more.ensures) in
-    let inside = c.args.depth + c.shared-more.result in
-    let inside_is : inside ≡ c.args.depth + sharing (tails g.C.BitString.bits c.args.depth rest) = ap (λ k. c.args.depth + k) c.shared-more.ensures in
-    let n_in = measured g.C.BitString.bits g.V.PartialEq.eq c.args.holes inside c.own_value-own.result rest in
-    let chain : measured g.C.BitString.bits g.V.PartialEq.eq c.args.holes c.args.depth c.args.inherited c.args.rows.now ≡ Chain c.own_value-own.result n_in =
-    read_chain g.C.BitString.bits g.V.PartialEq.eq c.args.holes c.args.depth c.args.inherited c.own_value-own.result c.args.rows.now c.skipped.result c.own_value-own.ensures
-    c.skipped.ensures.halves c.skipped.ensures.longer c.skipped.ensures.node c.skipped.ensures.deep rest refl some c.requires.tells many inside inside_is in
-    c.in_ok-measure.ensures.counts ∙ ap (λ n. c.args.counts.now.items ++ counted n) (sym chain)
+pub overflow_add-depth : goal.overflow_add-depth
+overflow_add-depth g t c = let p = c.in-Parted.ensures c.args.holes in omega (arith, p.small)
 
-pub returns-then-more-gt1-clause-values : goal.returns-then-more-gt1-clause-values
-returns-then-more-gt1-clause-values g t c =
-    let rest = take (length c.args.rows.now - c.skipped.result) (drop c.skipped.result c.args.rows.now) in
-    let some : 0 < length rest = search rules in
-    let many : 2 ≤ sharing (tails g.C.BitString.bits c.args.depth rest) = omega (arith, c.if-more-gt1.true, c.shared-more.ensures) in
-    let inside = c.args.depth + c.shared-more.result in
-    let inside_is : inside ≡ c.args.depth + sharing (tails g.C.BitString.bits c.args.depth rest) = ap (λ k. c.args.depth + k) c.shared-more.ensures in
-    let n_in = measured g.C.BitString.bits g.V.PartialEq.eq c.args.holes inside c.own_value-own.result rest in
-    let chain : measured g.C.BitString.bits g.V.PartialEq.eq c.args.holes c.args.depth c.args.inherited c.args.rows.now ≡ Chain c.own_value-own.result n_in =
-    read_chain g.C.BitString.bits g.V.PartialEq.eq c.args.holes c.args.depth c.args.inherited c.own_value-own.result c.args.rows.now c.skipped.result c.own_value-own.ensures
-    c.skipped.ensures.halves c.skipped.ensures.longer c.skipped.ensures.node c.skipped.ensures.deep rest refl some c.requires.tells many inside inside_is in
-    c.in_ok-push-2.ensures.items ∙ ap (λ l. l ++ c.own_value-own.result ∷ []) c.in_ok-measure.ensures.values
-    ∙ append_assoc c.args.values.now.items (noted n_in) (c.own_value-own.result ∷ []) ∙ ap (λ n. c.args.values.now.items ++ noted n) (sym chain)
+pub measure-requires-in-Parted : goal.measure-requires-in-Parted
+measure-requires-in-Parted g t c κs within =
+    let p = c.in-Parted.ensures c.args.holes in
+    let one = c.requires.of in
+    let q = one.0 ++ true ∷ [] in
+    (omega (arith, c.decreases, p.small), (within.0, (within.1, (c.requires.tells, (p.high_node, (q, omega (arith, length-append one.0 (true ∷ []), one.1), p.high_of one.0 one.1 one.2))))))
 
-pub returns-then-more-gt1-clause-last : goal.returns-then-more-gt1-clause-last
-returns-then-more-gt1-clause-last g t c =
-    let rest = take (length c.args.rows.now - c.skipped.result) (drop c.skipped.result c.args.rows.now) in
-    let some : 0 < length rest = search rules in
-    let many : 2 ≤ sharing (tails g.C.BitString.bits c.args.depth rest) = omega (arith, c.if-more-gt1.true, c.shared-more.ensures) in
-    let inside = c.args.depth + c.shared-more.result in
-    let inside_is : inside ≡ c.args.depth + sharing (tails g.C.BitString.bits c.args.depth rest) = ap (λ k. c.args.depth + k) c.shared-more.ensures in
-    let n_in = measured g.C.BitString.bits g.V.PartialEq.eq c.args.holes inside c.own_value-own.result rest in
-    let chain : measured g.C.BitString.bits g.V.PartialEq.eq c.args.holes c.args.depth c.args.inherited c.args.rows.now ≡ Chain c.own_value-own.result n_in =
-    read_chain g.C.BitString.bits g.V.PartialEq.eq c.args.holes c.args.depth c.args.inherited c.own_value-own.result c.args.rows.now c.skipped.result c.own_value-own.ensures
-    c.skipped.ensures.halves c.skipped.ensures.longer c.skipped.ensures.node c.skipped.ensures.deep rest refl some c.requires.tells many inside inside_is in
-    noted_one g.V.PartialEq.eq c.args.holes (planned g.C.BitString.bits c.args.depth c.args.inherited c.args.rows.now) (measured g.C.BitString.bits g.V.PartialEq.eq c.args.holes c.args.depth c.args.inherited c.args.rows.now) c.own_value-own.result (noted n_in)
-    (read_one g.C.BitString.bits g.V.PartialEq.eq c.args.holes c.args.depth c.args.inherited c.own_value-own.result c.args.rows.now c.skipped.result c.own_value-own.ensures
-    c.skipped.ensures.halves c.skipped.ensures.longer c.skipped.ensures.node c.skipped.ensures.deep rest refl some c.requires.tells many inside inside_is) (ap noted chain)
+pub overflow_add-depth-in-Parted : goal.overflow_add-depth-in-Parted
+overflow_add-depth-in-Parted g t c = let p = c.in-Parted.ensures c.args.holes in omega (arith, p.small)
 
-pub overflow_add-depth-2 : goal.overflow_add-depth-2
-overflow_add-depth-2 g t c =
-    let rest = take (length c.args.rows.now - c.skipped.result) (drop c.skipped.result c.args.rows.now) in
-    let some : 0 < length rest = search rules in
-    let small : c.args.depth < 129 = read_small g.C.BitString.bits c.args.depth c.args.inherited c.own_value-own.result c.args.rows.now c.skipped.result c.own_value-own.ensures
-    c.skipped.ensures.halves c.skipped.ensures.node c.skipped.ensures.deep rest refl some in
-    omega (arith, small)
+pub measure-requires-in-Parted-2 : goal.measure-requires-in-Parted-2
+measure-requires-in-Parted-2 g t c κs within =
+    let p = c.in-Parted.ensures c.args.holes in
+    let one = c.requires.of in
+    let q = one.0 ++ false ∷ [] in
+    (omega (arith, c.decreases, p.small), (within.0, (within.1, (c.requires.tells, (p.low_node, (q, omega (arith, length-append one.0 (false ∷ []), one.1), p.low_of one.0 one.1 one.2))))))
 
-pub overflow_add-depth-3 : goal.overflow_add-depth-3
-overflow_add-depth-3 g t c =
-    let rest = take (length c.args.rows.now - c.skipped.result) (drop c.skipped.result c.args.rows.now) in
-    let some : 0 < length rest = search rules in
-    let small : c.args.depth < 129 = read_small g.C.BitString.bits c.args.depth c.args.inherited c.own_value-own.result c.args.rows.now c.skipped.result c.own_value-own.ensures
-    c.skipped.ensures.halves c.skipped.ensures.node c.skipped.ensures.deep rest refl some in
-    omega (arith, small)
+pub returns-in_ok-push-in-Ended-clause-counts : goal.returns-in_ok-push-in-Ended-clause-counts
+returns-in_ok-push-in-Ended-clause-counts g t c =
+    let p = c.in-Ended.ensures c.args.holes in
+    sym (ap (λ n. c.args.counts.now.items ++ counted n) p.left ∙ append-nil c.args.counts.now.items)
 
-pub measure-requires-2 : goal.measure-requires-2
-measure-requires-2 g t c κs within =
-    let rest = take (length c.args.rows.now - c.skipped.result) (drop c.skipped.result c.args.rows.now) in
-    let some : 0 < length rest = search rules in
-    let small : c.args.depth < 129 = read_small g.C.BitString.bits c.args.depth c.args.inherited c.own_value-own.result c.args.rows.now c.skipped.result c.own_value-own.ensures
-    c.skipped.ensures.halves c.skipped.ensures.node c.skipped.ensures.deep rest refl some in (
-      omega (arith, c.decreases, small),
-      (
-        within.0,
-        (
-          within.1,
-          (
-            c.requires.tells,
-            (
-              read_high g.C.BitString.bits c.args.depth c.args.inherited c.own_value-own.result c.args.rows.now c.skipped.result c.own_value-own.ensures
-                  c.skipped.ensures.halves c.skipped.ensures.node c.skipped.ensures.deep rest refl some c.split-mid.result c.split-mid.ensures.lower c.split-mid.ensures.upper,
-              one_upper g.C.BitString.bits c.args.depth c.split-mid.result rest (one_rest g.C.BitString.bits c.args.depth (length c.args.rows.now - c.skipped.result) c.skipped.result c.args.rows.now c.requires.of) c.split-mid.ensures.upper,
-            ),
-          ),
-        ),
-      ),
-    )
+pub returns-in_ok-push-in-Ended-clause-values : goal.returns-in_ok-push-in-Ended-clause-values
+returns-in_ok-push-in-Ended-clause-values g t c =
+    let p = c.in-Ended.ensures c.args.holes in
+    c.in_ok-push-in-Ended.ensures.items ∙ ap (λ n. c.args.values.now.items ++ noted n) (sym p.left)
 
-pub measure-requires-3 : goal.measure-requires-3
-measure-requires-3 g t c κs within =
-    let rest = take (length c.args.rows.now - c.skipped.result) (drop c.skipped.result c.args.rows.now) in
-    let some : 0 < length rest = search rules in
-    let small : c.args.depth < 129 = read_small g.C.BitString.bits c.args.depth c.args.inherited c.own_value-own.result c.args.rows.now c.skipped.result c.own_value-own.ensures
-    c.skipped.ensures.halves c.skipped.ensures.node c.skipped.ensures.deep rest refl some in (
-      omega (arith, c.decreases, small),
-      (
-        within.0,
-        (
-          within.1,
-          (
-            c.requires.tells,
-            (
-              read_low g.C.BitString.bits c.args.depth c.args.inherited c.own_value-own.result c.args.rows.now c.skipped.result c.own_value-own.ensures
-                  c.skipped.ensures.halves c.skipped.ensures.node c.skipped.ensures.deep rest refl some c.split-mid.result c.split-mid.ensures.lower c.split-mid.ensures.upper,
-              one_lower g.C.BitString.bits c.args.depth c.split-mid.result rest (one_rest g.C.BitString.bits c.args.depth (length c.args.rows.now - c.skipped.result) c.skipped.result c.args.rows.now c.requires.of) c.split-mid.ensures.lower,
-            ),
-          ),
-        ),
-      ),
-    )
+pub returns-in_ok-push-in-Ended-clause-last : goal.returns-in_ok-push-in-Ended-clause-last
+returns-in_ok-push-in-Ended-clause-last g t c = let p = c.in-Ended.ensures c.args.holes in one_last [] p.only (ap noted p.left)
 
-pub returns-clause-counts : goal.returns-clause-counts
-returns-clause-counts g t' c =
-    let rest = take (length c.args.rows.now - c.skipped.result) (drop c.skipped.result c.args.rows.now) in
-    let some : 0 < length rest = search rules in
-    let few : sharing (tails g.C.BitString.bits c.args.depth rest) ≤ 1 = omega (arith, c.if-more-gt1.false, c.shared-more.ensures) in
-    let mid = c.split-mid.result in
-    let l = planned g.C.BitString.bits (c.args.depth + 1) c.own_value-own.result (take mid rest) in
-    let r = planned g.C.BitString.bits (c.args.depth + 1) c.own_value-own.result (take (length rest - mid) (drop mid rest)) in
-    let n_l = measured g.C.BitString.bits g.V.PartialEq.eq c.args.holes (c.args.depth + 1) c.own_value-own.result (take mid rest) in
-    let n_r = measured g.C.BitString.bits g.V.PartialEq.eq c.args.holes (c.args.depth + 1) c.own_value-own.result (take (length rest - mid) (drop mid rest)) in
-    let t = planned g.C.BitString.bits c.args.depth c.args.inherited c.args.rows.now in
-    let n_t = measured g.C.BitString.bits g.V.PartialEq.eq c.args.holes c.args.depth c.args.inherited c.args.rows.now in
-    let is : planned g.C.BitString.bits c.args.depth c.args.inherited c.args.rows.now ≡ Halves l r = read_halves g.C.BitString.bits c.args.depth c.args.inherited c.own_value-own.result c.args.rows.now c.skipped.result c.own_value-own.ensures
-    c.skipped.ensures.halves c.skipped.ensures.node c.skipped.ensures.deep rest refl some c.split-mid.result c.split-mid.ensures.lower c.split-mid.ensures.upper in
-    let fork : measured g.C.BitString.bits g.V.PartialEq.eq c.args.holes c.args.depth c.args.inherited c.args.rows.now ≡ Fork (choices g.V.PartialEq.eq c.args.holes (planned g.C.BitString.bits c.args.depth c.args.inherited c.args.rows.now)) n_l n_r =
-    read_fork g.C.BitString.bits g.V.PartialEq.eq c.args.holes c.args.depth c.args.inherited c.own_value-own.result c.args.rows.now c.skipped.result c.own_value-own.ensures
-    c.skipped.ensures.halves c.skipped.ensures.longer c.skipped.ensures.node c.skipped.ensures.deep rest refl some c.split-mid.result c.split-mid.ensures.lower c.split-mid.ensures.upper few in
-    measured_counts g.V.PartialEq.eq c.args.holes t l r n_t n_l n_r is fork c.args.values.now.items c.measure-2.new.values.items c.measure-3.new.values.items c.join.new.values.items
-    c.in_ok-lower.lower c.in_ok-upper.upper c.in_ok-count.count c.in_ok-lower.ensures.last c.in_ok-upper.ensures.last c.in_ok-upper.ensures.values c.in_ok-lower.ensures.values
-    c.len-end.result c.len-upper_end.result (search rules) (search rules) c.in_ok-count.ensures
-    c.args.counts.now.items c.measure-2.new.counts.items c.measure-3.new.counts.items c.push-2.new.self.items
-    c.in_ok-upper.ensures.counts c.in_ok-lower.ensures.counts c.in_ok-push-3.ensures.items
+pub returns-in_ok-push-in-Narrowed-clause-counts : goal.returns-in_ok-push-in-Narrowed-clause-counts
+returns-in_ok-push-in-Narrowed-clause-counts g t c =
+    let p = c.in-Narrowed.ensures c.args.holes in
+    c.in_ok-measure-in-Narrowed.ensures.counts ∙ ap (λ n. c.args.counts.now.items ++ counted n) (sym p.left)
 
-pub returns-clause-values : goal.returns-clause-values
-returns-clause-values g t' c =
-    let rest = take (length c.args.rows.now - c.skipped.result) (drop c.skipped.result c.args.rows.now) in
-    let some : 0 < length rest = search rules in
-    let few : sharing (tails g.C.BitString.bits c.args.depth rest) ≤ 1 = omega (arith, c.if-more-gt1.false, c.shared-more.ensures) in
-    let mid = c.split-mid.result in
-    let l = planned g.C.BitString.bits (c.args.depth + 1) c.own_value-own.result (take mid rest) in
-    let r = planned g.C.BitString.bits (c.args.depth + 1) c.own_value-own.result (take (length rest - mid) (drop mid rest)) in
-    let n_l = measured g.C.BitString.bits g.V.PartialEq.eq c.args.holes (c.args.depth + 1) c.own_value-own.result (take mid rest) in
-    let n_r = measured g.C.BitString.bits g.V.PartialEq.eq c.args.holes (c.args.depth + 1) c.own_value-own.result (take (length rest - mid) (drop mid rest)) in
-    let t = planned g.C.BitString.bits c.args.depth c.args.inherited c.args.rows.now in
-    let n_t = measured g.C.BitString.bits g.V.PartialEq.eq c.args.holes c.args.depth c.args.inherited c.args.rows.now in
-    let is : planned g.C.BitString.bits c.args.depth c.args.inherited c.args.rows.now ≡ Halves l r = read_halves g.C.BitString.bits c.args.depth c.args.inherited c.own_value-own.result c.args.rows.now c.skipped.result c.own_value-own.ensures
-    c.skipped.ensures.halves c.skipped.ensures.node c.skipped.ensures.deep rest refl some c.split-mid.result c.split-mid.ensures.lower c.split-mid.ensures.upper in
-    let fork : measured g.C.BitString.bits g.V.PartialEq.eq c.args.holes c.args.depth c.args.inherited c.args.rows.now ≡ Fork (choices g.V.PartialEq.eq c.args.holes (planned g.C.BitString.bits c.args.depth c.args.inherited c.args.rows.now)) n_l n_r =
-    read_fork g.C.BitString.bits g.V.PartialEq.eq c.args.holes c.args.depth c.args.inherited c.own_value-own.result c.args.rows.now c.skipped.result c.own_value-own.ensures
-    c.skipped.ensures.halves c.skipped.ensures.longer c.skipped.ensures.node c.skipped.ensures.deep rest refl some c.split-mid.result c.split-mid.ensures.lower c.split-mid.ensures.upper few in
-    measured_values g.V.PartialEq.eq c.args.holes t l r n_t n_l n_r is fork c.args.values.now.items c.measure-2.new.values.items c.measure-3.new.values.items c.join.new.values.items
-    c.in_ok-lower.lower c.in_ok-upper.upper c.in_ok-count.count c.in_ok-lower.ensures.last c.in_ok-upper.ensures.last c.in_ok-upper.ensures.values c.in_ok-lower.ensures.values
-    c.len-end.result c.len-upper_end.result (search rules) (search rules) c.in_ok-count.ensures
+pub returns-in_ok-push-in-Narrowed-clause-values : goal.returns-in_ok-push-in-Narrowed-clause-values
+returns-in_ok-push-in-Narrowed-clause-values g t c =
+    let p = c.in-Narrowed.ensures c.args.holes in
+    let old = c.args.values.now.items in
+    let own = c.in-Narrowed.own ∷ [] in
+    let inside = noted (measured g.C.BitString.bits g.V.PartialEq.eq c.args.holes c.in-Narrowed.inside c.in-Narrowed.own c.in-Narrowed.rest.now) in
+    c.in_ok-push-in-Narrowed.ensures.items ∙ ap (λ l. l ++ own) c.in_ok-measure-in-Narrowed.ensures.values
+    ∙ append_assoc old inside own ∙ ap (λ n. old ++ noted n) (sym p.left)
 
-pub returns-clause-last : goal.returns-clause-last
-returns-clause-last g t' c =
-    let rest = take (length c.args.rows.now - c.skipped.result) (drop c.skipped.result c.args.rows.now) in
-    let some : 0 < length rest = search rules in
-    let few : sharing (tails g.C.BitString.bits c.args.depth rest) ≤ 1 = omega (arith, c.if-more-gt1.false, c.shared-more.ensures) in
-    let mid = c.split-mid.result in
-    let l = planned g.C.BitString.bits (c.args.depth + 1) c.own_value-own.result (take mid rest) in
-    let r = planned g.C.BitString.bits (c.args.depth + 1) c.own_value-own.result (take (length rest - mid) (drop mid rest)) in
-    let n_l = measured g.C.BitString.bits g.V.PartialEq.eq c.args.holes (c.args.depth + 1) c.own_value-own.result (take mid rest) in
-    let n_r = measured g.C.BitString.bits g.V.PartialEq.eq c.args.holes (c.args.depth + 1) c.own_value-own.result (take (length rest - mid) (drop mid rest)) in
-    let t = planned g.C.BitString.bits c.args.depth c.args.inherited c.args.rows.now in
-    let n_t = measured g.C.BitString.bits g.V.PartialEq.eq c.args.holes c.args.depth c.args.inherited c.args.rows.now in
-    let is : planned g.C.BitString.bits c.args.depth c.args.inherited c.args.rows.now ≡ Halves l r = read_halves g.C.BitString.bits c.args.depth c.args.inherited c.own_value-own.result c.args.rows.now c.skipped.result c.own_value-own.ensures
-    c.skipped.ensures.halves c.skipped.ensures.node c.skipped.ensures.deep rest refl some c.split-mid.result c.split-mid.ensures.lower c.split-mid.ensures.upper in
-    let fork : measured g.C.BitString.bits g.V.PartialEq.eq c.args.holes c.args.depth c.args.inherited c.args.rows.now ≡ Fork (choices g.V.PartialEq.eq c.args.holes (planned g.C.BitString.bits c.args.depth c.args.inherited c.args.rows.now)) n_l n_r =
-    read_fork g.C.BitString.bits g.V.PartialEq.eq c.args.holes c.args.depth c.args.inherited c.own_value-own.result c.args.rows.now c.skipped.result c.own_value-own.ensures
-    c.skipped.ensures.halves c.skipped.ensures.longer c.skipped.ensures.node c.skipped.ensures.deep rest refl some c.split-mid.result c.split-mid.ensures.lower c.split-mid.ensures.upper few in
-    measured_last g.V.PartialEq.eq c.args.holes t l r n_t n_l n_r is fork c.args.values.now.items c.measure-2.new.values.items c.measure-3.new.values.items c.join.new.values.items
-    c.in_ok-lower.lower c.in_ok-upper.upper c.in_ok-count.count c.in_ok-lower.ensures.last c.in_ok-upper.ensures.last c.in_ok-upper.ensures.values c.in_ok-lower.ensures.values
-    c.len-end.result c.len-upper_end.result (search rules) (search rules) c.in_ok-count.ensures
+pub returns-in_ok-push-in-Narrowed-clause-last : goal.returns-in_ok-push-in-Narrowed-clause-last
+returns-in_ok-push-in-Narrowed-clause-last g t c = let p = c.in-Narrowed.ensures c.args.holes in one_last _ p.only (ap noted p.left)
+
+pub returns-in_ok-push-in-Parted : goal.returns-in_ok-push-in-Parted
+returns-in_ok-push-in-Parted g t c =
+    let f = g.C.BitString.bits in
+    let eq = g.V.PartialEq.eq in
+    let p = c.in-Parted.ensures c.args.holes in
+    let lower = measured f eq c.args.holes (c.args.depth + 1) c.in-Parted.own c.in-Parted.lower.now in
+    let upper = measured f eq c.args.holes (c.args.depth + 1) c.in-Parted.own c.in-Parted.upper.now in
+    let set = choices eq c.args.holes (planned f c.args.depth c.args.inherited c.args.rows.now) in
+    let old = c.args.values.now.items in
+    let before = c.args.counts.now.items in
+    let now = c.join.new.joined.items in
+    let high = c.in_ok-high-in-Parted.ensures in
+    let low = c.in_ok-low-in-Parted.ensures in
+    let joined : now ≡ set =
+    c.in_ok-join-in-Parted.ensures
+    ∙ parts_joined eq c.args.holes lower upper p.plan old c.measure-in-Parted.new.values.items c.deref.result.now c.deref-in-Parted.result.now low.last high.last high.values
+    (c.deref.ensures.value ∙ low.values) (c.deref-in-Parted.ensures.value ∙ low.values) (search rules) (search rules) in
+    let length_is : c.len-in-Parted.result ≡ length now = search rules in
+    let result_is : c.len-in-Parted-2.result ≡ length now = search rules in
+    let count : c.len-in-Parted.result ≡ length set = length_is ∙ ap length joined in
+    record {
+      counts = appended before _ _ _ (counted upper) (counted lower) (length set ∷ []) _ high.counts low.counts
+          (c.in_ok-push-in-Parted.ensures.items ∙ ap (λ n. c.measure-in-Parted-2.new.counts.items ++ n ∷ []) count) (ap counted p.left);
+      values = appended old _ _ _ (noted upper) (noted lower) set _ high.values low.values
+          (c.in_ok-extend_from_slice-in-Parted.ensures.items ∙ ap (λ l. c.measure-in-Parted-2.new.values.items ++ l) (c.deref-in-Parted-2.ensures.value ∙ joined)) (ap noted p.left);
+      last = (result_is ∙ ap length joined, fork_ends p.left);
+    }

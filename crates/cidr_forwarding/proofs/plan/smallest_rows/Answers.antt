@@ -21,44 +21,21 @@ loop-row-preserved g c =
           ∙ more_none f c.deref-row-items.result.now c.loop-row.row-index c.row-item.result c.loop-row-test.true c.row-item.is c.loop-row.out.items c.loop-row.invariant w.in-None.is
     ]
 
-pub returns-clause-width : goal.returns-clause-width
-returns-clause-width g c =
+pub returns : goal.returns
+returns g c =
     let f = g.C.BitString.bits in
-    smallest_width f g.V.PartialEq.eq c.requires.tells c.args.rows.now c.smallest.ensures.node (in_bits f c.loop-row.out.items)
-    (c.loop-row.invariant ∙ ap (λ l. strip (in_bits f l)) (take_all c.loop-row.row-index c.deref-row-items.result.now c.loop-row-test.false ∙ c.deref-row-items.ensures.value)
-    ∙ ap strip c.in_ok-smallest.ensures.rows)
-
-pub returns-clause-ip : goal.returns-clause-ip
-returns-clause-ip g c =
-    let f = g.C.BitString.bits in
-    smallest_ip f g.V.PartialEq.eq c.requires.tells c.args.rows.now c.smallest.ensures.node (in_bits f c.loop-row.out.items)
-    (c.loop-row.invariant ∙ ap (λ l. strip (in_bits f l)) (take_all c.loop-row.row-index c.deref-row-items.result.now c.loop-row-test.false ∙ c.deref-row-items.ensures.value)
-    ∙ ap strip c.in_ok-smallest.ensures.rows)
-
-pub returns-clause-sorted : goal.returns-clause-sorted
-returns-clause-sorted g c =
-    let f = g.C.BitString.bits in
-    smallest_sorted f g.V.PartialEq.eq c.requires.tells c.args.rows.now c.smallest.ensures.node g.C.Ord.cmp g.met.C.NetworkBits.ordered c.loop-row.out.items
-    (c.loop-row.invariant ∙ ap (λ l. strip (in_bits f l)) (take_all c.loop-row.row-index c.deref-row-items.result.now c.loop-row-test.false ∙ c.deref-row-items.ensures.value)
-    ∙ ap strip c.in_ok-smallest.ensures.rows)
-
-pub returns-clause-fits : goal.returns-clause-fits
-returns-clause-fits g c =
-    let f = g.C.BitString.bits in
-    smallest_fits f g.V.PartialEq.eq c.requires.tells c.args.rows.now c.smallest.ensures.node c.loop-row.out.items
-    (c.loop-row.invariant ∙ ap (λ l. strip (in_bits f l)) (take_all c.loop-row.row-index c.deref-row-items.result.now c.loop-row-test.false ∙ c.deref-row-items.ensures.value)
-    ∙ ap strip c.in_ok-smallest.ensures.rows)
-
-pub returns-clause-kept : goal.returns-clause-kept
-returns-clause-kept g c =
-    let f = g.C.BitString.bits in
-    smallest_kept f g.V.PartialEq.eq c.requires.tells c.args.rows.now c.smallest.ensures.node c.loop-row.out.items
-    (c.loop-row.invariant ∙ ap (λ l. strip (in_bits f l)) (take_all c.loop-row.row-index c.deref-row-items.result.now c.loop-row-test.false ∙ c.deref-row-items.ensures.value)
-    ∙ ap strip c.in_ok-smallest.ensures.rows)
-
-pub returns-clause-kept_ip : goal.returns-clause-kept_ip
-returns-clause-kept_ip g c =
-    let f = g.C.BitString.bits in
-    smallest_kept_ip f g.V.PartialEq.eq c.requires.tells c.args.rows.now c.smallest.ensures.node c.loop-row.out.items
-    (c.loop-row.invariant ∙ ap (λ l. strip (in_bits f l)) (take_all c.loop-row.row-index c.deref-row-items.result.now c.loop-row-test.false ∙ c.deref-row-items.ensures.value)
-    ∙ ap strip c.in_ok-smallest.ensures.rows)
+    let eq = g.V.PartialEq.eq in
+    let rows = c.args.rows.now in
+    let node = c.smallest.ensures.node in
+    let out = c.loop-row.out.items in
+    let is =
+    c.loop-row.invariant ∙ ap (λ l. strip (in_bits f l)) (take_all c.loop-row.row-index c.deref-row-items.result.now c.loop-row-test.false ∙ c.deref-row-items.ensures.value)
+    ∙ ap strip c.in_ok-smallest.ensures.rows in
+    record {
+      width = smallest_width f eq c.requires.tells rows node (in_bits f out) is;
+      ip = smallest_ip f eq c.requires.tells rows node (in_bits f out) is;
+      kept = smallest_kept f eq c.requires.tells rows node out is;
+      kept_ip = smallest_kept_ip f eq c.requires.tells rows node out is;
+      sorted = smallest_sorted f eq c.requires.tells rows node g.C.Ord.cmp g.met.C.NetworkBits.ordered out is;
+      fits = smallest_fits f eq c.requires.tells rows node out is;
+    }

@@ -3,25 +3,18 @@ use Rattle.cidr_table.specs.model.CoverAddresses.{IsIpAddressBits}
 use Rattle.cidr_forwarding.proofs.Calls.{rows_same}
 use Rattle.cidr_forwarding.proofs.tables.LpmTableSmallestTable.smallest.Goals as goal
 
-pub returns-clause-width : goal.returns-clause-width
-returns-clause-width g c = rw (← c.rows_of.ensures.rows, c.table_of.ensures) c.in_ok-rows.ensures.width
-
-pub returns-clause-ip : goal.returns-clause-ip
-returns-clause-ip g c = rw (← c.rows_of.ensures.rows, c.table_of.ensures) c.in_ok-rows.ensures.ip
-
-pub returns-clause-lookups : goal.returns-clause-lookups
-returns-clause-lookups g c = rw (← c.rows_of.ensures.rows, c.table_of.ensures) (λ w l h.
-    rows_same g.C.BitString.bits (HasWidth w) c.rows_of.result.now c.in_ok-rows.rows.items ((c.in_ok-rows.ensures.width w l h).same))
-
-pub returns-clause-ip_lookups : goal.returns-clause-ip_lookups
-returns-clause-ip_lookups g c = rw (← c.rows_of.ensures.rows, c.table_of.ensures) (λ h.
-    rows_same g.C.BitString.bits IsIpAddressBits c.rows_of.result.now c.in_ok-rows.rows.items ((c.in_ok-rows.ensures.ip h).same))
-
-pub returns-clause-kept : goal.returns-clause-kept
-returns-clause-kept g c = rw (← c.rows_of.ensures.rows, c.table_of.ensures) c.in_ok-rows.ensures.kept
-
-pub returns-clause-kept_ip : goal.returns-clause-kept_ip
-returns-clause-kept_ip g c = rw (← c.rows_of.ensures.rows, c.table_of.ensures) c.in_ok-rows.ensures.kept_ip
-
-pub returns-clause-fits : goal.returns-clause-fits
-returns-clause-fits g c = rw (← c.rows_of.ensures.rows, c.table_of.ensures) c.in_ok-rows.ensures.fits
+pub returns : goal.returns
+returns g c =
+    let e = c.in_ok-rows.ensures in
+    let f = g.C.BitString.bits in
+    let old = c.rows_of.result.now in
+    let new = c.in_ok-rows.rows.items in
+    rw (← c.rows_of.ensures.rows, c.table_of.ensures) (record {
+      width = e.width;
+      ip = e.ip;
+      lookups = λ w l h. rows_same f (HasWidth w) old new ((e.width w l h).same);
+      ip_lookups = λ h. rows_same f IsIpAddressBits old new ((e.ip h).same);
+      kept = e.kept;
+      kept_ip = e.kept_ip;
+      fits = e.fits;
+    })
