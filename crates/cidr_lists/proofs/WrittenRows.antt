@@ -1,7 +1,7 @@
 -- Printed rows of prefix lists, read as the list of their name.
-use Rattle.std.proofs.Common.{◌≡◌, ◌≢◌, refl, sym, ◌∙◌, ap, subst, arith, inl, inr, ℕ, zero, suc, ◌+◌, ◌<◌, ◌≤◌, Bool, true, false, not, ◌&&◌, if◌then◌else◌, ◌==◌, List, [], ◌∷◌, ◌++◌, length, map, take, drop, get_or, slice_index, codes, decimal, Option, Some, None, cond, eq-eqb, ne_eqb, length-append}
+use Rattle.std.proofs.Common.{◌≡◌, ◌≢◌, refl, sym, ◌∙◌, ap, subst, arith, inl, inr, ℕ, zero, suc, ◌+◌, ◌<◌, ◌≤◌, Bool, true, false, not, ◌&&◌, if◌then◌else◌, ◌==◌, List, [], ◌∷◌, ◌++◌, length, map, take, drop, get_or, slice_index, codes, decimal, Option, Some, None, cond, eq-eqb, ne_eqb, append_assoc, append-nil, length-append}
 use Rattle.std.specs.Char.{digit_value, is_ascii_whitespace}
-use Rattle.std.specs.List.{AllZip, before_first, list_all, position_or_len}
+use Rattle.std.specs.List.{AllZip, before_first, fold, list_all, position_or_len}
 use Rattle.std.specs.Prelude.{Contains, bytes_eq}
 use Rattle.std.specs.Str.Parse.{AllDigits, IsNumeral, without_leading_plus}
 use Rattle.std.proofs.lemmas.Bool.{cases_eq}
@@ -24,11 +24,14 @@ use Rattle.cidr_sets.specs.declared.access.Action.TheVariants.{Permit, Deny}
 use Rattle.cidr_table.proofs.MapLaws.{contains_first, contains_later}
 use Rattle.cidr_routes.specs.declared.lists.Row.{Row}
 use Rattle.cidr_lists.specs.Lists.{IsNetworkBy, IsTooLong, lines_of}
-use Rattle.cidr_lists.specs.PrefixLists.{ActionSays, AreLengths, LengthsSay, NameSays, NetworkSays, NumberSays, OptionSays, RowLineSays, RowLinesSay, RowWordsSay, family_word, high_of, is_mark, numbered_in, numbered_rows}
+use Rattle.cidr_lists.specs.ListTexts.{RowLineSays, RowLinesSay, after_line, numbered_rows}
+use Rattle.cidr_lists.specs.PrefixLists.{ActionSays, AreLengths, CiscoSays, LengthsSay, NameSays, NetworkSays, NumberSays, OptionSays, RowSays, family_word, high_of, is_mark}
 use Rattle.cidr_lists.specs.Records.{IsCount}
 use Rattle.cidr_lists.specs.RowLines.{HasJustRows, IsListName, IsRowOf, joined, le_words, length_words, row_lines, row_words, spaced}
 use Rattle.cidr_lists.specs.Rules.{action_text}
 use Rattle.cidr_lists.specs.declared.lines.HostBits.TheVariants.{Refused}
+use Rattle.cidr_lists.specs.declared.prefix_lists.ListChange.{ListChange}
+use Rattle.cidr_lists.specs.declared.prefix_lists.ListChange.TheVariants.{AddRow}
 use Rattle.cidr_lists.specs.declared.prefix_lists.ListRow.{ListRow}
 use Rattle.cidr_lists.specs.declared.prefix_lists.NumberedRow.{NumberedRow}
 use Rattle.cidr_lists.proofs.PlainTexts.{no_space, unspaced}
@@ -304,16 +307,23 @@ module _ (family : Family) (name : List ℕ) (is_name : IsListName name) (row : 
     number_says,
   )
 
-  words_say : RowWordsSay (joined (row_words family name row)) (Some (list_row family row, name))
+  row_says : RowSays (joined (row_words family name row)) (list_row family row) name
+  row_says = (
+    family,
+    joined (name ∷ action_text row.action ∷ forced_text family row.network ∷ lengths),
+    (
+      joined (codes "prefix-list" ∷ name ∷ action_text row.action ∷ forced_text family row.network ∷ lengths),
+      first_and_rest (family_word family) (codes "prefix-list" ∷ name ∷ action_text row.action ∷ forced_text family row.network ∷ lengths) are_words,
+      first_and_rest (codes "prefix-list") (name ∷ action_text row.action ∷ forced_text family row.network ∷ lengths) from_list,
+    ),
+    name_says,
+  )
+
+  words_say : CiscoSays (joined (row_words family name row)) (Some name) (Some (AddRow (list_row family row)))
   words_say = (
     joined (row_words family name row),
-    joined (codes "prefix-list" ∷ name ∷ action_text row.action ∷ forced_text family row.network ∷ lengths),
-    joined (name ∷ action_text row.action ∷ forced_text family row.network ∷ lengths),
-    family,
     (words_trimmed (row_words family name row) are_words, unmarked family (spaced (codes "prefix-list" ∷ name ∷ action_text row.action ∷ forced_text family row.network ∷ lengths))),
-    first_and_rest (family_word family) (codes "prefix-list" ∷ name ∷ action_text row.action ∷ forced_text family row.network ∷ lengths) are_words,
-    first_and_rest (codes "prefix-list") (name ∷ action_text row.action ∷ forced_text family row.network ∷ lengths) from_list,
-    name_says,
+    row_says,
   )
 
   -- ---- its line
@@ -391,7 +401,7 @@ module _ (family : Family) (name : List ℕ) (is_name : IsListName name) (row : 
       let rest = codes "prefix-list" ∷ name ∷ action_text row.action ∷ forced_text family row.network ∷ lengths in
       Lacks-append 10 (family_word family) (spaced rest) (word_unfed (family_word family) are_words.0) (spaced_unfed rest are_words.1)
 
-  pub line_says : RowLineSays (joined (row_words family name row)) (Some (list_row family row, name))
+  pub line_says : RowLineSays (joined (row_words family name row)) (Some name, Some (AddRow (list_row family row)))
   line_says = (line_short, words_say)
 
 -- ---- a text
@@ -402,14 +412,14 @@ module _ (family : Family) (name : List ℕ) (is_name : IsListName name) where
   abbrev text_of : List (Row (List Bool)) → List ℕ
   text_of rows = row_lines family (λ p. p) name rows
 
-  abbrev said_of : List (Row (List Bool)) → List (Option (ListRow × List ℕ))
-  said_of [] = None ∷ []
-  said_of (row ∷ rows) = Some (list_row family row, name) ∷ said_of rows
+  abbrev said_of : List (Row (List Bool)) → List (Option (List ℕ) × Option ListChange)
+  said_of [] = (None, None) ∷ []
+  said_of (row ∷ rows) = (Some name, Some (AddRow (list_row family row))) ∷ said_of rows
 
   behind : (row : Row (List Bool)) (rows : List (Row (List Bool))) → AreRows (row ∷ rows) → AreRows rows
   behind row rows are other c = are other (contains_later row other rows c)
 
-  blank_says : RowLineSays [] None
+  blank_says : RowLineSays [] (None, None)
   blank_says = ((λ long. omega (arith, long)), ([], words_trimmed [] tt, refl))
 
   text_says : (rows : List (Row (List Bool))) → AreRows rows → RowLinesSay (text_of rows) (said_of rows)
@@ -426,30 +436,38 @@ module _ (family : Family) (name : List ℕ) (is_name : IsListName name) where
   abbrev unnumbered : Row (List Bool) → NumberedRow (List Bool)
   unnumbered row = record { number = None; row = row }
 
-  own_row : (f : Family) (row : Row (List Bool)) → numbered_in name f (Some (list_row f row, name)) ≡ unnumbered row ∷ []
-  own_row Ipv4 row = rw same_name refl
-  own_row Ipv6 row = rw same_name refl
+  own_row : (f : Family) (row : Row (List Bool)) (before : Bool × List (NumberedRow (List Bool)))
+      → after_line name f before (Some name, Some (AddRow (list_row f row))) ≡ (true, before.1 ++ unnumbered row ∷ [])
+  own_row Ipv4 row before = rw same_name refl
+  own_row Ipv6 row before = rw same_name refl
 
-  other_row : (f other : Family) (row : Row (List Bool)) → other ≢ f → numbered_in name other (Some (list_row f row, name)) ≡ []
-  other_row Ipv4 Ipv4 row ne = absurd (ne refl)
-  other_row Ipv4 Ipv6 row ne = rw same_name refl
-  other_row Ipv6 Ipv4 row ne = rw same_name refl
-  other_row Ipv6 Ipv6 row ne = absurd (ne refl)
+  other_row : (f other : Family) (row : Row (List Bool)) (before : Bool × List (NumberedRow (List Bool))) → other ≢ f
+      → after_line name other before (Some name, Some (AddRow (list_row f row))) ≡ (true, before.1)
+  other_row Ipv4 Ipv4 row before ne = absurd (ne refl)
+  other_row Ipv4 Ipv6 row before ne = rw same_name (ap (λ (k : List (NumberedRow (List Bool))). (true, k)) (append-nil before.1))
+  other_row Ipv6 Ipv4 row before ne = rw same_name (ap (λ (k : List (NumberedRow (List Bool))). (true, k)) (append-nil before.1))
+  other_row Ipv6 Ipv6 row before ne = absurd (ne refl)
 
-  own_rows : (rows : List (Row (List Bool))) → numbered_rows name family (said_of rows) ≡ map unnumbered rows
-  own_rows [] = refl
-  own_rows (row ∷ rows) = ap (λ k. k ++ numbered_rows name family (said_of rows)) (own_row family row) ∙ ap (λ k. unnumbered row ∷ k) (own_rows rows)
+  own_rows : (rows : List (Row (List Bool))) (before : Bool × List (NumberedRow (List Bool)))
+      → (fold (after_line name family) before (said_of rows)).1 ≡ before.1 ++ map unnumbered rows
+  own_rows [] before = sym (append-nil before.1)
+  own_rows (row ∷ rows) before =
+      ap (λ (k : Bool × List (NumberedRow (List Bool))). (fold (after_line name family) k (said_of rows)).1) (own_row family row before)
+      ∙ (own_rows rows (true, before.1 ++ unnumbered row ∷ []) ∙ append_assoc before.1 (unnumbered row ∷ []) (map unnumbered rows))
 
-  other_rows : (other : Family) → other ≢ family → (rows : List (Row (List Bool))) → numbered_rows name other (said_of rows) ≡ []
-  other_rows other ne [] = refl
-  other_rows other ne (row ∷ rows) = ap (λ k. k ++ numbered_rows name other (said_of rows)) (other_row family other row ne) ∙ other_rows other ne rows
+  other_rows : (other : Family) → other ≢ family → (rows : List (Row (List Bool))) (before : Bool × List (NumberedRow (List Bool)))
+      → (fold (after_line name other) before (said_of rows)).1 ≡ before.1
+  other_rows other ne [] before = refl
+  other_rows other ne (row ∷ rows) before =
+      ap (λ (k : Bool × List (NumberedRow (List Bool))). (fold (after_line name other) k (said_of rows)).1) (other_row family other row before ne)
+      ∙ other_rows other ne rows (true, before.1)
 
   pub rows_are_read : (rows : List (Row (List Bool))) → AreRows rows → HasJustRows (text_of rows) name family rows
   rows_are_read rows are = (
     (said_of rows, text_says rows are),
     λ read (said, says, have).
         let same : said ≡ said_of rows = one_text (lines_of (text_of rows)) said (said_of rows) says (text_says rows are) in (
-          have family ∙ (ap (numbered_rows name family) same ∙ own_rows rows),
-          λ other ne. have other ∙ (ap (numbered_rows name other) same ∙ other_rows other ne rows),
+          have family ∙ (ap (numbered_rows name family) same ∙ own_rows rows (true, [])),
+          λ other ne. have other ∙ (ap (numbered_rows name other) same ∙ other_rows other ne rows (true, [])),
         ),
   )

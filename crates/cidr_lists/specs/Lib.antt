@@ -27,6 +27,7 @@ pub mod RouteErrors
 pub mod PayloadFiles
 pub mod PayloadReading
 pub mod PrefixLists
+pub mod ListTexts
 pub mod PrefixOrder
 pub mod RowLines
 pub mod Classes

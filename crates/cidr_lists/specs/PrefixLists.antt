@@ -1,9 +1,9 @@
 -- Prefix lists as Cisco IOS and FRR write them, a row a line: `ip prefix-list NAME seq 5 permit 10.0.0.0/8 ge 16 le 24`, with ipv6 for
--- ip in those of IPv6, where `seq`, `ge` and `le` may be left out (`ip prefix-list` in Cisco's command reference of IP
--- routing; Filtering, IP Prefix List in FRR's user guide).
-use Rattle.std.specs.Prelude.{◌≡◌, ◌≢◌, ◌⊎◌, ◌==◌, ◌||◌, ℕ, ◌^◌, ◌<◌, ◌≤◌, Bool, if◌then◌else◌, List, [], ◌∷◌, ◌++◌, codes, length, map, Option, Some, None, Result, Ok, Err}
-use Rattle.std.specs.List.{AllZip, before_first, flat_map}
-use Rattle.std.specs.Str.{bytes_eq, IsTrimAscii}
+-- ip in those of IPv6, where `seq`, `ge` and `le` may be left out; and `no ip prefix-list NAME`, which clears the list (`ip prefix-list`
+-- in Cisco's command reference of IP routing; Filtering, IP Prefix List in FRR's user guide).
+use Rattle.std.specs.Prelude.{◌≡◌, ◌≢◌, ◌⊎◌, ◌==◌, ◌||◌, ℕ, ◌^◌, ◌<◌, ◌≤◌, Bool, List, [], codes, length, Option, Some, None}
+use Rattle.std.specs.List.{before_first}
+use Rattle.std.specs.Str.{IsTrimAscii}
 use Rattle.cidr.specs.either.IpNetwork.{network_family, network_prefix}
 use Rattle.cidr.specs.model.Network.{width_of}
 use Rattle.cidr.specs.declared.cidr.combined.IpCidr.{IpCidr}
@@ -11,21 +11,17 @@ use Rattle.cidr.specs.declared.family.Family.{Family}
 use Rattle.cidr.specs.declared.family.Family.TheVariants.{Ipv4, Ipv6}
 use Rattle.cidr_io.specs.Shown.{byte_excerpt}
 use Rattle.cidr_lists.specs.Fields.{AreFirstAndRest}
-use Rattle.cidr_lists.specs.ListLines.{IsNetworkBy, IsTooLong, lines_of}
-use Rattle.cidr_lists.specs.Lists.{line_networks}
+use Rattle.cidr_lists.specs.ListLines.{IsNetworkBy}
 use Rattle.cidr_lists.specs.PayloadFiles.{IsBadNetwork}
 use Rattle.cidr_lists.specs.Records.{IsCount}
-use Rattle.cidr_lists.specs.RouteErrors.{IsBadRouteBy, IsFirstBadFrom}
 use Rattle.cidr_lists.specs.Rules.{IsActionText, action_text}
 use Rattle.cidr_lists.specs.declared.errors.LineError.TheVariants.{NoField}
 use Rattle.cidr_lists.specs.declared.lines.HostBits.TheVariants.{Refused}
+use Rattle.cidr_lists.specs.declared.prefix_lists.ListChange.{ListChange}
+use Rattle.cidr_lists.specs.declared.prefix_lists.ListChange.TheVariants.{AddRow, Clear}
 use Rattle.cidr_lists.specs.declared.prefix_lists.ListRow.{ListRow}
-use Rattle.cidr_lists.specs.declared.prefix_lists.NumberedRow.{NumberedRow}
-use Rattle.cidr_lists.specs.declared.prefix_lists.NumberedRows.{NumberedRows}
 use Rattle.cidr_lists.specs.declared.route_errors.RouteError.{RouteError}
 use Rattle.cidr_lists.specs.declared.route_errors.RouteError.TheVariants.{Line, NoWord, NoNumber, NoLengths, OtherFamily}
-use Rattle.cidr_lists.specs.declared.route_errors.RouteListError.{RouteListError}
-use Rattle.cidr_lists.specs.declared.route_errors.RouteListError.TheVariants as list
 
 -- ---- words
 -- behind a text a word stands, and a number behind that; or it does not begin with the word
@@ -88,11 +84,24 @@ IsNoRow line = (text : List ℕ) × IsTrimAscii line text × (before_first is_ma
 abbrev pub IsSomeRow : List ℕ → List ℕ → Type 0
 IsSomeRow line text = IsTrimAscii line text × (before_first is_mark text ≢ [])
 
--- the line says nothing, or a row of the list of this name
-abbrev pub RowWordsSay : List ℕ → Option (ListRow × List ℕ) → Type 0
-RowWordsSay line None = IsNoRow line
-RowWordsSay line (Some (row, name)) = (text behind rest : List ℕ) × (family : Family) × IsSomeRow line text
-    × AreFirstAndRest text (family_word family) behind × AreFirstAndRest behind (codes "prefix-list") rest × NameSays family rest (row, name)
+-- the words of a list of a family stand in front
+abbrev pub ListWordsSay : List ℕ → Family → List ℕ → Type 0
+ListWordsSay text family rest = (behind : List ℕ) × AreFirstAndRest text (family_word family) behind × AreFirstAndRest behind (codes "prefix-list") rest
+
+-- the text says a row of the list of this name; and what stands behind `no` says that the list is cleared
+abbrev pub RowSays : List ℕ → ListRow → List ℕ → Type 0
+RowSays text row name = (family : Family) × (rest : List ℕ) × ListWordsSay text family rest × NameSays family rest (row, name)
+
+abbrev pub ClearedSays : List ℕ → Family → List ℕ → Type 0
+ClearedSays text family name = (rest : List ℕ) × ListWordsSay text family rest × AreFirstAndRest rest name [] × (name ≢ [])
+
+-- what a line says: the list that it is about, if it names one, and what it does to that
+abbrev pub CiscoSays : List ℕ → Option (List ℕ) → Option ListChange → Type 0
+CiscoSays line None None = IsNoRow line
+CiscoSays line (Some name) (Some (AddRow row)) = (text : List ℕ) × IsSomeRow line text × RowSays text row name
+CiscoSays line (Some name) (Some (Clear family)) = (text behind : List ℕ) × IsSomeRow line text × AreFirstAndRest text (codes "no") behind
+    × ClearedSays behind family name
+CiscoSays line list change = ⊥
 
 -- ---- a line in error
 -- the word is missing, or a wrong one
@@ -156,63 +165,19 @@ abbrev pub HasBadName : Family → List ℕ → RouteError → Type 0
 HasBadName family text e = (name rest : List ℕ) × AreFirstAndRest text name rest
     × (((name ≡ []) × (e ≡ Line NoField)) ⊎ ((name ≢ []) × HasBadNumber family rest e))
 
-abbrev pub HasBadList : Family → List ℕ → RouteError → Type 0
-HasBadList family text e = (word rest : List ℕ) × AreFirstAndRest text word rest
-    × (IsBadWord IsListWord word e ⊎ (IsListWord word × HasBadName family rest e))
+abbrev pub HasBadListWords : List ℕ → RouteError → Type 0
+HasBadListWords text e = (word rest : List ℕ) × AreFirstAndRest text word rest
+    × (IsBadWord IsFamilyWord word e
+    ⊎ (IsFamilyWord word × (next behind : List ℕ) × AreFirstAndRest rest next behind × IsBadWord IsListWord next e))
 
-abbrev pub HasBadWords : List ℕ → RouteError → Type 0
-HasBadWords line e = (text word rest : List ℕ) × IsSomeRow line text × AreFirstAndRest text word rest
-    × (IsBadWord IsFamilyWord word e ⊎ ((family : Family) × (word ≡ family_word family) × HasBadList family rest e))
+abbrev pub HasBadRow : List ℕ → RouteError → Type 0
+HasBadRow text e = HasBadListWords text e ⊎ ((family : Family) × (rest : List ℕ) × ListWordsSay text family rest × HasBadName family rest e)
 
-abbrev pub IsBadRowLine : List ℕ → RouteError → Type 0
-IsBadRowLine line e = IsBadRouteBy HasBadWords line e
+abbrev pub HasBadCleared : List ℕ → RouteError → Type 0
+HasBadCleared text e = HasBadListWords text e
+    ⊎ ((family : Family) × (rest name behind : List ℕ) × ListWordsSay text family rest × AreFirstAndRest rest name behind
+    × (((name ≡ []) × (e ≡ Line NoField)) ⊎ ((name ≢ []) × IsFurther behind e)))
 
--- ---- a text
--- the same of a line that is not too long
-abbrev pub RowLineSays : List ℕ → Option (ListRow × List ℕ) → Type 0
-RowLineSays line said = ¬ (IsTooLong line) × RowWordsSay line said
-
-abbrev pub RowLinesSay : List ℕ → List (Option (ListRow × List ℕ)) → Type 0
-RowLinesSay text said = AllZip RowLineSays (lines_of text) said
-
--- the first line in error, by its number from 1 on
-abbrev pub IsFirstBadRowLine : List ℕ → ℕ → RouteError → Type 0
-IsFirstBadRowLine text number e = IsFirstBadFrom 1 (AllZip RowLineSays) IsBadRowLine (lines_of text) number e
-
--- the row of a line, if it has one of the list of this name and of this family
-abbrev pub numbered : ListRow → List Bool → NumberedRow (List Bool)
-numbered row p = record { number = row.number; row = record { action = row.action; network = p; low = row.low; high = row.high } }
-
-abbrev pub numbered_in : List ℕ → Family → Option (ListRow × List ℕ) → List (NumberedRow (List Bool))
-numbered_in name family None = []
-numbered_in name family (Some (row, list)) = if bytes_eq list name then map (numbered row) (line_networks family (row.network ∷ [])) else []
-
--- those that the lines say
-abbrev pub numbered_rows : List ℕ → Family → List (Option (ListRow × List ℕ)) → List (NumberedRow (List Bool))
-numbered_rows name family said = flat_map (numbered_in name family) said
-
-abbrev pub numbered_of : NumberedRows → Family → List (NumberedRow (List Bool))
-numbered_of rows Ipv4 = rows.v4.items
-numbered_of rows Ipv6 = rows.v6.items
-
--- the rows of a list that a text says
-abbrev pub HaveNumberedRows : List ℕ → List ℕ → NumberedRows → Type 0
-HaveNumberedRows name text rows = (said : List (Option (ListRow × List ℕ))) × RowLinesSay text said
-    × ((family : Family) → numbered_of rows family ≡ numbered_rows name family said)
-
--- why a text is not read: its first line in error, or memory
-abbrev pub IsRowsError : List ℕ → RouteListError → Type 0
-IsRowsError text (list.Line number e) = IsFirstBadRowLine text number e
-IsRowsError text list.NoMemory = Unit {0}
-
--- ---- what private functions promise
--- further rows of each family
-abbrev pub NumberedRowsGrow : NumberedRows → NumberedRows → (Family → List (NumberedRow (List Bool))) → Type 0
-NumberedRowsGrow old new more = (family : Family) → numbered_of new family ≡ numbered_of old family ++ more family
-
--- the row that a line says comes behind those before, or the line of this number is in error
-abbrev pub AddsRowLine : List ℕ → List ℕ → ℕ → NumberedRows → NumberedRows → Result (Unit {0}) RouteListError → Type 0
-AddsRowLine name line number old new (Ok _) = (said : Option (ListRow × List ℕ)) × RowLineSays line said
-    × NumberedRowsGrow old new (λ family. numbered_in name family said)
-AddsRowLine name line number old new (Err (list.Line n e)) = (n ≡ number) × IsBadRowLine line e
-AddsRowLine name line number old new (Err list.NoMemory) = Unit {0}
+abbrev pub HasBadCiscoWords : List ℕ → RouteError → Type 0
+HasBadCiscoWords line e = (text word rest : List ℕ) × IsSomeRow line text × AreFirstAndRest text word rest
+    × (((word ≡ codes "no") × HasBadCleared rest e) ⊎ ((word ≢ codes "no") × HasBadRow text e))

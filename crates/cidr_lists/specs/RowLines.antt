@@ -7,9 +7,10 @@ use Rattle.cidr.specs.texts.Printed.{forced_text}
 use Rattle.cidr.specs.declared.family.Family.{Family}
 use Rattle.cidr_routes.specs.declared.lists.Row.{Row}
 use Rattle.cidr_lists.specs.Printing.{line}
-use Rattle.cidr_lists.specs.PrefixLists.{HaveNumberedRows, RowLinesSay, family_word, numbered_of}
+use Rattle.cidr_lists.specs.ListTexts.{HaveNumberedRows, RowLinesSay, numbered_of}
+use Rattle.cidr_lists.specs.PrefixLists.{family_word}
 use Rattle.cidr_lists.specs.Rules.{action_text}
-use Rattle.cidr_lists.specs.declared.prefix_lists.ListRow.{ListRow}
+use Rattle.cidr_lists.specs.declared.prefix_lists.ListChange.{ListChange}
 use Rattle.cidr_lists.specs.declared.prefix_lists.NumberedRows.{NumberedRows}
 
 -- words, each behind a space, and with a space between two
@@ -55,6 +56,6 @@ IsRowOf family row = (length row.network ≤ row.low) × (row.low ≤ row.high) 
 
 -- no line of a text is in error, and of the list of this name it has just these rows, without numbers
 abbrev pub HasJustRows : List ℕ → List ℕ → Family → List (Row (List Bool)) → Type 0
-HasJustRows text name family rows = ((said : List (Option (ListRow × List ℕ))) × RowLinesSay text said)
+HasJustRows text name family rows = ((said : List (Option (List ℕ) × Option ListChange)) × RowLinesSay text said)
     × ((read : NumberedRows) → HaveNumberedRows name text read
     → (numbered_of read family ≡ map (λ row. record { number = None; row = row }) rows) × ((other : Family) → other ≢ family → numbered_of read other ≡ []))

@@ -1,5 +1,5 @@
 //! Prefix lists as Cisco IOS and FRR write them.
-ghost use Rattle.std.specs.Prelude.{◌≡◌, ◌≢◌, ◌⊎◌, ◌==◌, ◌+◌, ◌^◌, ◌<◌, ◌≤◌, [], ℕ, List, codes, cond, map, IfOk, MatchOption, MatchResult, OnOk, Some, option_map};
+ghost use Rattle.std.specs.Prelude.{◌≡◌, ◌≢◌, ◌⊎◌, ◌==◌, ◌+◌, ◌^◌, ◌<◌, ◌≤◌, [], ℕ, List, codes, cond, map, IfOk, MatchOption, MatchResult, OnOk, option_map};
 ghost use Rattle.std.specs.Bool.{Decides};
 ghost use Rattle.std.specs.List.{before_first};
 ghost use Rattle.std.specs.List.Sorted.{IsStrictlySortedBy};
@@ -8,9 +8,9 @@ ghost use Rattle.std.specs.Ordering.{nat_cmp};
 ghost use Rattle.cidr.specs.declared.family.Family.{Family};
 ghost use Rattle.cidr.specs.either.IpNetwork.{network_family};
 ghost use Rattle.cidr_table.specs.model.LastRows.{AreLastRows};
-ghost use Rattle.cidr_lists.specs.Fields.{AreFirstAndRest};
 ghost use Rattle.cidr_lists.specs.Lists.{IsNetworkBy, kept_of};
-ghost use Rattle.cidr_lists.specs.PrefixLists.{ActionSays, AddsRowLine, AreBadLengths, AreLengths, HasBadAction, HasBadList, HasBadName, HasBadNetwork, HasBadNumber, HasBadWords, HaveNumberedRows, IsBadOption, IsFamilyWord, IsListWord, IsNumberError, IsOfOtherFamily, IsRowsError, IsWordError, LengthsSay, NameSays, NetworkSays, NumberSays, NumberedRowsGrow, OptionSays, RowWordsSay, family_word, high_of, is_mark, low_of, numbered_in, numbered_of};
+ghost use Rattle.cidr_lists.specs.ListTexts.{AddsRowLine, is_about, HaveNumberedRows, IsRowsError, RowsChange, numbered_of, rows_after};
+ghost use Rattle.cidr_lists.specs.PrefixLists.{ActionSays, AreBadLengths, AreLengths, CiscoSays, ClearedSays, HasBadAction, HasBadCiscoWords, HasBadCleared, HasBadListWords, HasBadName, HasBadNetwork, HasBadNumber, HasBadRow, IsBadOption, IsFamilyWord, IsFurther, IsListWord, IsNumberError, IsOfOtherFamily, IsWordError, LengthsSay, ListWordsSay, NameSays, NetworkSays, NumberSays, OptionSays, RowSays, family_word, high_of, is_mark, low_of};
 ghost use Rattle.cidr_lists.specs.PrefixOrder.{AreInOrder, number_behind, with_numbers};
 ghost use Rattle.cidr_lists.specs.PayloadFiles.{IsBadNetwork};
 ghost use Rattle.cidr_lists.specs.declared.lines.HostBits.TheVariants.{Refused};
@@ -43,6 +43,15 @@ pub struct ListRow {
     pub low: u8,
     /// The greatest: that behind `le`, or else the full one behind `ge`, and that of the network without.
     pub high: u8,
+}
+
+/// What a line does to the prefix list that it is about.
+#[derive(Clone, Copy, Debug, Drop)]
+pub enum ListChange {
+    /// This row comes behind those of its family.
+    AddRow(ListRow),
+    /// The rows of this family that stand before the line don't count.
+    Clear(Family),
 }
 
 /// A row of a prefix list of one family.
@@ -111,6 +120,17 @@ fn lengths_by(network: &IpCidr, ge: Option<u32>, le: Option<u32>) -> Option<(u8,
     }
 }
 
+/// The error of a further word, if there is one.
+fn nothing_in(text: &[u8]) -> Result<(), RouteError>
+    ensures { MatchResult result (λ _. text.now ≡ []) (IsFurther text.now) }
+{
+    if text.is_empty() {
+        return Ok(());
+    }
+    let (word, _) = parts_of(text);
+    Err(RouteError::NoWord(byte_excerpt(word)))
+}
+
 /// The lengths of a row, by what stands behind its network, of which the number behind `ge` is read and the rest is left.
 fn lengths_behind(
     network: &IpCidr,
@@ -123,17 +143,13 @@ fn lengths_behind(
 {
     match option_in(b"le", rest) {
         Err(e) => Err(e),
-        Ok(le) => {
-            if le.1.is_empty() {
-                match lengths_by(network, ge, le.0) {
-                    Some(lengths) => Ok(lengths),
-                    None => Err(RouteError::NoLengths(byte_excerpt(text))),
-                }
-            } else {
-                let (word, _) = parts_of(le.1);
-                Err(RouteError::NoWord(byte_excerpt(word)))
-            }
-        }
+        Ok(le) => match nothing_in(le.1) {
+            Err(e) => Err(e),
+            Ok(()) => match lengths_by(network, ge, le.0) {
+                Some(lengths) => Ok(lengths),
+                None => Err(RouteError::NoLengths(byte_excerpt(text))),
+            },
+        },
     }
 }
 
@@ -256,17 +272,55 @@ fn is_list_word(word: &[u8]) -> bool
     word == b"prefix-list".as_slice()
 }
 
-/// The row and the name that stand behind the word of a family.
-fn list_row(family: Family, text: &[u8]) -> Result<(ListRow, &[u8]), RouteError>
-    ensures { MatchResult result
-        (λ said. (rest : List ℕ) × AreFirstAndRest text.now (codes "prefix-list") rest × NameSays family rest (said.0, said.1.now))
-        (HasBadList family text.now) }
+/// The family and what stands behind the words of a list.
+fn list_words(text: &[u8]) -> Result<(Family, &[u8]), RouteError>
+    ensures { MatchResult result (λ said. ListWordsSay text.now said.0 said.1.now) (HasBadListWords text.now) }
 {
     let (word, rest) = parts_of(text);
-    if is_list_word(word) {
-        return name_row(family, rest);
+    let Some(family) = family_of(word) else {
+        return Err(bad_word(word));
+    };
+    let (next, behind) = parts_of(rest);
+    if is_list_word(next) {
+        return Ok((family, behind));
     }
-    Err(bad_word(word))
+    Err(bad_word(next))
+}
+
+/// The row that a text says, and the name of its list.
+fn list_row(text: &[u8]) -> Result<(ListRow, &[u8]), RouteError>
+    ensures { MatchResult result (λ said. RowSays text.now said.0 said.1.now) (HasBadRow text.now) }
+{
+    match list_words(text) {
+        Err(e) => Err(e),
+        Ok((family, rest)) => name_row(family, rest),
+    }
+}
+
+/// The family and the name of the list that a text behind `no` says.
+fn cleared_list(text: &[u8]) -> Result<(Family, &[u8]), RouteError>
+    ensures { MatchResult result (λ said. ClearedSays text.now said.0 said.1.now) (HasBadCleared text.now) }
+{
+    match list_words(text) {
+        Err(e) => Err(e),
+        Ok((family, rest)) => {
+            let (name, behind) = parts_of(rest);
+            if name.is_empty() {
+                return Err(RouteError::Line(LineError::NoField));
+            }
+            match nothing_in(behind) {
+                Err(e) => Err(e),
+                Ok(()) => Ok((family, name)),
+            }
+        }
+    }
+}
+
+/// Whether a word is the one in front of a list that is cleared.
+fn is_no_word(word: &[u8]) -> bool
+    ensures { Decides result (word.now ≡ codes "no") }
+{
+    word == b"no".as_slice()
 }
 
 /// Whether a line without white space at both ends is empty or a comment.
@@ -279,29 +333,33 @@ fn is_no_row(text: &[u8]) -> bool
     }
 }
 
-/// The row of a prefix list that a line says, and the name of the list; `None` for a line that is blank or a comment, which
-/// begins with `!` or `#`. Of `ip prefix-list OURS seq 5 permit 10.0.0.0/8 ge 16` the lengths are 16 to 32. A line of more than
-/// 1 MiB is for the caller to find.
+/// What a line of prefix lists of Cisco IOS or FRR says: the name of the list that it is about, and what it does to that; nothing for
+/// a line that is blank or a comment, which begins with `!` or `#`. Of `ip prefix-list OURS seq 5 permit 10.0.0.0/8 ge 16` the
+/// lengths are 16 to 32. `no ip prefix-list OURS`, with which bgpq4 begins a list, clears it; `no` of a single row is an error.
+/// A line of more than 1 MiB is for the caller to find.
 ///
 /// The first error is that of the first word that is wrong, from the front: `NoField` where it is missing, and `NoWord`; behind
 /// `seq`, `ge` and `le` it is `NoNumber`; of the network `NoField`, `Quoted`, `NotUtf8` or `NoNetwork`, where a set bit after the
 /// prefix is an error, or `OtherFamily`; and last `NoLengths`, where the lengths are not in this order: that of
 /// the network, that behind `ge`, that behind `le`, the full one. Neighbours may be equal. It takes time in the length of the line and
 /// allocates nothing.
-pub fn row_of(line: &[u8]) -> Result<Option<(ListRow, &[u8])>, RouteError>
-    ensures { MatchResult result (λ said. RowWordsSay line.now (option_map (λ row. (row.0, row.1.now)) said)) (HasBadWords line.now) }
+pub fn cisco_line(line: &[u8]) -> Result<(Option<&[u8]>, Option<ListChange>), RouteError>
+    ensures { MatchResult result (λ said. CiscoSays line.now (option_map (λ name. name.now) said.0) said.1) (HasBadCiscoWords line.now) }
 {
     let text = line.trim_ascii();
     if is_no_row(text) {
-        return Ok(None);
+        return Ok((None, None));
     }
     let (word, rest) = parts_of(text);
-    match family_of(word) {
-        None => Err(bad_word(word)),
-        Some(family) => match list_row(family, rest) {
+    if is_no_word(word) {
+        return match cleared_list(rest) {
             Err(e) => Err(e),
-            Ok(row) => Ok(Some(row)),
-        },
+            Ok((family, name)) => Ok((Some(name), Some(ListChange::Clear(family)))),
+        };
+    }
+    match list_row(text) {
+        Err(e) => Err(e),
+        Ok((row, name)) => Ok((Some(name), Some(ListChange::AddRow(row)))),
     }
 }
 
@@ -320,23 +378,51 @@ fn numbered<C: NetworkBits + Copy>(row: &ListRow, network: C) -> NumberedRow<C>
     }
 }
 
-/// Adds the row that a line says, if it says one of the list of this name.
+/// Whether a line is about the list of a name, if the line before it is or isn't.
+fn is_about(name: &[u8], before: bool, list: Option<&[u8]>) -> bool
+    ensures { result ≡ is_about name.now before (option_map (λ name. name.now) list.entry) }
+{
+    match list {
+        Some(list) => list == name,
+        None => before,
+    }
+}
+
+/// Does what a line says, if it is about the list.
+fn change_if(
+    about: bool,
+    change: Option<ListChange>,
+    rows: &mut NumberedRows,
+) -> Result<(), AllocError>
+    ensures { OnOk result ((family : Family) → numbered_of rows.new family ≡ rows_after family about (numbered_of rows.old family) change) }
+{
+    let Some(change) = change else {
+        return Ok(());
+    };
+    if about {
+        rows.change(&change)?;
+    }
+    Ok(())
+}
+
+/// Does to the list of a name what a line says, if it is about it, and tells whether it is.
 fn add_row_line(
     name: &[u8],
     number: u64,
     line: &[u8],
+    before: bool,
     rows: &mut NumberedRows,
-) -> Result<(), RouteListError>
-    ensures { AddsRowLine name.now (kept_of line.now) number rows.old rows.new result }
+) -> Result<bool, RouteListError>
+    ensures { AddsRowLine name.now (kept_of line.now) number before rows.old rows.new result }
 {
     if is_too_long(line) {
         return Err(RouteListError::Line(number, RouteError::Line(LineError::TooLong)));
     }
-    match row_of(line) {
-        Ok(None) => Ok(()),
-        Ok(Some((row, list))) => {
-            rows.push_of(name, &row, list)?;
-            Ok(())
+    match cisco_line(line) {
+        Ok((list, change)) => {
+            let about = is_about(name, before, list);
+            change_if(about, change, rows)?;
+            Ok(about)
         }
         Err(e) => Err(RouteListError::Line(number, e)),
     }
@@ -353,22 +439,22 @@ impl NumberedRows {
         }
     }
 
-    /// Adds the row of a list behind those of its family, if the list has this name. After an error, which is that there is no
-    /// memory, what was added isn't told.
-    pub fn push_of(&mut self, name: &[u8], row: &ListRow, list: &[u8]) -> Result<(), AllocError>
-        ensures { OnOk result (NumberedRowsGrow self.old self.new (λ family. numbered_in name.now family (Some (row.now, list.now)))) }
+    /// Does what a line says that is about the list. After an error, which is that there is no memory, what was done isn't told.
+    pub fn change(&mut self, change: &ListChange) -> Result<(), AllocError>
+        ensures { OnOk result (RowsChange self.old self.new change.now) }
     {
-        if list != name {
-            return Ok(());
-        }
-        match row.network {
-            IpCidr::V4(network) => self.v4.push(numbered(row, network))?,
-            IpCidr::V6(network) => self.v6.push(numbered(row, network))?,
+        match change {
+            ListChange::AddRow(row) => match row.network {
+                IpCidr::V4(network) => self.v4.push(numbered(row, network))?,
+                IpCidr::V6(network) => self.v6.push(numbered(row, network))?,
+            },
+            ListChange::Clear(Family::Ipv4) => self.v4.clear(),
+            ListChange::Clear(Family::Ipv6) => self.v6.clear(),
         }
         Ok(())
     }
 
-    /// The rows of the list of a name that a text says, by [`row_of`] of each line: those of other lists are read and passed
+    /// The rows of the list of a name that a text says, by [`cisco_line`] of each line: those of other lists are read and passed
     /// over. The error is that of the first line in error, with its number from 1 on, where one of more than 1 MiB is
     /// `TooLong`; `NoMemory` may come before it. It takes time in the length of the text.
     pub fn of_text(alloc: Global, name: &[u8], text: &[u8]) -> Result<NumberedRows, RouteListError>
@@ -377,14 +463,16 @@ impl NumberedRows {
         let mut rows = NumberedRows::new(alloc);
         let mut rest = text;
         let mut number = 1;
+        let mut about = true;
         loop {
             let (line, behind) = rest.split_at(line_len(rest));
-            add_row_line(name, number, line, &mut rows)?;
+            let after = add_row_line(name, number, line, about, &mut rows)?;
             let Some((_, next)) = behind.split_first() else {
                 return Ok(rows);
             };
             rest = next;
             number += 1;
+            about = after;
         }
     }
 }
