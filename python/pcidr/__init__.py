@@ -15,6 +15,7 @@ from pcidr._values import Address, Host, Network, SpecialEntry, text_fault
 TYPE_CHECKING = False
 if TYPE_CHECKING:
     from pcidr._purposes import Purpose
+    from pcidr._routes import Payloads, PrefixList, Validity
     from pcidr._sets import (
         MutableNetworkSet,
         NetworkSet,
@@ -42,10 +43,13 @@ __all__ = [
     "MutableNetworkSet",
     "Network",
     "NetworkSet",
+    "Payloads",
+    "PrefixList",
     "Purpose",
     "SpecialEntry",
     "StoredTable",
     "Table",
+    "Validity",
     "collapse_addresses",
     "contains_each",
     "deciding",
@@ -62,7 +66,11 @@ __all__ = [
 ]
 
 # What else there is, by the module that has it, which is loaded when somebody asks for it.
-_LATER = {"Purpose": "_purposes", "Matches": "_tables", "StoredTable": "_tables", "Table": "_tables"}
+_LATER = {
+    **dict.fromkeys(("Matches", "StoredTable", "Table"), "_tables"),
+    **dict.fromkeys(("Payloads", "PrefixList", "Validity"), "_routes"),
+    "Purpose": "_purposes",
+}
 
 
 if not TYPE_CHECKING:

@@ -21,6 +21,10 @@ HOST_BITS_REFUSED_WITH_MASKS = 2
 HOST_BITS_CLEARED_WITH_MASKS = 3
 NO_INDEX = 0xFFFFFFFFFFFFFFFF
 LENGTHS = 130
+VALID = 1
+INVALID_LENGTH = 2
+INVALID_ORIGIN = 3
+NOT_FOUND = 4
 NO_ROW = 0xFFFFFFFF
 
 
@@ -129,6 +133,25 @@ class Rule(Structure):
     _fields_ = [("network", Value), ("action", c_uint32)]
 
 
+class Payload(Structure):
+    """`pcidr_payload`."""
+
+    network: Value
+    origin: int
+    max_length: int
+    _fields_ = [("network", Value), ("origin", c_uint32), ("max_length", c_uint32)]
+
+
+class PrefixRow(Structure):
+    """`pcidr_prefix_row`."""
+
+    network: Value
+    action: int
+    low: int
+    high: int
+    _fields_ = [("network", Value), ("action", c_uint32), ("low", c_uint16), ("high", c_uint16)]
+
+
 class Row(Structure):
     """`pcidr_row`."""
 
@@ -213,10 +236,11 @@ difference:aecececf symmetric_difference:aecececf union_in_place:aecfec intersec
 complement:aecdecf is_subset:aececn is_disjoint:aececn summarize:addecf ranges:aececf count_ipv4:aeck count_ipv6:aeck nth_ipv4:aeciid
 nth_ipv6:aeciid first_free:aecjd best_free:aecjd contains_each:aececec longest_match_each:aececec nearest_each:aecec sort_order:aececf
 table_order:aececf rows_find:aecdf rows_lengths:aecec rows_longest:aececdf rows_covered:aecdff rows_covering:aecdecf rows_insert:aececfdf
-rows_remove:aecfdf covering:aecdecf covered:aecdecf permits:aecd permitted:aececf shadowed:aececf deciding:aecdecf smallest:aececf
-forwards_same:aececn ipv4_table_build:aecececo ipv6_table_build:aecececo ipv4_table_check:aecececa ipv6_table_check:aecececa
-ipv4_table_lookup:aececpd ipv6_table_lookup:aececpd ipv4_table_lookup_each:aececpecec ipv6_table_lookup_each:aececpecec file_open:aecq
-file_check:aec file_lookup:aecqdr file_lookup_each:aecqecec set_has:aecqd set_has_each:aecqecec file_write:aececececf set_write:aececf
+rows_remove:aecfdf covering:aecdecf covered:aecdecf permits:aecd permitted:aececf shadowed:aececf deciding:aecdecf validity:aecdi
+list_permits:aecd smallest:aececf forwards_same:aececn ipv4_table_build:aecececo ipv6_table_build:aecececo ipv4_table_check:aecececa
+ipv6_table_check:aecececa ipv4_table_lookup:aececpd ipv6_table_lookup:aececpd ipv4_table_lookup_each:aececpecec
+ipv6_table_lookup_each:aececpecec file_open:aecq file_check:aec file_lookup:aecqdr file_lookup_each:aecqecec set_has:aecqd
+set_has_each:aecqecec file_write:aececececf set_write:aececf
 """
 
 

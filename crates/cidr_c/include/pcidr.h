@@ -793,6 +793,49 @@ uint32_t pcidr_shadowed(const pcidr_rule *rules, size_t rules_len, size_t *out, 
 uint32_t pcidr_deciding(const pcidr_rule *rules, size_t rules_len, const pcidr_value *network, size_t *out,
                         size_t out_len, size_t *count);
 
+/* ---- routes: whether the origin of a route is valid (RFC 6811), and what a prefix list permits */
+
+/* A validated ROA payload: the AS may announce the network, and those in it up to a prefix length. One of AS 0 matches no route. */
+typedef struct pcidr_payload {
+    pcidr_value network;
+    uint32_t origin;
+    uint32_t max_length;
+} pcidr_payload;
+
+PCIDR_ASSERT(sizeof(pcidr_payload) == 32);
+PCIDR_ASSERT(offsetof(pcidr_payload, network) == 0);
+PCIDR_ASSERT(offsetof(pcidr_payload, origin) == 24);
+PCIDR_ASSERT(offsetof(pcidr_payload, max_length) == 28);
+
+/* What payloads say of a route: PCIDR_VALID where one matches it, PCIDR_INVALID_LENGTH where its prefix is too long for each of its
+ * AS that covers it, PCIDR_INVALID_ORIGIN where those that cover it are of others alone, PCIDR_NOT_FOUND where none covers it. Both
+ * in the middle are "Invalid" in RFC 6811. 0 where the route or the network of a payload is none. An `origin` of 2^32 or above stands
+ * for no AS, as for a path that ends in a set of them. Does not allocate; O(n). */
+#define PCIDR_VALID 1
+#define PCIDR_INVALID_LENGTH 2
+#define PCIDR_INVALID_ORIGIN 3
+#define PCIDR_NOT_FOUND 4
+uint32_t pcidr_validity(const pcidr_payload *payloads, size_t payloads_len, const pcidr_value *route, uint64_t origin);
+
+/* A row of a prefix list: it is about the networks in its network whose prefix length is one from `low` to `high`. An action of 1
+ * permits them, and any other denies them. */
+typedef struct pcidr_prefix_row {
+    pcidr_value network;
+    uint32_t action;
+    uint16_t low;
+    uint16_t high;
+} pcidr_prefix_row;
+
+PCIDR_ASSERT(sizeof(pcidr_prefix_row) == 32);
+PCIDR_ASSERT(offsetof(pcidr_prefix_row, network) == 0);
+PCIDR_ASSERT(offsetof(pcidr_prefix_row, action) == 24);
+PCIDR_ASSERT(offsetof(pcidr_prefix_row, low) == 28);
+PCIDR_ASSERT(offsetof(pcidr_prefix_row, high) == 30);
+
+/* 1 where the first row that is about the network permits it, and 0 where it denies it, where none is about it, or where one of the
+ * values is no network. Does not allocate; O(n). */
+uint32_t pcidr_list_permits(const pcidr_prefix_row *rows, size_t rows_len, const pcidr_value *network);
+
 /* ---- forwarding: rows of networks with a number each; an address is forwarded to the number of the longest network that it
  * is in. Rows may be in any order; of a network that repeats the last row counts */
 

@@ -28,6 +28,7 @@ pub mod Places
 pub mod Readings
 pub mod Related
 pub mod PrintedBoth
+pub mod RouteAnswers
 pub mod RuleLists
 pub mod Sought
 pub mod SubnetLists

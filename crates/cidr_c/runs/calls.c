@@ -666,6 +666,31 @@ static void access_lists(void) {
     WANT(pcidr_shadowed(rules, 3, indexes, 2, &count) == PCIDR_NO_VALUE && count == 77 && indexes[0] == 2);
 }
 
+static void routes(void) {
+    /* the answers are those of the words of RFC 6811, section 2 */
+    pcidr_payload payloads[4] = {{{0, 0, 0}, 64496, 24}, {{0, 0, 0}, 64497, 16}, {{0, 0, 0}, 0, 32}, {{0, 0, 0}, 64496, 48}};
+    payloads[0].network = value("192.0.2.0/24"), payloads[1].network = value("10.0.0.0/8");
+    payloads[2].network = value("203.0.113.0/24"), payloads[3].network = value("2001:db8::/32");
+    pcidr_value exact = value("192.0.2.0/24"), longer = value("192.0.2.0/25"), inside = value("10.1.0.0/16"), shorter = value("10.0.0.0/7");
+    pcidr_value of_none = value("203.0.113.0/24"), six = value("2001:db8:1::/48"), other = value("198.51.100.0/24");
+    WANT(pcidr_validity(payloads, 4, &exact, 64496) == PCIDR_VALID && pcidr_validity(payloads, 4, &exact, 64497) == PCIDR_INVALID_ORIGIN);
+    WANT(pcidr_validity(payloads, 4, &longer, 64496) == PCIDR_INVALID_LENGTH);
+    WANT(pcidr_validity(payloads, 4, &exact, UINT64_C(1) << 32) == PCIDR_INVALID_ORIGIN);
+    WANT(pcidr_validity(payloads, 4, &exact, (UINT64_C(1) << 32) + 64496) == PCIDR_INVALID_ORIGIN);
+    WANT(pcidr_validity(payloads, 4, &inside, 64497) == PCIDR_VALID && pcidr_validity(payloads, 4, &shorter, 64497) == PCIDR_NOT_FOUND);
+    WANT(pcidr_validity(payloads, 4, &of_none, 0) == PCIDR_INVALID_ORIGIN && pcidr_validity(payloads, 4, &other, 1) == PCIDR_NOT_FOUND);
+    WANT(pcidr_validity(payloads, 4, &six, 64496) == PCIDR_VALID && pcidr_validity(NULL, 0, &six, 64496) == PCIDR_NOT_FOUND);
+    WANT(pcidr_validity(payloads, 4, &none, 64496) == 0);
+    pcidr_prefix_row rows[3] = {{{0, 0, 0}, 0, 24, 32}, {{0, 0, 0}, 1, 8, 24}, {{0, 0, 0}, 1, 32, 48}};
+    rows[0].network = value("10.0.0.0/8"), rows[1].network = value("10.0.0.0/8"), rows[2].network = value("2001:db8::/32");
+    pcidr_value whole = value("10.0.0.0/8"), last = value("10.255.255.0/24"), above = value("10.255.254.0/23"), too_long = value("2001:db8::/49");
+    WANT(pcidr_list_permits(rows, 3, &whole) == 1 && pcidr_list_permits(rows, 3, &last) == 0 && pcidr_list_permits(rows, 3, &above) == 1);
+    WANT(pcidr_list_permits(rows, 3, &shorter) == 0 && pcidr_list_permits(rows, 3, &six) == 1 && pcidr_list_permits(rows, 3, &too_long) == 0);
+    WANT(pcidr_list_permits(NULL, 0, &whole) == 0 && pcidr_list_permits(rows, 3, &none) == 0);
+    rows[1].network = none, payloads[1].network = none;
+    WANT(pcidr_list_permits(rows, 3, &whole) == 0 && pcidr_validity(payloads, 4, &exact, 64496) == 0);
+}
+
 int main(void) {
     set_mark();
     around();
@@ -689,5 +714,6 @@ int main(void) {
     changing_rows();
     forwarding();
     access_lists();
+    routes();
     return failures != 0;
 }

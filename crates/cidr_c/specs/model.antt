@@ -1,5 +1,5 @@
 -- What C has: values, the numbers of errors, networks, IPv4 inside IPv6, texts, orders, the registry, addresses of lists, pools,
--- access lists, forwarding, tables and files.
+-- access lists, routes, forwarding, tables and files.
 pub mod Values
 pub mod Codes
 pub mod Networks
@@ -10,6 +10,7 @@ pub mod Special
 pub mod Addresses
 pub mod Pools
 pub mod Rules
+pub mod Routes
 pub mod Forwarding
 pub mod Tables
 pub mod Files

@@ -32,6 +32,7 @@ mod pools;
 mod printing;
 mod ranges;
 mod reading;
+mod routes;
 mod rows;
 mod rules;
 mod sets;

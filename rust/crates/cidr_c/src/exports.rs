@@ -10,6 +10,8 @@ use crate::plans::CPlanFault;
 use crate::plans::CPlanRow;
 use crate::pointers::{slice, slice_mut};
 use crate::ranges::CRange;
+use crate::routes::CPayload;
+use crate::routes::CPrefixRow;
 use crate::rules::CRule;
 use crate::special::CSpecial;
 use crate::tables::CTable;
@@ -479,6 +481,16 @@ pub unsafe extern "C" fn pcidr_read_network(text: *const u8, text_len: usize, ou
 #[no_mangle]
 pub unsafe extern "C" fn pcidr_read_short_network(text: *const u8, text_len: usize, out: *mut CValue) -> u32 {
     crate::reading::pcidr_read_short_network(slice(text, text_len), &mut *out)
+}
+
+#[no_mangle]
+pub unsafe extern "C" fn pcidr_validity(payloads: *const CPayload, payloads_len: usize, route: *const CValue, origin: u64) -> u32 {
+    crate::routes::pcidr_validity(slice(payloads, payloads_len), &*route, origin)
+}
+
+#[no_mangle]
+pub unsafe extern "C" fn pcidr_list_permits(rows: *const CPrefixRow, rows_len: usize, network: *const CValue) -> u32 {
+    crate::routes::pcidr_list_permits(slice(rows, rows_len), &*network)
 }
 
 #[no_mangle]

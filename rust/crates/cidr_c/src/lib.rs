@@ -39,6 +39,7 @@ mod pools;
 mod printing;
 mod ranges;
 mod reading;
+mod routes;
 mod rows;
 mod rules;
 mod sets;
