@@ -1,6 +1,7 @@
 pub mod Ends
 pub mod Figures
 pub mod Pairs
+pub mod Passing
 pub mod Sameness
 pub mod Sizes
 pub mod Starting

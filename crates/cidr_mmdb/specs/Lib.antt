@@ -5,6 +5,8 @@ pub mod Metadata
 pub mod Databases
 pub mod LookUps
 pub mod Starts
+pub mod Rows
+pub mod PartNumbers
 pub mod Numerals
 pub mod Json
 pub mod Writing

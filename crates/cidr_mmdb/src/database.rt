@@ -1,11 +1,12 @@
 //! A file that is open.
-ghost use Rattle.std.specs.Prelude.{◌≡◌, ◌≤◌};
-ghost use Rattle.cidr_mmdb.specs.Starts.{start_of};
+ghost use Rattle.std.specs.Prelude.{◌≡◌, ◌≤◌, ◌==◌, ◌||◌, IsTrue};
+ghost use Rattle.cidr_mmdb.specs.Starts.{start_in};
 
 use crate::errors::JsonError;
-use crate::found::Found;
 use crate::json::text_at;
-use crate::trees::{Tree, Walk};
+use crate::parts::Parts;
+use crate::searching::Search;
+use crate::trees::Tree;
 use std::alloc::Global;
 
 /// The parts of a file. [`open`](crate::open) finds them in its bytes.
@@ -22,14 +23,15 @@ pub struct Database<'a> {
     /// The record behind the first 96 bits of ::/96 in a tree of IPv6, and else the root: where a walk by an IPv4 address begins.
     pub(crate) ipv4_start: u32,
     ghost family: { width ≤ 128 },
-    ghost start: { ipv4_start ≡ start_of tree width },
+    ghost version: { IsTrue ((width == 32) || (width == 128)) },
+    ghost start: { ipv4_start ≡ start_in tree.record_size tree.bytes.now tree.node_count width },
 }
 
 impl<'a> Database<'a> {
-    ghost use Rattle.std.specs.Prelude.{◌≡◌, ◌≤◌, ◌<◌, ◌-◌, ◌^◌, ℕ, length, IfErr, IfOk, Some};
-    ghost use Rattle.cidr_mmdb.specs.Databases.{said_by};
+    ghost use Rattle.std.specs.Prelude.{◌≡◌, ◌≤◌, ℕ, List, length, IfErr, IfOk, Some};
+    ghost use Rattle.cidr_mmdb.specs.Databases.{IsOpened};
     ghost use Rattle.cidr_mmdb.specs.Json.{IsUnwritten, json_at};
-    ghost use Rattle.cidr_mmdb.specs.Trees.{record_at, walk};
+    ghost use Rattle.cidr_mmdb.specs.PartNumbers.{AreParts};
 
     /// The value at a place of the data section as JSON, as [`lookup`](crate::lookup) found it, of at most `limit` bytes.
     ///
@@ -60,37 +62,35 @@ impl<'a> Database<'a> {
         text_at(alloc, self.metadata, 0, limit)
     }
 
-    /// The walk by an address of so many bits; that by one of IPv4 begins behind the bits before it, so that no more bits are left than it
-    /// has.
-    pub(crate) fn walk(&self, address: u128, width: u32) -> Walk
-        requires within { width ≤ self.now.width }
-        requires fits { address < 2 ^ width }
-        ensures record { result.record ≡ (walk (record_at self.now.tree.record_size self.now.tree.bytes.now) self.now.tree.node_count address 0 self.now.width).0 }
-        ensures left { width - result.left ≡ width - (walk (record_at self.now.tree.record_size self.now.tree.bytes.now) self.now.tree.node_count address 0 self.now.width).1 }
+    /// What [`open`](crate::open) found, as numbers.
+    ///
+    /// ```
+    /// database.parts().node_count // 1
+    /// ```
+    pub fn parts(&self) -> Parts
+        ensures { (bytes : List ℕ) → IsOpened bytes self.now → AreParts bytes result self.now }
     {
-        if width == 32 {
-            return self.tree.walk(self.ipv4_start, address, 32);
+        Parts {
+            node_count: self.tree.node_count,
+            record_size: self.tree.record_size,
+            width: self.width,
+            ipv4_start: self.ipv4_start,
+            data_len: self.data.len(),
         }
-        self.tree.walk(0, address, self.width)
     }
 
-    /// What a record says.
-    pub(crate) fn found(&self, at: u32) -> Found
-        ensures { result ≡ said_by self.now.tree.node_count (length self.now.data.now) at }
+    /// What look-ups read.
+    pub(crate) fn search(&self) -> Search<'a>
+        ensures tree { result.tree ≡ self.now.tree }
+        ensures width { result.width ≡ self.now.width }
+        ensures size { result.size ≡ length self.now.data.now }
+        ensures start { result.start ≡ self.now.ipv4_start }
     {
-        if at < self.tree.node_count {
-            return Found::Broken;
+        Search {
+            tree: self.tree,
+            width: self.width,
+            size: self.data.len(),
+            start: self.ipv4_start,
         }
-        if at == self.tree.node_count {
-            return Found::Nothing;
-        }
-        let past = (at - self.tree.node_count) as usize;
-        if past < 16 {
-            return Found::Broken;
-        }
-        if past - 16 >= self.data.len() {
-            return Found::Broken;
-        }
-        Found::Value(past - 16)
     }
 }

@@ -3,9 +3,12 @@ ghost use Rattle.std.specs.Prelude.{◌≡◌, take};
 ghost use Rattle.cidr.specs.model.Bits.{number};
 ghost use Rattle.cidr.specs.model.Network.{width_of};
 ghost use Rattle.cidr_mmdb.specs.LookUps.{looked_up};
+ghost use Rattle.cidr_mmdb.specs.PartNumbers.{AreParts};
+ghost use Rattle.cidr_mmdb.specs.declared.database.Database.{Database};
 
 use crate::database::Database;
 use crate::found::Found;
+use crate::parts::Parts;
 use cidr::FamilyCidr;
 
 /// What a file has for an address.
@@ -32,19 +35,27 @@ pub fn lookup<C: FamilyCidr>(database: &Database<'_>, address: C::Address) -> An
     ensures found { result.found ≡ (looked_up database.now (width_of C.FAMILY) (number (C.Address.bits address))).0 }
     ensures network { C.bits result.network ≡ take (looked_up database.now (width_of C.FAMILY) (number (C.Address.bits address))).1 (C.Address.bits address) }
 {
-    let mut network = C::new_host(address);
-    let width = u32::from(C::FAMILY.len());
-    if width > database.width {
+    database.search().answer::<C>(address)
+}
+
+/// The same in the bytes of a file whose parts are kept as numbers. Whatever bytes and numbers are given, it reads nothing outside of the
+/// bytes; with those of no file, what it finds says nothing.
+///
+/// ```
+/// let parts = open(&bytes)?.parts();
+/// lookup_in::<Ipv4Cidr>(&bytes, &parts, "10.1.2.3".parse()?).found // Value(0)
+/// ```
+pub fn lookup_in<C: FamilyCidr>(bytes: &[u8], parts: &Parts, address: C::Address) -> Answer<C>
+    ensures found { (database : Database) → AreParts bytes.now parts.now database → result.found ≡ (looked_up database (width_of C.FAMILY) (number (C.Address.bits address))).0 }
+    ensures network { (database : Database) → AreParts bytes.now parts.now database → C.bits result.network ≡ take (looked_up database (width_of C.FAMILY) (number (C.Address.bits address))).1 (C.Address.bits address) }
+{
+    let Some(search) = parts.search(bytes) else {
+        let mut network = C::new_host(address);
         network.clip(0);
         return Answer {
             network,
             found: Found::Nothing,
         };
-    }
-    let walk = database.walk(C::to_number(address), width);
-    network.clip(width.saturating_sub(walk.left) as usize);
-    Answer {
-        network,
-        found: database.found(walk.record),
-    }
+    };
+    search.answer::<C>(address)
 }

@@ -1,5 +1,5 @@
 //! The metadata: where they begin, and what they say of the search tree.
-ghost use Rattle.std.specs.Prelude.{◌≡◌, ◌+◌, ◌*◌, ◌≤◌, ℕ, length, IfOk, IfSome, None};
+ghost use Rattle.std.specs.Prelude.{◌≡◌, ◌+◌, ◌*◌, ◌≤◌, ◌==◌, ◌||◌, ℕ, length, IfOk, IfSome, IsTrue, None};
 ghost use Rattle.cidr_mmdb.specs.Metadata.{HasMarker, IsLastMarker, address_width_of, end_at, end_of_all, end_with, is_named, is_unsigned, layout_of, number_named, record_size_of, unsigned_at, value_of};
 
 use crate::errors::MetadataError;
@@ -55,6 +55,7 @@ pub(crate) fn last_marker(bytes: &[u8]) -> Option<usize>
 pub(crate) fn tree_layout(section: &[u8]) -> Result<Layout, MetadataError>
     ensures value { result ≡ layout_of section.now }
     ensures family { IfOk result (λ layout. layout.width ≤ 128) }
+    ensures version { IfOk result (λ layout. IsTrue ((layout.width == 32) || (layout.width == 128))) }
 {
     let Some(node_count) = number_named(section, b"node_count") else {
         return Err(MetadataError::NoNodeCount);
@@ -88,6 +89,7 @@ fn record_size(section: &[u8]) -> Option<RecordSize>
 fn address_width(section: &[u8]) -> Option<u32>
     ensures value { result ≡ address_width_of section.now }
     ensures family { IfSome result (λ width. width ≤ 128) }
+    ensures version { IfSome result (λ width. IsTrue ((width == 32) || (width == 128))) }
 {
     match number_named(section, b"ip_version")? {
         4 => Some(32),

@@ -2,9 +2,10 @@
 
 use cidr_support::vec::Vec;
 use crate::errors::JsonError;
-use crate::found::Found;
 use crate::json::text_at;
-use crate::trees::{Tree, Walk};
+use crate::parts::Parts;
+use crate::searching::Search;
+use crate::trees::Tree;
 use cidr_support::alloc::Global;
 
 /// The parts of a file. [`open`](crate::open) finds them in its bytes.
@@ -72,31 +73,39 @@ impl<'a> Database<'a> {
         text_at(alloc, self.metadata, 0, limit)
     }
 
-    /// The walk by an address of so many bits; that by one of IPv4 begins behind the bits before it, so that no more bits are left than it
-    /// has.
+    /// What [`open`](crate::open) found, as numbers.
+    ///
+    /// ```
+    /// # use cidr::Ipv4Cidr;
+    /// # use cidr_mmdb::*;
+    /// # use cidr_support::alloc::Global;
+    /// let mut bytes = b"\x00\x00\x11\x00\x00\x01".to_vec();
+    /// bytes.extend([0; 16]);
+    /// bytes.extend(b"\xe1\x47country\x42NL");
+    /// bytes.extend(b"\xab\xcd\xefMaxMind.com\xe3\x4anode_count\xc1\x01\x4brecord_size\xa1\x18\x4aip_version\xa1\x04");
+    /// let database = open(&bytes).unwrap();
+    /// assert_eq!(database.parts().node_count, 1);
+    /// # Ok::<(), Box<dyn std::error::Error>>(())
+    /// ```
     #[inline]
-    pub(crate) fn walk(&self, address: u128, width: u32) -> Walk {
-        if width == 32 {
-            return self.tree.walk(self.ipv4_start, address, 32);
+    pub fn parts(&self) -> Parts {
+        Parts {
+            node_count: self.tree.node_count,
+            record_size: self.tree.record_size,
+            width: self.width,
+            ipv4_start: self.ipv4_start,
+            data_len: self.data.len(),
         }
-        self.tree.walk(0, address, self.width)
     }
 
-    /// What a record says.
-    pub(crate) fn found(&self, at: u32) -> Found {
-        if at < self.tree.node_count {
-            return Found::Broken;
+    /// What look-ups read.
+    #[inline]
+    pub(crate) fn search(&self) -> Search<'a> {
+        Search {
+            tree: self.tree,
+            width: self.width,
+            size: self.data.len(),
+            start: self.ipv4_start,
         }
-        if at == self.tree.node_count {
-            return Found::Nothing;
-        }
-        let past = (at - self.tree.node_count) as usize;
-        if past < 16 {
-            return Found::Broken;
-        }
-        if past - 16 >= self.data.len() {
-            return Found::Broken;
-        }
-        Found::Value(past - 16)
     }
 }

@@ -2,6 +2,7 @@
 
 use crate::database::Database;
 use crate::found::Found;
+use crate::parts::Parts;
 use cidr::FamilyCidr;
 
 /// What a file has for an address.
@@ -33,20 +34,34 @@ pub struct Answer<C: FamilyCidr> {
 /// assert_eq!(format!("{:?}", answer.found), "Value(0)");
 /// # Ok::<(), Box<dyn std::error::Error>>(())
 /// ```
+#[inline]
 pub fn lookup<C: FamilyCidr>(database: &Database<'_>, address: C::Address) -> Answer<C> {
-    let mut network = C::new_host(address);
-    let width = u32::from(C::FAMILY.len());
-    if width > database.width {
+    database.search().answer::<C>(address)
+}
+
+/// The same in the bytes of a file whose parts are kept as numbers. Whatever bytes and numbers are given, it reads nothing outside of the
+/// bytes; with those of no file, what it finds says nothing.
+///
+/// ```
+/// # use cidr::Ipv4Cidr;
+/// # use cidr_mmdb::*;
+/// # use cidr_support::alloc::Global;
+/// let mut bytes = b"\x00\x00\x11\x00\x00\x01".to_vec();
+/// bytes.extend([0; 16]);
+/// bytes.extend(b"\xe1\x47country\x42NL");
+/// bytes.extend(b"\xab\xcd\xefMaxMind.com\xe3\x4anode_count\xc1\x01\x4brecord_size\xa1\x18\x4aip_version\xa1\x04");
+/// let parts = open(&bytes)?.parts();
+/// assert_eq!(format!("{:?}", lookup_in::<Ipv4Cidr>(&bytes, &parts, "10.1.2.3".parse()?).found), "Value(0)");
+/// # Ok::<(), Box<dyn std::error::Error>>(())
+/// ```
+pub fn lookup_in<C: FamilyCidr>(bytes: &[u8], parts: &Parts, address: C::Address) -> Answer<C> {
+    let Some(search) = parts.search(bytes) else {
+        let mut network = C::new_host(address);
         network.clip(0);
         return Answer {
             network,
             found: Found::Nothing,
         };
-    }
-    let walk = database.walk(C::to_number(address), width);
-    network.clip(width.saturating_sub(walk.left) as usize);
-    Answer {
-        network,
-        found: database.found(walk.record),
-    }
+    };
+    search.answer::<C>(address)
 }

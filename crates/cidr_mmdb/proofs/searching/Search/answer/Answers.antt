@@ -1,7 +1,7 @@
 use Rattle.std.proofs.Common.{ap, sym, arith, length, ◌≡◌, ◌∙◌, ◌^◌}
 use Rattle.cidr.specs.laws.BitLaws.{number-lt}
 use Rattle.cidr.specs.model.Network.{width_of}
-use Rattle.cidr_mmdb.proofs.looking.lookup.Goals as goal
+use Rattle.cidr_mmdb.proofs.searching.Search.answer.Goals as goal
 
 pub walk-walk-requires-clause-fits : goal.walk-walk-requires-clause-fits
 walk-walk-requires-clause-fits g c =
