@@ -1,6 +1,5 @@
-use Rattle.std.proofs.Common.{List, ℕ, ◌∷◌, [], ap, inl, inr, length, refl, sym}
+use Rattle.std.proofs.Common.{ℕ, ◌∷◌, [], ap, inl, inr, length, refl, sym}
 use Rattle.std.proofs.lemmas.List.{append-nil}
-use Rattle.cidr_c.specs.declared.plans.CPlanFault.{CPlanFault}
 use Rattle.cidr_c.proofs.PlanLines.{no_rows}
 use Rattle.cidr_c.proofs.plans.push_line.Goals as goal
 

@@ -8,7 +8,7 @@ use Rattle.std.proofs.lemmas.Str.Ascii.{trim_ascii_start_is}
 use Rattle.cidr_io.specs.Shown.{byte_excerpt}
 use Rattle.cidr_lists.proofs.WholeTexts.{short_line}
 use Rattle.cidr_lists.specs.Lists.{HasBadField, IsField}
-use Rattle.cidr_c.specs.calls.Plans.{IsAddressText, name_at, said_end, word_end}
+use Rattle.cidr_c.specs.calls.Plans.{IsAddressText, said_end, word_end}
 use Rattle.cidr_c.proofs.plans.row_in.Goals as goal
 
 -- both addresses, of what a row says and of its name
