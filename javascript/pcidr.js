@@ -12,7 +12,8 @@
 // The errors of pcidr.h, in the order of their numbers from 1 on; there is none of the number 16.
 const ERRORS = ["NotUtf8", "Address", "Length", "LengthTooLong", "HostPart", "Truncated", "Tag", "Any", "Family", "NoValue", "NoRoom",
     "NoMemory", "Wrapped", "NotAddress", "TooMany", null, "NoTable", "NoFile", "OtherVersion", "Short", "Long", "Values", "None",
-    "NoSlash", "Mask", "Scattered", "LineTooLong", "TwoFamilies", "Reversed", "Present"];
+    "NoSlash", "Mask", "Scattered", "LineTooLong", "TwoFamilies", "Reversed", "Present", "NoMarker", "NoNodeCount", "NoRecordSize",
+    "NoIpVersion", "LongTree", "Malformed", "LongText"];
 const OK = 0, NO_VALUE = 10, NO_ROOM = 11, NO_MEMORY = 12, NONE = 23;
 
 /** What the library refuses: `code` is the number of the error in pcidr.h. */

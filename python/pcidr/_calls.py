@@ -26,6 +26,9 @@ INVALID_LENGTH = 2
 INVALID_ORIGIN = 3
 NOT_FOUND = 4
 NO_ROW = 0xFFFFFFFF
+MMDB_NOTHING = 0
+MMDB_VALUE = 1
+MMDB_BROKEN = 2
 
 
 class Code:
@@ -61,6 +64,13 @@ class Code:
     TWO_FAMILIES = 28
     REVERSED = 29
     PRESENT = 30
+    NO_MARKER = 31
+    NO_NODE_COUNT = 32
+    NO_RECORD_SIZE = 33
+    NO_IP_VERSION = 34
+    LONG_TREE = 35
+    MALFORMED = 36
+    LONG_TEXT = 37
 
 
 class Value(Structure):
@@ -219,6 +229,27 @@ class Found(Structure):
     _fields_ = [("value", c_size_t), ("value_len", c_uint32), ("row", c_uint32)]
 
 
+class Mmdb(Structure):
+    """`pcidr_mmdb`."""
+
+    data_len: int
+    node_count: int
+    record_size: int
+    width: int
+    ipv4_start: int
+    _fields_ = [("data_len", c_size_t), ("node_count", c_uint32), ("record_size", c_uint32), ("width", c_uint32), ("ipv4_start", c_uint32)]
+
+
+class MmdbRow(Structure):
+    """`pcidr_mmdb_row`."""
+
+    network: Value
+    place: int
+    found: int
+    zero: int
+    _fields_ = [("network", Value), ("place", c_size_t), ("found", c_uint32), ("zero", c_uint32)]
+
+
 SIGNATURES = """
 version:a read_address:abcd read_loose_address:abcd read_host:abcd read_network:abcd read_short_network:abcd read_masked_network:abcd
 read_reverse_name:abcd read_lines:abcecf read_list:abcaecfgbc read_plan:abcaecfecf plan_message:abcabc print_address:cdbc print_host:cdbc
@@ -240,14 +271,15 @@ rows_remove:aecfdf covering:aecdecf covered:aecdecf permits:aecd permitted:aecec
 list_permits:aecd smallest:aececf forwards_same:aececn ipv4_table_build:aecececo ipv6_table_build:aecececo ipv4_table_check:aecececa
 ipv6_table_check:aecececa ipv4_table_lookup:aececpd ipv6_table_lookup:aececpd ipv4_table_lookup_each:aececpecec
 ipv6_table_lookup_each:aececpecec file_open:aecq file_check:aec file_lookup:aecqdr file_lookup_each:aecqecec set_has:aecqd
-set_has_each:aecqecec file_write:aececececf set_write:aececf
+set_has_each:aecqecec file_write:aececececf set_write:aececf mmdb_open:aecs mmdb_lookup:aecsdt mmdb_next:aecst mmdb_json:aecsccecf
+mmdb_metadata:aecscecf
 """
 
 
 def signatures() -> dict[str, list[Any]]:
     """Of each call the result and the parameters."""
-    kinds = dict(zip("abcdefghijklmnopqr", (c_uint32, c_char_p, c_size_t, POINTER(Value), c_void_p, POINTER(c_size_t), POINTER(c_uint64),
+    kinds = dict(zip("abcdefghijklmnopqrst", (c_uint32, c_char_p, c_size_t, POINTER(Value), c_void_p, POINTER(c_size_t), POINTER(c_uint64),
         Value, c_uint64, c_uint8, POINTER(Halves), POINTER(c_uint8), POINTER(Special), POINTER(c_uint32), POINTER(TableSizes),
-        POINTER(Table), POINTER(File), POINTER(Found))))
+        POINTER(Table), POINTER(File), POINTER(Found), POINTER(Mmdb), POINTER(MmdbRow))))
     found = (each.split(":") for each in SIGNATURES.split())
     return {name: [*map(kinds.__getitem__, letters)] for name, letters in found}

@@ -105,7 +105,14 @@ enum {
     PCIDR_LINE_TOO_LONG = 27,  /* a line of a list has more than 1 MiB */
     PCIDR_TWO_FAMILIES = 28,   /* the ends of a range are of two families */
     PCIDR_REVERSED = 29,       /* the first address of a range is above the last one */
-    PCIDR_PRESENT = 30         /* the network stands there already */
+    PCIDR_PRESENT = 30,        /* the network stands there already */
+    PCIDR_NO_MARKER = 31,      /* of a MaxMind DB file: no marker of the metadata begins in the last 128 KiB */
+    PCIDR_NO_NODE_COUNT = 32,  /* its metadata have no node_count */
+    PCIDR_NO_RECORD_SIZE = 33, /* they have no record_size of 24, 28 or 32 */
+    PCIDR_NO_IP_VERSION = 34,  /* they have no ip_version of 4 or 6 */
+    PCIDR_LONG_TREE = 35,      /* its search tree goes on behind the metadata */
+    PCIDR_MALFORMED = 36,      /* no value that can be read is at the place */
+    PCIDR_LONG_TEXT = 37       /* the text is longer than the limit */
 };
 
 /* Room that is enough for any string of a value, and for any message, with the 0 behind it. */
@@ -1101,6 +1108,87 @@ uint32_t pcidr_file_write(const pcidr_value *networks, size_t networks_len, cons
 
 /* The same with empty values: the file of a set. Errors: TOO_MANY, NO_VALUE, NO_ROOM and NO_MEMORY, as above. */
 uint32_t pcidr_set_write(const pcidr_value *networks, size_t networks_len, uint8_t *out, size_t out_len, size_t *count);
+
+/* ---- MaxMind DB files, as others write them: the network that an address is in and its value, out of the bytes of a file
+ *
+ * The page of `cidr_mmdb` says what is read where the format leaves something open. The bytes lie in memory of the caller, at any
+ * place, as those of the files above; whatever they hold, a call reads nothing outside of them. A value is text: JSON.
+ *
+ *     pcidr_mmdb file;
+ *     pcidr_mmdb_row row;
+ *     code = pcidr_mmdb_open(bytes, length, &file);
+ *     ...
+ *     if (pcidr_mmdb_lookup(bytes, length, &file, &address, &row) == PCIDR_OK && row.found == PCIDR_MMDB_VALUE)
+ *         code = pcidr_mmdb_json(bytes, length, &file, row.place, limit, out, sizeof out, &count);
+ */
+
+/* Where the parts of a file are. It has no pointer, and is used with the bytes that it was opened from, or the same ones
+ * elsewhere. */
+typedef struct pcidr_mmdb {
+    size_t data_len;      /* how many bytes the data section has */
+    uint32_t node_count;  /* how many nodes the search tree has */
+    uint32_t record_size; /* how many bits a record has: 24, 28 or 32 */
+    uint32_t width;       /* how many bits an address has in the tree: 32 or 128 */
+    uint32_t ipv4_start;  /* the record at which look-ups of IPv4 addresses begin */
+} pcidr_mmdb;
+
+/* What is found for the addresses of a network: nothing; a value; or the search tree is broken there, by a node behind the last bit or
+ * a record that leads nowhere. */
+#define PCIDR_MMDB_NOTHING 0
+#define PCIDR_MMDB_VALUE 1
+#define PCIDR_MMDB_BROKEN 2
+
+/* A network of a file. In a tree of IPv6 those below ::/96 are of IPv4. */
+typedef struct pcidr_mmdb_row {
+    pcidr_value network;
+    size_t place;   /* where the value begins in the data section; 0 where there is none */
+    uint32_t found; /* one of the numbers above */
+    uint32_t zero;  /* zero in what a call writes */
+} pcidr_mmdb_row;
+
+PCIDR_ASSERT(sizeof(pcidr_mmdb) == 24);
+PCIDR_ASSERT(offsetof(pcidr_mmdb, data_len) == 0);
+PCIDR_ASSERT(offsetof(pcidr_mmdb, node_count) == 8);
+PCIDR_ASSERT(offsetof(pcidr_mmdb, record_size) == 12);
+PCIDR_ASSERT(offsetof(pcidr_mmdb, width) == 16);
+PCIDR_ASSERT(offsetof(pcidr_mmdb, ipv4_start) == 20);
+PCIDR_ASSERT(sizeof(pcidr_mmdb_row) == 40);
+PCIDR_ASSERT(offsetof(pcidr_mmdb_row, network) == 0);
+PCIDR_ASSERT(offsetof(pcidr_mmdb_row, place) == 24);
+PCIDR_ASSERT(offsetof(pcidr_mmdb_row, found) == 32);
+PCIDR_ASSERT(offsetof(pcidr_mmdb_row, zero) == 36);
+
+/* Says where the parts of a file are. Errors, the first of: NO_MARKER; NO_NODE_COUNT; NO_RECORD_SIZE; NO_IP_VERSION; LONG_TREE. Then
+ * `file` is as it was. Reads the last 128 KiB at most, and the first 96 nodes of a walk. Does not allocate. */
+uint32_t pcidr_mmdb_open(const uint8_t *bytes, size_t bytes_len, pcidr_mmdb *file);
+
+/* What a file has for an address: `row` becomes the network that its tree has the address in, and what is found for each address of
+ * that. An IPv4 address in a tree of IPv6 is one below ::/96; in a tree of IPv4 there is nothing for IPv6. Error: NO_VALUE, where
+ * the value is no address, and `row` is as it was. At most 128 steps; does not allocate. */
+uint32_t pcidr_mmdb_lookup(const uint8_t *bytes, size_t bytes_len, const pcidr_mmdb *file, const pcidr_value *address,
+                           pcidr_mmdb_row *row);
+
+/* The next network for which anything is found, behind that of `row`, or the first where that is `any`; `row` becomes it. So calls
+ * one after the other give each network once, in order of their addresses, IPv4 first in a tree of IPv6, those of aliases of IPv4 too.
+ * A call passes at most 1,000 networks with nothing: then `row` is the one behind them, whatever it has, and the next call goes on.
+ * Errors: NONE where there is none; NO_VALUE where that of `row` is no network. Then `row` is as it was. Does not allocate.
+ *
+ *     pcidr_mmdb_row row = {{0, 0, 255}, 0, 0, 0};
+ *     while (pcidr_mmdb_next(bytes, length, &file, &row) == PCIDR_OK)
+ *         if (row.found == PCIDR_MMDB_VALUE) ...
+ */
+uint32_t pcidr_mmdb_next(const uint8_t *bytes, size_t bytes_len, const pcidr_mmdb *file, pcidr_mmdb_row *row);
+
+/* The value at a place of the data section, as a look-up gave it, as JSON in the front of `out`: `count` becomes how many bytes it has.
+ * Errors: MALFORMED, LONG_TEXT where it has more than `limit` bytes, NO_MEMORY; NO_ROOM, and `count` is how many bytes are room
+ * enough. Then `out` is as it was. Some values are small in the file and large as a text: choose a limit, such as 1 << 20.
+ * Allocates: the text. */
+uint32_t pcidr_mmdb_json(const uint8_t *bytes, size_t bytes_len, const pcidr_mmdb *file, size_t place, size_t limit, uint8_t *out,
+                         size_t out_len, size_t *count);
+
+/* The same of the metadata. */
+uint32_t pcidr_mmdb_metadata(const uint8_t *bytes, size_t bytes_len, const pcidr_mmdb *file, size_t limit, uint8_t *out,
+                             size_t out_len, size_t *count);
 
 #ifdef __cplusplus
 }

@@ -16,6 +16,7 @@ pub mod LineSteps
 pub mod PlanLines
 pub mod Listed
 pub mod ListsRead
+pub mod MmdbRows
 pub mod Named
 pub mod MaskTexts
 pub mod NetworkBlocks

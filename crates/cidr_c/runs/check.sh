@@ -73,7 +73,8 @@ asked=(10.1.2.3 10.1.255.255 11.0.0.0)
 "$room/lookup" "${asked[@]}" >"$room/lookup.txt"
 same lookup.txt
 "$compiler" -std=c99 "${strict[@]}" -o "$room/file" "$crate/examples/file.c" "$lib/libpcidr.a"
-for program in examples/networks examples/filter examples/lookup examples/file runs/calls runs/wrong runs/memory runs/tables runs/files; do
+for program in examples/networks examples/filter examples/lookup examples/file examples/mmdb runs/calls runs/wrong runs/memory runs/tables runs/files \
+    runs/maxmind; do
     made=$room/$(basename "$program").checked
     refusing=()
     [[ $program != runs/memory ]] || refusing=("-Wl,--wrap=malloc,--wrap=realloc")
@@ -85,6 +86,10 @@ done
 "$room/lookup.checked" "${asked[@]}" | cmp - "$here/lookup.txt" || status=1
 "$room/tables.checked" || wrong "a look-up table"
 "$room/files.checked" "$room/names" || wrong "a look-up table in a file"
+"$room/maxmind.checked" || wrong "a MaxMind DB file"
+# One node: the lower half of IPv4 has a country.
+printf '\0\0\x11\0\0\x01%16s\xe1\x47country\x42NL\xab\xcd\xefMaxMind.com\xe3\x4anode_count\xc1\x01\x4brecord_size\xa1\x18\x4aip_version\xa1\x04' >"$room/country.mmdb"
+"$room/mmdb.checked" "$room/country.mmdb" 10.1.2.3 192.0.2.1 | cmp - "$here/mmdb.txt" || status=1
 asked=(10.1.2.3 10.2.0.0 11.0.0.0 2001:db8::1)
 "$room/file" "$room/names" "${asked[@]}" >"$room/file.txt"
 same file.txt

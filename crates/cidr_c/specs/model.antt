@@ -1,5 +1,5 @@
 -- What C has: values, the numbers of errors, networks, IPv4 inside IPv6, texts, orders, the registry, addresses of lists, pools,
--- access lists, routes, forwarding, tables and files.
+-- access lists, routes, forwarding, tables, files, and MaxMind DB files.
 pub mod Values
 pub mod Codes
 pub mod Networks
@@ -14,3 +14,4 @@ pub mod Routes
 pub mod Forwarding
 pub mod Tables
 pub mod Files
+pub mod Mmdb

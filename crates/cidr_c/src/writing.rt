@@ -142,7 +142,7 @@ fn moved(alloc: Global, offsets: &[u32], from: u32) -> Result<Vec<u32>, AllocErr
 }
 
 /// Writes bytes into the front of a room that has enough, and says how many they are.
-fn put_bytes(bytes: &[u8], out: &mut [u8], count: &mut usize) -> u32
+pub fn put_bytes(bytes: &[u8], out: &mut [u8], count: &mut usize) -> u32
     ensures written { result ≡ 0 → take (length bytes.now) out.new ≡ bytes.now }
     ensures behind { result ≡ 0 → drop (length bytes.now) out.new ≡ drop (length bytes.now) out.old }
     ensures fits { result ≡ 0 → length bytes.now ≤ length out.old }

@@ -15,8 +15,14 @@ use std::alloc::Global;
 /// How deep a value is at most.
 const DEPTH: u32 = 512;
 
-/// The value at a place, as JSON of at most `limit` bytes.
-pub(crate) fn text_at(
+/// The value at a place of a data section, as JSON of at most `limit` bytes: what [`Database::json`](crate::Database::json) gives, for a
+/// caller that keeps the parts of a file as numbers.
+///
+/// ```
+/// let data = open(&bytes)?.data;
+/// text_at(rt.alloc(), data, 0, 1000)?.len() // 16
+/// ```
+pub fn text_at(
     alloc: Global,
     section: &[u8],
     place: usize,

@@ -29,6 +29,7 @@ mod trees;
 pub use database::Database;
 pub use errors::{JsonError, MetadataError, OpenError};
 pub use found::Found;
+pub use json::text_at;
 pub use kinds::{Field, Kind};
 pub use looking::{Answer, lookup, lookup_in};
 pub use opening::open;

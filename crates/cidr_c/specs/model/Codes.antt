@@ -155,4 +155,11 @@ message code =
     else (if code == 28 then codes "the ends of the range are of two families"
     else (if code == 29 then codes "the first address of the range is above the last one"
     else (if code == 30 then codes "the network stands there already"
-    else []))))))))))))))))))))))))))))
+    else (if code == 31 then codes "no marker of the metadata in the last 128 KiB"
+    else (if code == 32 then codes "no node_count in the metadata"
+    else (if code == 33 then codes "no record_size of 24, 28 or 32 in the metadata"
+    else (if code == 34 then codes "no ip_version of 4 or 6 in the metadata"
+    else (if code == 35 then codes "the search tree goes on behind the metadata"
+    else (if code == 36 then codes "no value there"
+    else (if code == 37 then codes "longer than the limit"
+    else [])))))))))))))))))))))))))))))))))))

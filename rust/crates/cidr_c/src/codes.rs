@@ -66,6 +66,20 @@ pub const TWO_FAMILIES: u32 = 28;
 pub const REVERSED: u32 = 29;
 /// It stands there already.
 pub const PRESENT: u32 = 30;
+/// No marker of the metadata begins in the last 128 KiB of a MaxMind DB file.
+pub const NO_MARKER: u32 = 31;
+/// The metadata have no `node_count`.
+pub const NO_NODE_COUNT: u32 = 32;
+/// They have no `record_size` of 24, 28 or 32.
+pub const NO_RECORD_SIZE: u32 = 33;
+/// They have no `ip_version` of 4 or 6.
+pub const NO_IP_VERSION: u32 = 34;
+/// The search tree goes on behind the metadata.
+pub const LONG_TREE: u32 = 35;
+/// No value begins at a place of a MaxMind DB file.
+pub const MALFORMED: u32 = 36;
+/// A text is longer than the limit.
+pub const LONG_TEXT: u32 = 37;
 
 /// The number of an error of parsing.
 #[inline]
@@ -165,6 +179,13 @@ pub fn message(code: u32) -> &'static str {
         28 => "the ends of the range are of two families",
         29 => "the first address of the range is above the last one",
         30 => "the network stands there already",
+        31 => "no marker of the metadata in the last 128 KiB",
+        32 => "no node_count in the metadata",
+        33 => "no record_size of 24, 28 or 32 in the metadata",
+        34 => "no ip_version of 4 or 6 in the metadata",
+        35 => "the search tree goes on behind the metadata",
+        36 => "no value there",
+        37 => "longer than the limit",
         _ => "",
     }
 }

@@ -6,6 +6,8 @@ use cidr_support::alloc::Global;
 use crate::files::CFile;
 use crate::files::CFound;
 use crate::forwarding::CRow;
+use crate::mmdb::CMmdb;
+use crate::mmdb::CMmdbRow;
 use crate::plans::CPlanFault;
 use crate::plans::CPlanRow;
 use crate::pointers::{slice, slice_mut};
@@ -291,6 +293,31 @@ pub unsafe extern "C" fn pcidr_print_host_with_host_mask(host: *const CValue, ou
 #[no_mangle]
 pub unsafe extern "C" fn pcidr_read_masked_network(text: *const u8, text_len: usize, out: *mut CValue) -> u32 {
     crate::masks::pcidr_read_masked_network(slice(text, text_len), &mut *out)
+}
+
+#[no_mangle]
+pub unsafe extern "C" fn pcidr_mmdb_open(bytes: *const u8, bytes_len: usize, file: *mut CMmdb) -> u32 {
+    crate::mmdb::pcidr_mmdb_open(slice(bytes, bytes_len), &mut *file)
+}
+
+#[no_mangle]
+pub unsafe extern "C" fn pcidr_mmdb_lookup(bytes: *const u8, bytes_len: usize, file: *const CMmdb, address: *const CValue, row: *mut CMmdbRow) -> u32 {
+    crate::mmdb::pcidr_mmdb_lookup(slice(bytes, bytes_len), &*file, &*address, &mut *row)
+}
+
+#[no_mangle]
+pub unsafe extern "C" fn pcidr_mmdb_next(bytes: *const u8, bytes_len: usize, file: *const CMmdb, row: *mut CMmdbRow) -> u32 {
+    crate::mmdb::pcidr_mmdb_next(slice(bytes, bytes_len), &*file, &mut *row)
+}
+
+#[no_mangle]
+pub unsafe extern "C" fn pcidr_mmdb_json(bytes: *const u8, bytes_len: usize, file: *const CMmdb, place: usize, limit: usize, out: *mut u8, out_len: usize, count: *mut usize) -> u32 {
+    crate::mmdb::pcidr_mmdb_json(Global, slice(bytes, bytes_len), &*file, place, limit, slice_mut(out, out_len), &mut *count)
+}
+
+#[no_mangle]
+pub unsafe extern "C" fn pcidr_mmdb_metadata(bytes: *const u8, bytes_len: usize, file: *const CMmdb, limit: usize, out: *mut u8, out_len: usize, count: *mut usize) -> u32 {
+    crate::mmdb::pcidr_mmdb_metadata(Global, slice(bytes, bytes_len), &*file, limit, slice_mut(out, out_len), &mut *count)
 }
 
 #[no_mangle]

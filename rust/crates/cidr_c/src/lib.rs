@@ -29,6 +29,7 @@ mod lists;
 mod lookups;
 mod mask_texts;
 mod masks;
+mod mmdb;
 mod names;
 mod nested;
 mod ordering;

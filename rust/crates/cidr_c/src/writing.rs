@@ -127,7 +127,7 @@ fn moved(alloc: Global, offsets: &[u32], from: u32) -> Result<Vec<u32>, AllocErr
 
 /// Writes bytes into the front of a room that has enough, and says how many they are.
 #[inline]
-fn put_bytes(bytes: &[u8], out: &mut [u8], count: &mut usize) -> u32 {
+pub fn put_bytes(bytes: &[u8], out: &mut [u8], count: &mut usize) -> u32 {
     *count = bytes.len();
     if out.len() < bytes.len() {
         return NO_ROOM;

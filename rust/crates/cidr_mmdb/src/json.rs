@@ -11,9 +11,27 @@ use cidr_support::alloc::Global;
 /// How deep a value is at most.
 const DEPTH: u32 = 512;
 
-/// The value at a place, as JSON of at most `limit` bytes.
+/// The value at a place of a data section, as JSON of at most `limit` bytes: what [`Database::json`](crate::Database::json) gives, for a
+/// caller that keeps the parts of a file as numbers.
+///
+/// ```
+/// # use cidr::Ipv4Cidr;
+/// # use cidr_mmdb::*;
+/// # use cidr_support::alloc::Global;
+/// let mut bytes = b"\x00\x00\x11\x00\x00\x01".to_vec();
+/// bytes.extend([0; 16]);
+/// bytes.extend(b"\xe1\x47country\x42NL");
+/// bytes.extend(b"\xab\xcd\xefMaxMind.com\xe3\x4anode_count\xc1\x01\x4brecord_size\xa1\x18\x4aip_version\xa1\x04");
+/// let data = open(&bytes)?.data;
+/// assert_eq!(text_at(Global, data, 0, 1000)?.len(), 16);
+/// # Ok::<(), Box<dyn std::error::Error>>(())
+/// ```
+///
+/// # Errors
+///
+/// `JsonError`, which tells what is wrong.
 #[inline]
-pub(crate) fn text_at(
+pub fn text_at(
     alloc: Global,
     section: &[u8],
     place: usize,
