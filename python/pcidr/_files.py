@@ -37,7 +37,7 @@ class _Buffer(ctypes.Structure):
     ]
 
 
-def _begin_of(content: bytes | mmap.mmap) -> int:
+def begin_of(content: bytes | mmap.mmap) -> int:
     """Where bytes lie, for as long as they live, and a map is not closed. They are read-only, so that `ctypes` makes no
     array of them."""
     buffer = _Buffer()
@@ -101,7 +101,7 @@ class Stored:
 
     def __init__(self, content: bytes | mmap.mmap) -> None:
         self.content, self._file = content, File()
-        begin, size = _begin_of(content), len(content)
+        begin, size = begin_of(content), len(content)
         check(calls.file_open(begin, size, byref(self._file)))
         self._opened: tuple[Any, int, Any] = (begin, size, self._file)
         self._lookup = calls.quick("file_lookup", self._opened)
@@ -199,8 +199,8 @@ def restored(content: bytes, is_checked: bool) -> Stored:
     return stored
 
 
-def opened(path: Path, is_checked: bool, is_mapped: bool) -> Stored:
-    """The tables of a file, whose bytes are copied or mapped. What is no regular file may have no end, or nobody at its
+def content_of(path: Path, is_mapped: bool) -> tuple[str, bytes | mmap.mmap]:
+    """The name of a file and its bytes, which are copied or mapped. What is no regular file may have no end, or nobody at its
     other one, and so it is not read."""
     name = os.fspath(path)  # a number would be a descriptor, which `open` closes
     with open(name, "rb", buffering=0, opener=lambda name, flags: os.open(name, flags | os.O_NONBLOCK)) as file:
@@ -208,9 +208,13 @@ def opened(path: Path, is_checked: bool, is_mapped: bool) -> Stored:
         if not stat.S_ISREG(found.st_mode):
             raise OSError(errno.EINVAL, _NOT_REGULAR, name)
         if is_mapped and found.st_size:  # of no bytes there is no map
-            content: bytes | mmap.mmap = mmap.mmap(file.fileno(), 0, access=mmap.ACCESS_READ)
-        else:
-            content = file.read()
+            return name, mmap.mmap(file.fileno(), 0, access=mmap.ACCESS_READ)
+        return name, file.read()
+
+
+def opened(path: Path, is_checked: bool, is_mapped: bool) -> Stored:
+    """The tables of a file."""
+    name, content = content_of(path, is_mapped)
     try:
         stored = Stored(content)
         if is_checked:
