@@ -25,6 +25,7 @@ use Rattle.cidr_lists.specs.declared.sets.Sets.{Sets}
 use Rattle.cidr_lists.specs.declared.sets.Step.TheVariants.{Difference}
 use Rattle.netset_commands.specs.Acl.{IsUnreadAcl, IsUnreadRules, ReadsPermitted, ReadsRules, rules_error}
 use Rattle.netset_commands.specs.Answering.{AreSame, PrintsBy, changed}
+use Rattle.netset_commands.specs.Changing.{TellsChanges}
 use Rattle.netset_commands.specs.Commands.{Acl, AreTold}
 use Rattle.netset_commands.specs.Findings.{IsClean}
 use Rattle.netset_commands.specs.Gathering.{IsNotReadFurther}
@@ -149,3 +150,10 @@ changes_told contents format a b old new added lacking s t verdict w r first sec
       written,
       is,
     )
+
+pub compared_told : (contents : List ℕ → Option Text) (format : LineFormat) (a b : List ℕ) (old new : Sets) (refused : Bool) (s t : State) (r : Result Verdict CommandError)
+    → ReadsPermitted (contents a) a (Ok old) → ReadsPermitted (contents b) b (Ok new) → TellsChanges format old new refused s t r
+    → AnswersRequest contents (Acl (Compared format a) b) s t r
+compared_told contents format a b old new refused s t r first second (inl (kept, lack, is)) = rw is (inl (kept, first_unread contents a (b ∷ []) error.NoMemory tt))
+compared_told contents format a b old new refused s t r first second (inr (added, lacking, verdict, w, more, less, same, written, is)) =
+    changes_told contents format a b old new added lacking s t verdict w r first second more less same written is

@@ -1,5 +1,5 @@
 -- What one set has and another has not, both ways, as one list.
-use Rattle.std.proofs.Common.{◌≡◌, ◌≢◌, ◌⊎◌, refl, sym, ◌∙◌, ap, subst, inl, inr, ℕ, Bool, true, false, if◌then◌else◌, List, [], ◌∷◌, ◌++◌, drop, Option, Ok, Result, map}
+use Rattle.std.proofs.Common.{◌≡◌, ◌≢◌, ◌⊎◌, refl, sym, ◌∙◌, ap, subst, inl, inr, ℕ, Bool, true, false, if◌then◌else◌, List, [], ◌∷◌, ◌++◌, drop, Option, Ok, Result, IfErr, map}
 use Rattle.std.specs.List.{AllByRecursion, Contains, flat_map}
 use Rattle.std.specs.List.Sorted.{IsStrictlySortedBy}
 use Rattle.std.specs.Ordering.{is_lt, ordering_reverse}
@@ -16,6 +16,10 @@ use Rattle.cidr_sets.proofs.Algebra.{some_address}
 use Rattle.cidr_table.proofs.Beginnings.{bits_exact}
 use Rattle.cidr_table.proofs.MapLaws.{contains_first, contains_later}
 use Rattle.netset_commands.specs.Answering.{AreSame, ReadsFile, changed}
+use Rattle.netset_commands.specs.Causes.{Cause}
+use Rattle.netset_commands.specs.Changing.{TellsChanges}
+use Rattle.netset_commands.specs.declared.errors.Reason.{Reason}
+use Rattle.netset_commands.proofs.Causes.{output_cause}
 use Rattle.cidr_lists.specs.Changes.{AreMerged, adds_first, family_changes, merged, network_with, printed_changes, signed}
 use Rattle.netset_commands.specs.Findings.{IsClean}
 use Rattle.cidr_lists.specs.Sets.{Steps, IsInSets, networks_of}
@@ -225,3 +229,15 @@ diff_written contents format a b old new added lacking s t verdict w r first sec
       written,
       is,
     )
+
+-- the same by a function that tells them
+pub diff_told : (contents : List ℕ → Option Text) (format : LineFormat) (a b : List ℕ) (old new : Sets) (refused : Bool) (s t : State) (r : Result Verdict CommandError)
+    → ReadsFile (contents a) a (Ok old) → ReadsFile (contents b) b (Ok new) → TellsChanges format old new refused s t r → AnswersRequest contents (Diff format a b) s t r
+diff_told contents format a b old new refused s t r first second (inl (kept, lack, is)) = rw is (inl (kept, tt))
+diff_told contents format a b old new refused s t r first second (inr (added, lacking, verdict, w, more, less, same, written, is)) =
+    diff_written contents format a b old new added lacking s t verdict w r first second more less same written is
+
+pub changes_cause : (F : List ℕ → Reason → Type 0) (refused : Bool) (format : LineFormat) (old new : Sets) (s t : State) (r : Result Verdict CommandError)
+    → TellsChanges format old new refused s t r → IfErr r (Cause F refused)
+changes_cause F refused format old new s t r (inl (kept, lack, is)) = subst (λ (k : Result Verdict CommandError). IfErr k (Cause F refused)) (sym is) lack
+changes_cause F refused format old new s t r (inr (added, lacking, verdict, w, more, less, same, written, is)) = output_cause F refused verdict w r is

@@ -1,5 +1,5 @@
 -- Sets put together, and the lists that they stand for.
-use Rattle.std.proofs.Common.{◌≡◌, ◌↔◌, ◌⊎◌, refl, sym, ◌∙◌, inl, inr, ℕ, List, Bool, [], ◌∷◌, length, true, false, subst, Option, Result, IfErr}
+use Rattle.std.proofs.Common.{◌≡◌, ◌↔◌, ◌⊎◌, refl, sym, ◌∙◌, inl, inr, ℕ, List, Bool, [], ◌∷◌, length, true, false, subst, Option, None, Some, Result, Err, IfErr}
 use Rattle.std.specs.List.{AllZip}
 use Rattle.cidr.specs.declared.cidr.combined.IpCidr.{IpCidr}
 use Rattle.cidr.specs.either.IpText.{IsIpNetworkText}
@@ -15,7 +15,8 @@ use Rattle.netset_commands.specs.Combining.{IsMade, Turned, form_of, step_of, tu
 use Rattle.cidr_lists.specs.Sets.{Combined, Steps, IsInSets, networks_of}
 use Rattle.cidr_lists.specs.Texts.{SaysAddress}
 use Rattle.netset_commands.specs.Commands.{Lists, Styled, NotIn, read_files}
-use Rattle.netset_commands.specs.Program.{AnswersRequest, by_output}
+use Rattle.netset_commands.specs.Arguments.{made_request}
+use Rattle.netset_commands.specs.Program.{AnswersRequest, IsUnread, by_output}
 use Rattle.cidr_lists.specs.Formats.{Style, printed_by, styled}
 use Rattle.cidr_lists.specs.Lists.{Text, line_networks}
 use Rattle.netset_commands.specs.Sets.{Prints}
@@ -186,6 +187,21 @@ not_in_written contents style net files network read rest whole sets refused s t
       written,
       is,
     )
+
+-- the same by a function that prints sets
+pub styled_told : (contents : List ℕ → Option Text) (style : Style) (operation : Operation) (files : List (List ℕ)) (read : List Sets) (sets : Sets) (refused : Bool)
+    (s t : State) (r : Result Verdict CommandError) → AreRead contents (read_files files) read
+    → ((family : Family) → IsSetOf 129 (IsMade IsInSets operation read family) (networks_of sets family)) → PrintsBy (Some style) (networks_of sets) refused s t r
+    → AnswersRequest contents (Styled style operation files) s t r
+styled_told contents style operation files read sets refused s t r are made (inl (kept, lack, is)) = rw is (inl (kept, tt))
+styled_told contents style operation files read sets refused s t r are made (inr (w, written, is)) =
+    styled_written contents style operation files read sets (styled style (networks_of sets)) s t w r are made refl written is
+
+-- the lists are not read
+pub lists_unread : (contents : List ℕ → Option Text) (operation : Operation) (style : Option Style) (files : List (List ℕ)) (e : CommandError) (s : State)
+    → IsUnread contents (read_files files) e → AnswersRequest contents (made_request operation None style files) s s (Err e)
+lists_unread contents operation None files e s h = inl (refl, h)
+lists_unread contents operation (Some style) files e s h = inl (refl, h)
 
 -- what sets are not printed for
 pub prints_cause : (F : List ℕ → Reason → Type 0) (refused : Bool) (style : Option Style) (sets : Family → List (List Bool)) (s t : State) (r : Result Verdict CommandError)

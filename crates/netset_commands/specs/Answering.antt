@@ -13,7 +13,7 @@ use Rattle.cidr_lists.specs.Reading.{Grows}
 use Rattle.cidr_lists.specs.Sets.{networks_of}
 use Rattle.cidr_lists.specs.Texts.{SaysAddress}
 use Rattle.netset_commands.specs.Commands.{AreTold, HoldsOf, IsFree, IsTold}
-use Rattle.netset_commands.specs.Program.{HasNoSubnets, IsBadArgument, IsUnread, IsUnreadPool, by_output}
+use Rattle.netset_commands.specs.Program.{HasNoSubnets, IsBadArgument, IsUnread, by_output}
 use Rattle.netset_commands.specs.Stored.{AreFileBytes, IsNotGiven}
 use Rattle.cidr_io.specs.Writing.{State, Answered}
 use Rattle.cidr_io.specs.declared.sink.OutputFailed.{OutputFailed}
@@ -85,11 +85,6 @@ abbrev pub ReadsSeveral : (List ℕ → Option Text) → List (List ℕ) → Res
 ReadsSeveral contents names (Ok several) = AreRead contents names (several.first ∷ several.others.items)
 ReadsSeveral contents names (Err e) = IsUnread contents names e
 
--- those of two files, or why they are not read
-abbrev pub ReadsBoth : (List ℕ → Option Text) → List ℕ → List ℕ → Result (Sets × Sets) CommandError → Type 0
-ReadsBoth contents old new (Ok (these, those)) = ReadsFile (contents old) old (Ok these) × ReadsFile (contents new) new (Ok those)
-ReadsBoth contents old new (Err e) = IsUnread contents (old ∷ new ∷ []) e
-
 -- an error of reading a file, where that is an operand that is no network and no address
 abbrev pub operand_error : Bor (List ℕ) → CommandError → CommandError
 operand_error operand (error.Input name why) = error.Argument operand bad.Operand
@@ -104,11 +99,6 @@ ReadsListed contents operand (Err e) = IsUnlisted contents operand e
 abbrev pub ReadsOperand : (List ℕ → Option Text) → List ℕ → Result Sets CommandError → Type 0
 ReadsOperand contents operand (Ok sets) = OfOperand contents operand (λ said. HasAddresses said sets)
 ReadsOperand contents operand (Err e) = IsUnreadOperand contents operand e
-
--- those of a pool and of the lists of what is used, or why they are not read
-abbrev pub ReadsPool : (List ℕ → Option Text) → List ℕ → List (List ℕ) → Result Several CommandError → Type 0
-ReadsPool contents pool used (Ok several) = ReadsOperand contents pool (Ok several.first) × AreRead contents used several.others.items
-ReadsPool contents pool used (Err e) = IsUnreadPool contents pool used e
 
 -- what is printed of sets in a style was written, or there was no memory for it
 abbrev pub PrintsBy : Option Style → (Family → List (List Bool)) → Bool → State → State → Result Verdict CommandError → Type 0

@@ -42,6 +42,7 @@ pub mod Gathering
 pub mod Loading
 pub mod LineKinds
 pub mod Answering
+pub mod Changing
 pub mod LookUps
 pub mod KeptLines
 pub mod Fewest

@@ -1,13 +1,12 @@
 //! A run of the program, from its arguments to its exit status.
-ghost use Rattle.std.specs.Prelude.{◌≡◌, ◌≤◌, ℕ, Bool, true, List, Option, None, Some, map, IfErr, MatchOption, Ok};
+ghost use Rattle.std.specs.Prelude.{◌≡◌, ◌≤◌, ℕ, Bool, true, List, Option, None, Some, map, option_map, IfErr, MatchOption, Ok};
 ghost use Rattle.cidr_io.specs.Arguments.{AreUnread, IsNotText};
 ghost use Rattle.std.specs.String.{string_bytes};
 ghost use Rattle.netset_commands.specs.Causes.{Cause, FileFails};
 ghost use Rattle.netset_commands.specs.Combining.{form_of};
-ghost use Rattle.netset_commands.specs.Arguments.{line_request, read_request};
+ghost use Rattle.netset_commands.specs.Arguments.{line_request, made_request, read_request};
 ghost use Rattle.netset_commands.specs.Command.{line_in, parts_in, request_of};
 ghost use Rattle.netset_commands.specs.Leaving.{Ends, LeavesBy, LeavesFound, LeavesTo, RunLeaves};
-ghost use Rattle.netset_commands.specs.Commands.{Lists, Styled};
 ghost use Rattle.cidr_lists.specs.Formats.{style_in};
 ghost use Rattle.netset_commands.specs.Sets.{Prints};
 ghost use Rattle.cidr_lists.specs.Sets.{networks_of};
@@ -48,7 +47,7 @@ use crate::output::folder::{Folder, Sealed};
 use crate::output::held::Held;
 use crate::output::ranges::write_ranges;
 use crate::output::report::{report, report_misuse, report_not_text};
-use crate::output::sets::{write_bytes, write_counts, write_sets};
+use crate::output::sets::{write_by, write_counts, write_sets};
 use cidr_io::arguments::{ArgumentReadError, Arguments, borrowed, texts_of};
 use cidr_io::memory::Memory;
 use cidr_io::sink::{Output, OutputFailed, Sink};
@@ -70,41 +69,26 @@ fn write_made<O: Sink>(operation: Operation, sets: &Sets, out: &mut O) -> Result
     }
 }
 
-/// What an operation makes of the lists of some files.
+/// What an operation makes of the lists of some files: in a style, if one is given, and else in the form of the operation.
 fn lists<'a, M: Memory, F: Sources, O: Sink>(
     memory: &mut M,
     sources: &F,
+    style: Option<Style<'_>>,
     operation: Operation,
     files: &'a [&'a str],
     out: &mut O,
 ) -> Result<Verdict, CommandError<'a>>
-    ensures answers { AnswersRequest (F.contents sources.now) (Lists operation (map (λ file. file.now) files.now)) (O.state out.old) (O.state out.new) result }
+    ensures answers { AnswersRequest (F.contents sources.now) (made_request operation None (option_map (λ s. style_in s) style.entry) (map (λ file. file.now) files.now))
+        (O.state out.old) (O.state out.new) result }
     ensures cause { IfErr result (Cause (FileFails (F.contents sources.now) (F.reasons sources.now)) (M.refused memory.new)) }
 {
     let several = read_several(memory, sources, files)?;
     let sets = combination(operation, several);
     let sets = memory.watch(sets)?;
-    by_output(Verdict::Yes, write_made(operation, &sets, out))
-}
-
-/// What an operation makes of the lists of some files, in a style. Its text is made whole before it is written.
-fn styled_lists<'a, M: Memory, F: Sources, O: Sink>(
-    memory: &mut M,
-    sources: &F,
-    style: &Style<'_>,
-    operation: Operation,
-    files: &'a [&'a str],
-    out: &mut O,
-) -> Result<Verdict, CommandError<'a>>
-    ensures answers { AnswersRequest (F.contents sources.now) (Styled (style_in style.now) operation (map (λ file. file.now) files.now)) (O.state out.old) (O.state out.new) result }
-    ensures cause { IfErr result (Cause (FileFails (F.contents sources.now) (F.reasons sources.now)) (M.refused memory.new)) }
-{
-    let several = read_several(memory, sources, files)?;
-    let sets = combination(operation, several);
-    let sets = memory.watch(sets)?;
-    let text = sets.to_style(memory.alloc(), style);
-    let text = memory.watch(text)?;
-    by_output(Verdict::Yes, write_bytes(out, text.as_slice()))
+    match style {
+        None => by_output(Verdict::Yes, write_made(operation, &sets, out)),
+        Some(style) => write_by(memory, Some(style), &sets, out),
+    }
 }
 
 /// Answers a command.
@@ -119,9 +103,9 @@ fn answer<'a, M: Memory, F: Sources, D: Folder, O: Sink>(
         (request_of command.entry) (O.state out.old) (O.state out.new) (D.saved folder.old) (D.saved folder.new) result }
 {
     match command {
-        Command::Lists(operation, files) => lists(memory, sources, operation, files, out),
+        Command::Lists(operation, files) => lists(memory, sources, None, operation, files, out),
         Command::Styled(style, operation, files) => {
-            styled_lists(memory, sources, &style, operation, files, out)
+            lists(memory, sources, Some(style), operation, files, out)
         }
         Command::NotIn(style, net, files) => not_in(memory, sources, style, net, files, out),
         Command::Diff(format, old, new) => diff(memory, sources, format, old, new, out),
@@ -442,28 +426,6 @@ fn not_text(error: &ArgumentReadError) -> Option<&str>
     }
 }
 
-/// Answers the arguments, reports and returns the exit status.
-fn answer_arguments<M: Memory, A: Arguments, F: Files, D: Folder, O: Output, E: Sink>(
-    memory: &mut M,
-    arguments: &A,
-    files: &F,
-    folder: &mut D,
-    out: &mut O,
-    err: &mut E,
-) -> u8
-    ensures runs { Runs (A.told arguments.now) (F.contents files.now) (record { memory = M.refused memory.new; folder = D.refused folder.new; files = F.reasons files.now })
-        (O.closed out.new) (O.Sink.state out.old) (O.Sink.state out.new) (E.state err.old) (E.state err.new) result }
-    ensures leaves { RunLeaves (A.told arguments.now) (F.contents files.now) (D.saved folder.old) (D.saved folder.new) result }
-{
-    match texts_of(memory, arguments) {
-        Ok(texts) => answer_texts(memory, files, folder, texts.as_slice(), out, err),
-        Err(e) => match not_text(&e) {
-            Some(shown) => report_not_text(shown, err),
-            None => report(&Err(CommandError::NoMemory), false, err),
-        },
-    }
-}
-
 /// Answers the arguments on `out`, writes the line that belongs to the answer, if there is one, to `err`, and returns
 /// the exit status: 0 for an answer, 1 for none, no or findings, 2 for arguments, files and lines in error, 3 where the
 /// output failed, a file can't be written, or there is no memory. Where nobody reads the output any more, there is no
@@ -485,5 +447,11 @@ pub fn program<M: Memory, A: Arguments, F: Files, D: Folder, O: Output, E: Sink>
         (O.closed out.new) (O.Sink.state out.old) (O.Sink.state out.new) (E.state err.old) (E.state err.new) result }
     ensures leaves { RunLeaves (A.told arguments.now) (F.contents files.now) (D.saved folder.old) (D.saved folder.new) result }
 {
-    answer_arguments(memory, arguments, files, folder, out, err)
+    match texts_of(memory, arguments) {
+        Ok(texts) => answer_texts(memory, files, folder, texts.as_slice(), out, err),
+        Err(e) => match not_text(&e) {
+            Some(shown) => report_not_text(shown, err),
+            None => report(&Err(CommandError::NoMemory), false, err),
+        },
+    }
 }

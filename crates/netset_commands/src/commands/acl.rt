@@ -10,7 +10,7 @@ ghost use Rattle.cidr_lists.specs.declared.errors.ListError.TheVariants.{NoMemor
 ghost use Rattle.cidr_lists.specs.Formats.{style_in};
 ghost use Rattle.cidr_lists.specs.Rules.{Permitted as AsPermitted, Shadowed as AsShadowed, Compared as AsCompared};
 
-use crate::commands::changes::{verdict_of, write_both};
+use crate::commands::changes::tell_changes;
 use crate::errors::CommandError;
 use crate::input::begun::{begin_file, read_whole};
 use crate::input::files::Sources;
@@ -21,7 +21,7 @@ use cidr_io::sink::Sink;
 use cidr_lists::errors::ListError;
 use cidr_lists::formats::{LineFormat, Style};
 use cidr_lists::rules::Rules;
-use cidr_lists::sets::{Sets, Step};
+use cidr_lists::sets::Sets;
 use std::alloc::AllocError;
 
 /// What is asked of an access list.
@@ -141,14 +141,7 @@ fn compared<'a, M: Memory, F: Sources, O: Sink>(
 {
     let before = read_permitted(memory, sources, old)?;
     let after = read_permitted(memory, sources, new)?;
-    let added = after.stepped(Step::Difference, &before);
-    let added = memory.watch(added)?;
-    let lacking = before.stepped(Step::Difference, &after);
-    let lacking = memory.watch(lacking)?;
-    by_output(
-        verdict_of(&added, &lacking),
-        write_both(out, format, &added, &lacking),
-    )
+    tell_changes(memory, format, &before, &after, out)
 }
 
 /// The command `acl`.

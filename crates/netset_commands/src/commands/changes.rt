@@ -7,12 +7,13 @@ ghost use Rattle.cidr_lists.specs.Changes.{change_layout_in, change_line, merged
 ghost use Rattle.cidr_lists.specs.Formats.{family_by};
 ghost use Rattle.cidr_io.specs.Collecting.{Collects};
 ghost use Rattle.netset_commands.specs.Causes.{Cause, FileFails};
+ghost use Rattle.netset_commands.specs.Changing.{TellsChanges};
 ghost use Rattle.netset_commands.specs.Commands.{Diff};
 ghost use Rattle.netset_commands.specs.Program.{AnswersRequest};
 
 use crate::errors::CommandError;
 use crate::input::files::Sources;
-use crate::input::several::read_both;
+use crate::input::several::read_file;
 use crate::output::answers::{Verdict, by_output};
 use cidr::{Family, FamilyCidr};
 use cidr_io::block::Block;
@@ -66,7 +67,7 @@ fn write_changes<C: FamilyCidr, S: Sink>(
 }
 
 /// Writes what is added and what is lacking, one a line. An output that has failed before gets nothing.
-pub(crate) fn write_both<S: Sink>(
+fn write_both<S: Sink>(
     out: &mut S,
     format: LineFormat,
     added: &Sets,
@@ -85,7 +86,7 @@ pub(crate) fn write_both<S: Sink>(
 }
 
 /// Yes where nothing is added and nothing lacking.
-pub(crate) fn verdict_of(added: &Sets, lacking: &Sets) -> Verdict
+fn verdict_of(added: &Sets, lacking: &Sets) -> Verdict
     ensures { AreSame (changed added.now lacking.now) result }
 {
     if added.is_empty() && lacking.is_empty() {
@@ -93,6 +94,26 @@ pub(crate) fn verdict_of(added: &Sets, lacking: &Sets) -> Verdict
     } else {
         Verdict::No
     }
+}
+
+/// Tells what a set adds to another one, and what it lacks.
+pub(crate) fn tell_changes<'a, M: Memory, S: Sink>(
+    memory: &mut M,
+    format: LineFormat,
+    before: &Sets,
+    after: &Sets,
+    out: &mut S,
+) -> Result<Verdict, CommandError<'a>>
+    ensures { TellsChanges format before.now after.now (M.refused memory.new) (S.state out.old) (S.state out.new) result }
+{
+    let added = after.stepped(Step::Difference, before);
+    let added = memory.watch(added)?;
+    let lacking = before.stepped(Step::Difference, after);
+    let lacking = memory.watch(lacking)?;
+    by_output(
+        verdict_of(&added, &lacking),
+        write_both(out, format, &added, &lacking),
+    )
 }
 
 /// The command `diff`.
@@ -107,13 +128,7 @@ pub fn diff<'a, M: Memory, F: Sources, O: Sink>(
     ensures answers { AnswersRequest (F.contents sources.now) (Diff format old.now new.now) (O.state out.old) (O.state out.new) result }
     ensures cause { IfErr result (Cause (FileFails (F.contents sources.now) (F.reasons sources.now)) (M.refused memory.new)) }
 {
-    let (old, new) = read_both(memory, sources, old, new)?;
-    let added = new.stepped(Step::Difference, &old);
-    let added = memory.watch(added)?;
-    let lacking = old.stepped(Step::Difference, &new);
-    let lacking = memory.watch(lacking)?;
-    by_output(
-        verdict_of(&added, &lacking),
-        write_both(out, format, &added, &lacking),
-    )
+    let before = read_file(memory, sources, old)?;
+    let after = read_file(memory, sources, new)?;
+    tell_changes(memory, format, &before, &after, out)
 }

@@ -171,8 +171,7 @@ fn tell_line<S: Sink>(
     tell(messages, out, entries, near, index, FindingKind::Form)?;
     tell(messages, out, entries, near, index, FindingKind::Same)?;
     tell(messages, out, entries, near, index, FindingKind::Outer)?;
-    tell(messages, out, entries, near, index, FindingKind::Half)?;
-    Ok(())
+    tell(messages, out, entries, near, index, FindingKind::Half)
 }
 
 /// Writes the findings of all lines in blocks, one a line, and flushes.

@@ -5,7 +5,7 @@ ghost use Rattle.std.specs.List.{flat_map};
 ghost use Rattle.cidr.specs.declared.cidr.combined.IpCidr.TheVariants.{V4, V6};
 ghost use Rattle.cidr_lists.specs.Formats.{before_next, layout_in, printed_walk, style_in};
 ghost use Rattle.cidr_lists.specs.Sets.{networks_of};
-ghost use Rattle.netset_commands.specs.Answering.{ReadsPool, TellsFree};
+ghost use Rattle.netset_commands.specs.Answering.{TellsFree};
 ghost use Rattle.netset_commands.specs.Causes.{Cause, FileFails};
 ghost use Rattle.netset_commands.specs.Commands.{Free};
 ghost use Rattle.netset_commands.specs.Free.{inside_of, less, taken, TakesLayout, TakesRows};
@@ -18,7 +18,8 @@ use crate::commands::combine::combination;
 use crate::commands::operations::Operation;
 use crate::errors::CommandError;
 use crate::input::files::Sources;
-use crate::input::operands::read_pool;
+use crate::input::operands::read_operand;
+use crate::input::several::{Several, read_all};
 use crate::output::answers::{Verdict, by_output};
 use crate::output::walks::{push_last, push_next};
 use cidr::{Family, FamilyCidr, IpCidr, Ipv4Cidr, Ipv6Cidr};
@@ -214,8 +215,9 @@ pub fn free<'a, M: Memory, F: Sources, O: Sink>(
         (O.state out.old) (O.state out.new) result }
     ensures cause { IfErr result (Cause (FileFails (F.contents sources.now) (F.reasons sources.now)) (M.refused memory.new)) }
 {
-    let several = read_pool(memory, sources, pool, used)?;
-    let rest = combination(Operation::Minus, several);
+    let first = read_operand(memory, sources, pool)?;
+    let others = read_all(memory, sources, used)?;
+    let rest = combination(Operation::Minus, Several { first, others });
     let rest = memory.watch(rest)?;
     tell_free(style, &rest, len, most, out)
 }

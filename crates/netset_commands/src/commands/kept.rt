@@ -7,7 +7,7 @@ ghost use Rattle.cidr_lists.specs.LookUps.{kept_line, look_object, told_line};
 ghost use Rattle.cidr_lists.specs.Printing.{line};
 ghost use Rattle.cidr_lists.specs.declared.objects.Telling.TheVariants.{Alone};
 ghost use Rattle.netset_commands.specs.Causes.{Cause, TextFails};
-ghost use Rattle.netset_commands.specs.Gathering.{Stops, lines_of_part};
+ghost use Rattle.netset_commands.specs.Gathering.{lines_of_part};
 ghost use Rattle.netset_commands.specs.KeptLines.{HasNetwork, IsNetworkOf, IsObjectOf, KeepsLine, TellsBy, TellsPart, TellsText, header_text};
 
 use crate::commands::look::{address_asked, verdict_of};
@@ -15,7 +15,7 @@ use crate::commands::matching::{is_line, next_part};
 use crate::errors::{CommandError, Reason};
 use crate::input::table::RowLookUps;
 use crate::output::answers::{Verdict, by_output};
-use crate::output::printing::catch_up;
+use crate::output::printing::{catch_up, stop};
 use arrayvec::ArrayString;
 use cidr::IpAddr;
 use cidr_io::block::Block;
@@ -241,23 +241,6 @@ pub fn write_header<S: Sink>(
     match telling {
         Telling::Kept => write_part(header, has_more, out),
         Telling::Alone | Telling::Objects => Ok(()),
-    }
-}
-
-/// Writes what is not yet written where no more lines are read for an error, and returns it, or that the output has failed.
-fn stop<'a, S: Sink>(
-    block: &mut Block,
-    error: CommandError<'a>,
-    out: &mut S,
-) -> Result<Verdict, CommandError<'a>>
-    ensures { Stops error.entry (S.state out.old) (S.state out.new) block.old result }
-{
-    match error {
-        CommandError::Output => Err(CommandError::Output),
-        error => match block.flush(out) {
-            Ok(()) => Err(error),
-            Err(_) => Err(CommandError::Output),
-        },
     }
 }
 

@@ -1,11 +1,11 @@
 //! Reading an operand that is a network, an address or the name of a file.
-ghost use Rattle.std.specs.Prelude.{◌≡◌, map, IfErr};
-ghost use Rattle.netset_commands.specs.Answering.{ReadsListed, ReadsOperand, ReadsPool, operand_error};
+ghost use Rattle.std.specs.Prelude.{◌≡◌, IfErr};
+ghost use Rattle.netset_commands.specs.Answering.{ReadsListed, ReadsOperand, operand_error};
 ghost use Rattle.netset_commands.specs.Causes.{Cause, FileFails};
 
 use crate::errors::{ArgumentError, CommandError};
 use crate::input::files::Sources;
-use crate::input::several::{Several, read_all, read_file};
+use crate::input::several::read_file;
 use cidr::IpCidr;
 use cidr_io::memory::Memory;
 use cidr_lists::sets::Sets;
@@ -57,19 +57,4 @@ pub fn read_operand<'a, M: Memory, F: Sources>(
         }
         Err(_) => read_listed(memory, sources, operand),
     }
-}
-
-/// The addresses of a pool, which is an operand, and those of the lists of files, each.
-pub fn read_pool<'a, M: Memory, F: Sources>(
-    memory: &mut M,
-    sources: &F,
-    pool: &'a str,
-    used: &[&'a str],
-) -> Result<Several, CommandError<'a>>
-    ensures reads { ReadsPool (F.contents sources.now) pool.now (map (λ file. file.now) used.now) result }
-    ensures cause { IfErr result (Cause (FileFails (F.contents sources.now) (F.reasons sources.now)) (M.refused memory.new)) }
-{
-    let first = read_operand(memory, sources, pool)?;
-    let others = read_all(memory, sources, used)?;
-    Ok(Several { first, others })
 }

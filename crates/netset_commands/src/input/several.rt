@@ -2,7 +2,7 @@
 ghost use Rattle.std.specs.Prelude.{◌∷◌, map, IfErr, MatchResult};
 ghost use Rattle.netset_commands.specs.Causes.{Cause, FileFails};
 ghost use Rattle.netset_commands.specs.Commands.{read_files};
-ghost use Rattle.netset_commands.specs.Answering.{AddsFile, AreRead, GivesList, ReadsAddresses, ReadsBoth, ReadsFile, ReadsSeveral};
+ghost use Rattle.netset_commands.specs.Answering.{AddsFile, AreRead, GivesList, ReadsAddresses, ReadsFile, ReadsSeveral};
 ghost use Rattle.netset_commands.specs.Program.{IsUnread};
 
 use crate::errors::CommandError;
@@ -128,21 +128,6 @@ pub fn read_all<'a, M: Memory, F: Sources>(
         memory.push(&mut sets, set)?;
     }
     Ok(sets)
-}
-
-/// The addresses of the lists of two files.
-pub fn read_both<'a, M: Memory, F: Sources>(
-    memory: &mut M,
-    sources: &F,
-    old: &'a str,
-    new: &'a str,
-) -> Result<(Sets, Sets), CommandError<'a>>
-    ensures reads { ReadsBoth (F.contents sources.now) old.now new.now result }
-    ensures cause { IfErr result (Cause (FileFails (F.contents sources.now) (F.reasons sources.now)) (M.refused memory.new)) }
-{
-    let these = read_file(memory, sources, old)?;
-    let those = read_file(memory, sources, new)?;
-    Ok((these, those))
 }
 
 /// The addresses of the lists of a file and of others, each.

@@ -1,11 +1,14 @@
-//! Writing networks, one a line, in blocks.
+//! Writing what is collected in blocks: networks, one a line, and the lines of a file that is read at the same time.
 ghost use Rattle.std.specs.List.{flat_map};
 ghost use Rattle.cidr.specs.texts.Printed.{plain_text};
 ghost use Rattle.cidr_io.specs.Writing.{Writes};
 ghost use Rattle.cidr_lists.specs.Printing.{line};
 ghost use Rattle.std.specs.Prelude.{[]};
 ghost use Rattle.cidr_io.specs.Collecting.{Collects};
+ghost use Rattle.netset_commands.specs.Gathering.{Stops};
 
+use crate::errors::CommandError;
+use crate::output::answers::Verdict;
 use cidr::FamilyCidr;
 use cidr_io::block::Block;
 use cidr_io::lines::LineReader;
@@ -24,6 +27,23 @@ pub fn catch_up<R: Source + Drop, S: Sink>(
         return Ok(());
     }
     block.flush(out)
+}
+
+/// Writes what is not yet written where no more lines are read for an error, and returns it, or that the output has failed.
+pub fn stop<'a, S: Sink>(
+    block: &mut Block,
+    error: CommandError<'a>,
+    out: &mut S,
+) -> Result<Verdict, CommandError<'a>>
+    ensures { Stops error.entry (S.state out.old) (S.state out.new) block.old result }
+{
+    match error {
+        CommandError::Output => Err(CommandError::Output),
+        error => match block.flush(out) {
+            Ok(()) => Err(error),
+            Err(_) => Err(CommandError::Output),
+        },
+    }
 }
 
 /// Writes networks in blocks, one a line.

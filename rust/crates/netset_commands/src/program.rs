@@ -33,7 +33,7 @@ use crate::output::folder::{Folder, Sealed};
 use crate::output::held::Held;
 use crate::output::ranges::write_ranges;
 use crate::output::report::{report, report_misuse, report_not_text};
-use crate::output::sets::{write_bytes, write_counts, write_sets};
+use crate::output::sets::{write_by, write_counts, write_sets};
 use cidr_io::arguments::{ArgumentReadError, Arguments, borrowed, texts_of};
 use cidr_io::memory::Memory;
 use cidr_io::sink::{Output, OutputFailed, Sink};
@@ -54,11 +54,12 @@ fn write_made<O: Sink>(operation: Operation, sets: &Sets, out: &mut O) -> Result
     }
 }
 
-/// What an operation makes of the lists of some files.
+/// What an operation makes of the lists of some files: in a style, if one is given, and else in the form of the operation.
 #[inline]
 fn lists<'a, M: Memory, F: Sources, O: Sink>(
     memory: &mut M,
     sources: &F,
+    style: Option<Style<'_>>,
     operation: Operation,
     files: &'a [&'a str],
     out: &mut O,
@@ -66,25 +67,10 @@ fn lists<'a, M: Memory, F: Sources, O: Sink>(
     let several = read_several(memory, sources, files)?;
     let sets = combination(operation, several);
     let sets = memory.watch(sets)?;
-    by_output(Verdict::Yes, write_made(operation, &sets, out))
-}
-
-/// What an operation makes of the lists of some files, in a style. Its text is made whole before it is written.
-#[inline]
-fn styled_lists<'a, M: Memory, F: Sources, O: Sink>(
-    memory: &mut M,
-    sources: &F,
-    style: &Style<'_>,
-    operation: Operation,
-    files: &'a [&'a str],
-    out: &mut O,
-) -> Result<Verdict, CommandError<'a>> {
-    let several = read_several(memory, sources, files)?;
-    let sets = combination(operation, several);
-    let sets = memory.watch(sets)?;
-    let text = sets.to_style(memory.alloc(), style);
-    let text = memory.watch(text)?;
-    by_output(Verdict::Yes, write_bytes(out, text.as_slice()))
+    match style {
+        None => by_output(Verdict::Yes, write_made(operation, &sets, out)),
+        Some(style) => write_by(memory, Some(style), &sets, out),
+    }
 }
 
 /// Answers a command.
@@ -96,9 +82,9 @@ fn answer<'a, M: Memory, F: Sources, D: Folder, O: Sink>(
     out: &mut O,
 ) -> Result<Verdict, CommandError<'a>> {
     match command {
-        Command::Lists(operation, files) => lists(memory, sources, operation, files, out),
+        Command::Lists(operation, files) => lists(memory, sources, None, operation, files, out),
         Command::Styled(style, operation, files) => {
-            styled_lists(memory, sources, &style, operation, files, out)
+            lists(memory, sources, Some(style), operation, files, out)
         }
         Command::NotIn(style, net, files) => not_in(memory, sources, style, net, files, out),
         Command::Diff(format, old, new) => diff(memory, sources, format, old, new, out),
@@ -380,25 +366,6 @@ fn not_text(error: &ArgumentReadError) -> Option<&str> {
     }
 }
 
-/// Answers the arguments, reports and returns the exit status.
-#[inline]
-fn answer_arguments<M: Memory, A: Arguments, F: Files, D: Folder, O: Output, E: Sink>(
-    memory: &mut M,
-    arguments: &A,
-    files: &F,
-    folder: &mut D,
-    out: &mut O,
-    err: &mut E,
-) -> u8 {
-    match texts_of(memory, arguments) {
-        Ok(texts) => answer_texts(memory, files, folder, texts.as_slice(), out, err),
-        Err(e) => match not_text(&e) {
-            Some(shown) => report_not_text(shown, err),
-            None => report(&Err(CommandError::NoMemory), false, err),
-        },
-    }
-}
-
 /// Answers the arguments on `out`, writes the line that belongs to the answer, if there is one, to `err`, and returns
 /// the exit status: 0 for an answer, 1 for none, no or findings, 2 for arguments, files and lines in error, 3 where the
 /// output failed, a file can't be written, or there is no memory. Where nobody reads the output any more, there is no
@@ -415,5 +382,11 @@ pub fn program<M: Memory, A: Arguments, F: Files, D: Folder, O: Output, E: Sink>
     out: &mut O,
     err: &mut E,
 ) -> u8 {
-    answer_arguments(memory, arguments, files, folder, out, err)
+    match texts_of(memory, arguments) {
+        Ok(texts) => answer_texts(memory, files, folder, texts.as_slice(), out, err),
+        Err(e) => match not_text(&e) {
+            Some(shown) => report_not_text(shown, err),
+            None => report(&Err(CommandError::NoMemory), false, err),
+        },
+    }
 }

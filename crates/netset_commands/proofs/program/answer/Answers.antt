@@ -11,7 +11,7 @@ pub returns-in-Lists : goal.returns-in-Lists
 returns-in-Lists g c = rw c.in-Lists.is (record { answers = c.lists.ensures.answers; cause = c.lists.ensures.cause; leaves = refl })
 
 pub returns-in-Styled : goal.returns-in-Styled
-returns-in-Styled g c = rw c.in-Styled.is (record { answers = c.styled_lists.ensures.answers; cause = c.styled_lists.ensures.cause; leaves = refl })
+returns-in-Styled g c = rw c.in-Styled.is (record { answers = c.lists-in-Styled.ensures.answers; cause = c.lists-in-Styled.ensures.cause; leaves = refl })
 
 pub returns-in-NotIn : goal.returns-in-NotIn
 returns-in-NotIn g c = rw c.in-NotIn.is (record { answers = c.not_in.ensures.answers; cause = c.not_in.ensures.cause; leaves = refl })

@@ -1,6 +1,6 @@
 //! What access lists permit, which of their rules no address reaches, and how two of them differ.
 
-use crate::commands::changes::{verdict_of, write_both};
+use crate::commands::changes::tell_changes;
 use crate::errors::CommandError;
 use crate::input::begun::{begin_file, read_whole};
 use crate::input::files::Sources;
@@ -11,7 +11,7 @@ use cidr_io::sink::Sink;
 use cidr_lists::errors::ListError;
 use cidr_lists::formats::{LineFormat, Style};
 use cidr_lists::rules::Rules;
-use cidr_lists::sets::{Sets, Step};
+use cidr_lists::sets::Sets;
 use cidr_support::alloc::AllocError;
 
 /// What is asked of an access list.
@@ -106,6 +106,7 @@ fn shadowed<'a, M: Memory, F: Sources, O: Sink>(
 }
 
 /// Writes the addresses that only one of two files permits.
+#[inline]
 fn compared<'a, M: Memory, F: Sources, O: Sink>(
     memory: &mut M,
     sources: &F,
@@ -116,14 +117,7 @@ fn compared<'a, M: Memory, F: Sources, O: Sink>(
 ) -> Result<Verdict, CommandError<'a>> {
     let before = read_permitted(memory, sources, old)?;
     let after = read_permitted(memory, sources, new)?;
-    let added = after.stepped(Step::Difference, &before);
-    let added = memory.watch(added)?;
-    let lacking = before.stepped(Step::Difference, &after);
-    let lacking = memory.watch(lacking)?;
-    by_output(
-        verdict_of(&added, &lacking),
-        write_both(out, format, &added, &lacking),
-    )
+    tell_changes(memory, format, &before, &after, out)
 }
 
 /// The command `acl`.

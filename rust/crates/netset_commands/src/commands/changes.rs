@@ -2,7 +2,7 @@
 
 use crate::errors::CommandError;
 use crate::input::files::Sources;
-use crate::input::several::read_both;
+use crate::input::several::read_file;
 use crate::output::answers::{Verdict, by_output};
 use cidr::{Family, FamilyCidr};
 use cidr_io::block::Block;
@@ -51,7 +51,7 @@ fn write_changes<C: FamilyCidr, S: Sink>(
 }
 
 /// Writes what is added and what is lacking, one a line. An output that has failed before gets nothing.
-pub(crate) fn write_both<S: Sink>(
+fn write_both<S: Sink>(
     out: &mut S,
     format: LineFormat,
     added: &Sets,
@@ -69,7 +69,7 @@ pub(crate) fn write_both<S: Sink>(
 
 /// Yes where nothing is added and nothing lacking.
 #[inline]
-pub(crate) fn verdict_of(added: &Sets, lacking: &Sets) -> Verdict {
+fn verdict_of(added: &Sets, lacking: &Sets) -> Verdict {
     if added.is_empty() && lacking.is_empty() {
         Verdict::Yes
     } else {
@@ -77,7 +77,26 @@ pub(crate) fn verdict_of(added: &Sets, lacking: &Sets) -> Verdict {
     }
 }
 
+/// Tells what a set adds to another one, and what it lacks.
+pub(crate) fn tell_changes<'a, M: Memory, S: Sink>(
+    memory: &mut M,
+    format: LineFormat,
+    before: &Sets,
+    after: &Sets,
+    out: &mut S,
+) -> Result<Verdict, CommandError<'a>> {
+    let added = after.stepped(Step::Difference, before);
+    let added = memory.watch(added)?;
+    let lacking = before.stepped(Step::Difference, after);
+    let lacking = memory.watch(lacking)?;
+    by_output(
+        verdict_of(&added, &lacking),
+        write_both(out, format, &added, &lacking),
+    )
+}
+
 /// The command `diff`.
+#[inline]
 pub fn diff<'a, M: Memory, F: Sources, O: Sink>(
     memory: &mut M,
     sources: &F,
@@ -86,13 +105,7 @@ pub fn diff<'a, M: Memory, F: Sources, O: Sink>(
     new: &'a str,
     out: &mut O,
 ) -> Result<Verdict, CommandError<'a>> {
-    let (old, new) = read_both(memory, sources, old, new)?;
-    let added = new.stepped(Step::Difference, &old);
-    let added = memory.watch(added)?;
-    let lacking = old.stepped(Step::Difference, &new);
-    let lacking = memory.watch(lacking)?;
-    by_output(
-        verdict_of(&added, &lacking),
-        write_both(out, format, &added, &lacking),
-    )
+    let before = read_file(memory, sources, old)?;
+    let after = read_file(memory, sources, new)?;
+    tell_changes(memory, format, &before, &after, out)
 }

@@ -4,7 +4,8 @@ use crate::commands::combine::combination;
 use crate::commands::operations::Operation;
 use crate::errors::CommandError;
 use crate::input::files::Sources;
-use crate::input::operands::read_pool;
+use crate::input::operands::read_operand;
+use crate::input::several::{Several, read_all};
 use crate::output::answers::{Verdict, by_output};
 use crate::output::walks::{push_last, push_next};
 use cidr::{Family, FamilyCidr, IpCidr, Ipv4Cidr, Ipv6Cidr};
@@ -177,8 +178,9 @@ pub fn free<'a, M: Memory, F: Sources, O: Sink>(
     used: &'a [&'a str],
     out: &mut O,
 ) -> Result<Verdict, CommandError<'a>> {
-    let several = read_pool(memory, sources, pool, used)?;
-    let rest = combination(Operation::Minus, several);
+    let first = read_operand(memory, sources, pool)?;
+    let others = read_all(memory, sources, used)?;
+    let rest = combination(Operation::Minus, Several { first, others });
     let rest = memory.watch(rest)?;
     tell_free(style, &rest, len, most, out)
 }

@@ -6,7 +6,7 @@ use crate::commands::matching::{is_line, next_part};
 use crate::errors::{CommandError, Reason};
 use crate::input::table::RowLookUps;
 use crate::output::answers::{Verdict, by_output};
-use crate::output::printing::catch_up;
+use crate::output::printing::{catch_up, stop};
 use cidr_support::arrayvec::ArrayString;
 use cidr::IpAddr;
 use cidr_io::block::Block;
@@ -208,22 +208,6 @@ pub fn write_header<S: Sink>(
     match telling {
         Telling::Kept => write_part(header, has_more, out),
         Telling::Alone | Telling::Objects => Ok(()),
-    }
-}
-
-/// Writes what is not yet written where no more lines are read for an error, and returns it, or that the output has failed.
-#[inline]
-fn stop<'a, S: Sink>(
-    block: &mut Block,
-    error: CommandError<'a>,
-    out: &mut S,
-) -> Result<Verdict, CommandError<'a>> {
-    match error {
-        CommandError::Output => Err(CommandError::Output),
-        error => match block.flush(out) {
-            Ok(()) => Err(error),
-            Err(_) => Err(CommandError::Output),
-        },
     }
 }
 

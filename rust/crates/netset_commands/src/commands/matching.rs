@@ -5,7 +5,7 @@ use crate::errors::{CommandError, Reason};
 use crate::input::files::Sources;
 use crate::input::several::read_addresses;
 use crate::output::answers::{Verdict, by_output};
-use crate::output::printing::catch_up;
+use crate::output::printing::{catch_up, stop};
 use cidr_io::block::Block;
 use cidr_io::decimal::decimal_text;
 use cidr_io::lines::{LineReadError, LineReader, is_too_long};
@@ -225,33 +225,6 @@ impl Gathered {
         !has_more || (written == Written::Nothing && self.count > 0)
     }
 
-    /// Writes what is collected of the lines before more is read.
-    #[inline]
-    fn catch_up<R: Source, S: Sink>(
-        &mut self,
-        reader: &LineReader<R>,
-        out: &mut S,
-    ) -> Result<(), OutputFailed> {
-        catch_up(reader, &mut self.block, out)
-    }
-
-    /// Writes what is not yet written where no more lines are read for an error, and returns it, or that the output has
-    /// failed.
-    #[inline]
-    fn stop<'a, S: Sink>(
-        &mut self,
-        error: CommandError<'a>,
-        out: &mut S,
-    ) -> Result<Verdict, CommandError<'a>> {
-        match error {
-            CommandError::Output => Err(CommandError::Output),
-            error => match self.block.flush(out) {
-                Ok(()) => Err(error),
-                Err(_) => Err(CommandError::Output),
-            },
-        }
-    }
-
     /// Adds what is written behind the lines.
     #[inline]
     fn push_count<S: Sink>(
@@ -321,23 +294,27 @@ fn stream<'a, M: Memory, R: Source, S: Sink>(
     let mut gathered = Gathered::new();
     let mut long = None;
     for number in 1..u64::MAX {
-        let Ok(()) = gathered.catch_up(reader, out) else {
+        let Ok(()) = catch_up(reader, &mut gathered.block, out) else {
             return Err(CommandError::Output);
         };
         let has_more = match next_part(memory, file, reader) {
             Ok(has_more) => has_more,
-            Err(e) => return gathered.stop(e, out),
+            Err(e) => return stop(&mut gathered.block, e, out),
         };
         long = first_long(long, number, reader.line());
         match gathered.take(matcher, file, number, reader.line(), has_more, out) {
             Ok(()) => {}
-            Err(e) => return gathered.stop(e, out),
+            Err(e) => return stop(&mut gathered.block, e, out),
         }
         if gathered.is_done(matcher.picking.written, has_more) {
             return told_behind(file, long, gathered.finish(matcher, out));
         }
     }
-    gathered.stop(CommandError::Input(file, Reason::Unknown), out)
+    stop(
+        &mut gathered.block,
+        CommandError::Input(file, Reason::Unknown),
+        out,
+    )
 }
 
 /// Opens a file, and writes what is written of its lines that are picked.

@@ -2,7 +2,7 @@
 
 use crate::errors::{ArgumentError, CommandError};
 use crate::input::files::Sources;
-use crate::input::several::{Several, read_all, read_file};
+use crate::input::several::read_file;
 use cidr::IpCidr;
 use cidr_io::memory::Memory;
 use cidr_lists::sets::Sets;
@@ -47,17 +47,4 @@ pub fn read_operand<'a, M: Memory, F: Sources>(
         }
         Err(_) => read_listed(memory, sources, operand),
     }
-}
-
-/// The addresses of a pool, which is an operand, and those of the lists of files, each.
-#[inline]
-pub fn read_pool<'a, M: Memory, F: Sources>(
-    memory: &mut M,
-    sources: &F,
-    pool: &'a str,
-    used: &[&'a str],
-) -> Result<Several, CommandError<'a>> {
-    let first = read_operand(memory, sources, pool)?;
-    let others = read_all(memory, sources, used)?;
-    Ok(Several { first, others })
 }

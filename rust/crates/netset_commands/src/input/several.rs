@@ -111,19 +111,6 @@ pub fn read_all<'a, M: Memory, F: Sources>(
     Ok(sets)
 }
 
-/// The addresses of the lists of two files.
-#[inline]
-pub fn read_both<'a, M: Memory, F: Sources>(
-    memory: &mut M,
-    sources: &F,
-    old: &'a str,
-    new: &'a str,
-) -> Result<(Sets, Sets), CommandError<'a>> {
-    let these = read_file(memory, sources, old)?;
-    let those = read_file(memory, sources, new)?;
-    Ok((these, those))
-}
-
 /// The addresses of the lists of a file and of others, each.
 #[inline]
 pub fn read_named<'a, M: Memory, F: Sources>(

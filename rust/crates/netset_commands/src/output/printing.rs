@@ -1,5 +1,7 @@
-//! Writing networks, one a line, in blocks.
+//! Writing what is collected in blocks: networks, one a line, and the lines of a file that is read at the same time.
 
+use crate::errors::CommandError;
+use crate::output::answers::Verdict;
 use cidr::FamilyCidr;
 use cidr_io::block::Block;
 use cidr_io::lines::LineReader;
@@ -17,6 +19,22 @@ pub fn catch_up<R: Source, S: Sink>(
         return Ok(());
     }
     block.flush(out)
+}
+
+/// Writes what is not yet written where no more lines are read for an error, and returns it, or that the output has failed.
+#[inline]
+pub fn stop<'a, S: Sink>(
+    block: &mut Block,
+    error: CommandError<'a>,
+    out: &mut S,
+) -> Result<Verdict, CommandError<'a>> {
+    match error {
+        CommandError::Output => Err(CommandError::Output),
+        error => match block.flush(out) {
+            Ok(()) => Err(error),
+            Err(_) => Err(CommandError::Output),
+        },
+    }
 }
 
 /// Writes networks in blocks, one a line.

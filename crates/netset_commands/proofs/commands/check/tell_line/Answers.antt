@@ -1,6 +1,6 @@
 use Rattle.std.proofs.Common.{◌≡◌, ◌+◌, ◌*◌, ℕ, arith, subst}
 use Rattle.std.proofs.lemmas.Result.{err_from_is_err_and}
-use Rattle.netset_commands.specs.Findings.{AreNoted}
+use Rattle.netset_commands.specs.Findings.{NotesOn}
 use Rattle.netset_commands.proofs.Checked.{notes_lost}
 use Rattle.netset_commands.proofs.commands.check.tell_line.Goals as goal
 
@@ -11,9 +11,9 @@ returns g c start noted =
     let k2 = c.in_ok-tell-2.ensures start (i * 5 + 1) (omega arith) k1 in
     let k3 = c.in_ok-tell-3.ensures start (i * 5 + 1 + 1) (omega arith) k2 in
     let k4 = c.in_ok-tell-4.ensures start (i * 5 + 1 + 1 + 1) (omega arith) k3 in
-    let k5 = c.in_ok-tell-5.ensures start (i * 5 + 1 + 1 + 1 + 1) (omega arith) k4 in
     let all : i * 5 + 1 + 1 + 1 + 1 + 1 ≡ i * 5 + 5 = omega arith in
-    subst (λ (k : ℕ). AreNoted c.args.entries.now k start (g.S.Sink.state c.tell-5.new.out) c.tell-5.new.messages.block c.tell-5.new.messages.verdict) all k5
+    subst (λ (k : ℕ). NotesOn c.args.entries.now k start (g.S.Sink.state c.tell-5.new.out) c.tell-5.new.messages.block c.tell-5.new.messages.verdict c.tell-5.result) all
+    (c.tell-5.ensures start (i * 5 + 1 + 1 + 1 + 1) (omega arith) k4)
 
 pub returns-in_err-tell : goal.returns-in_err-tell
 returns-in_err-tell g c start noted =
@@ -48,14 +48,3 @@ returns-in_err-tell-4 g c start noted =
     let (y, is, same) = err_from_is_err_and c.from_residual-in_err-tell-4.result c.from_residual-in_err-tell-4.ensures.1 in
     notes_lost c.args.entries.now (i * 5 + 5) start (g.S.Sink.state c.tell-4.new.out) c.tell-4.new.messages.block c.tell-4.new.messages.verdict
     c.from_residual-in_err-tell-4.result y is (c.in_err-tell-4.ensures start (i * 5 + 1 + 1 + 1) (omega arith) k3)
-
-pub returns-in_err-tell-5 : goal.returns-in_err-tell-5
-returns-in_err-tell-5 g c start noted =
-    let i = c.args.index in
-    let k1 = c.in_ok-tell.ensures start (i * 5) (omega arith) noted in
-    let k2 = c.in_ok-tell-2.ensures start (i * 5 + 1) (omega arith) k1 in
-    let k3 = c.in_ok-tell-3.ensures start (i * 5 + 1 + 1) (omega arith) k2 in
-    let k4 = c.in_ok-tell-4.ensures start (i * 5 + 1 + 1 + 1) (omega arith) k3 in
-    let (y, is, same) = err_from_is_err_and c.from_residual-in_err-tell-5.result c.from_residual-in_err-tell-5.ensures.1 in
-    notes_lost c.args.entries.now (i * 5 + 5) start (g.S.Sink.state c.tell-5.new.out) c.tell-5.new.messages.block c.tell-5.new.messages.verdict
-    c.from_residual-in_err-tell-5.result y is (c.in_err-tell-5.ensures start (i * 5 + 1 + 1 + 1 + 1) (omega arith) k4)

@@ -26,18 +26,18 @@ returns-in_default-clause-streams g c =
     unwritten c.args.matcher.now.picking.headed (PicksOf c.args.matcher.now.picking (IsInSets c.args.matcher.now.sets.now)) (label_of c.args.matcher.now.name) c.args.matcher.now.picking.written c.args.file.now
     c.args.reader.now.left c.loop-number.reader.left (g.S.Sink.state c.args.out.now) (g.S.Sink.state c.loop-number.out)
     (g.S.Sink.state c.catch_up.new.out) c.loop-number.number c.loop-number.gathered.count c.loop-number.gathered.block c.loop-number.long
-    (sym c.if-failed.ensures) c.in_default.ensures.collects c.loop-number.invariant
+    (sym c.if-failed.ensures) c.in_default.ensures c.loop-number.invariant
 
 pub returns-in-Err-clause-streams : goal.returns-in-Err-clause-streams
 returns-in-Err-clause-streams g c =
     unread c.args.matcher.now.picking.headed (PicksOf c.args.matcher.now.picking (IsInSets c.args.matcher.now.sets.now)) (label_of c.args.matcher.now.name) c.args.matcher.now.picking.written c.args.file.now
     c.args.reader.now.left c.loop-number.reader.left (g.S.Sink.state c.args.out.now) (g.S.Sink.state c.catch_up.new.out)
-    (g.S.Sink.state c.stop.new.out) c.loop-number.number c.catch_up.new.self.count c.catch_up.new.self.block c.loop-number.long _ c.stop.result
+    (g.S.Sink.state c.stop.new.out) c.loop-number.number c.loop-number.gathered.count c.catch_up.new.block c.loop-number.long _ c.stop.result
     (sym c.if-failed.ensures) c.in-Err.ensures.stopped
     (caught_up c.args.matcher.now.picking.headed (PicksOf c.args.matcher.now.picking (IsInSets c.args.matcher.now.sets.now)) (label_of c.args.matcher.now.name) c.args.matcher.now.picking.written
     c.args.reader.now.left c.loop-number.reader.left (g.S.Sink.state c.args.out.now) (g.S.Sink.state c.loop-number.out)
-    (g.S.Sink.state c.catch_up.new.out) c.loop-number.number c.loop-number.gathered.count c.catch_up.new.self.count c.loop-number.gathered.block
-    c.catch_up.new.self.block c.loop-number.long c.in-Ok.ensures.count c.in-Ok.ensures.collects c.loop-number.invariant)
+    (g.S.Sink.state c.catch_up.new.out) c.loop-number.number c.loop-number.gathered.count c.loop-number.gathered.count c.loop-number.gathered.block
+    c.catch_up.new.block c.loop-number.long refl c.in-Ok.ensures c.loop-number.invariant)
     c.stop.ensures
 
 pub returns-in-Err-take-clause-streams : goal.returns-in-Err-take-clause-streams
@@ -45,12 +45,12 @@ returns-in-Err-take-clause-streams g c =
     lost c.args.matcher.now.picking.headed (PicksOf c.args.matcher.now.picking (IsInSets c.args.matcher.now.sets.now)) (label_of c.args.matcher.now.name) c.args.matcher.now.picking.written c.args.file.now
     c.args.reader.now.left c.loop-number.reader.left c.next_part.new.reader.left
     (g.S.Sink.state c.args.out.now) (g.S.Sink.state c.catch_up.new.out) (g.S.Sink.state c.take.new.out) (g.S.Sink.state c.stop-in-Err-take.new.out)
-    c.loop-number.number c.catch_up.new.self.count c.catch_up.new.self.block c.take.new.self.block c.next_part.new.reader.line
+    c.loop-number.number c.loop-number.gathered.count c.catch_up.new.block c.take.new.self.block c.next_part.new.reader.line
     c.in-Ok-next_part.has_more c.loop-number.long _ c.stop-in-Err-take.result (sym c.if-failed.ensures)
     (caught_up c.args.matcher.now.picking.headed (PicksOf c.args.matcher.now.picking (IsInSets c.args.matcher.now.sets.now)) (label_of c.args.matcher.now.name) c.args.matcher.now.picking.written
     c.args.reader.now.left c.loop-number.reader.left (g.S.Sink.state c.args.out.now) (g.S.Sink.state c.loop-number.out)
-    (g.S.Sink.state c.catch_up.new.out) c.loop-number.number c.loop-number.gathered.count c.catch_up.new.self.count c.loop-number.gathered.block
-    c.catch_up.new.self.block c.loop-number.long c.in-Ok.ensures.count c.in-Ok.ensures.collects c.loop-number.invariant)
+    (g.S.Sink.state c.catch_up.new.out) c.loop-number.number c.loop-number.gathered.count c.loop-number.gathered.count c.loop-number.gathered.block
+    c.catch_up.new.block c.loop-number.long refl c.in-Ok.ensures c.loop-number.invariant)
     c.in-Ok-next_part.ensures.part (rw c.line-in-loop-number.ensures at c.in-Err-take.ensures) c.stop-in-Err-take.ensures
 
 pub returns-then-is_done-clause-streams : goal.returns-then-is_done-clause-streams
@@ -62,11 +62,11 @@ returns-then-is_done-clause-streams g c =
     (take_on c.args.matcher.now.picking.headed (PicksOf c.args.matcher.now.picking (IsInSets c.args.matcher.now.sets.now)) (label_of c.args.matcher.now.name) c.args.matcher.now.picking.written c.args.file.now
     c.args.reader.now.left c.loop-number.reader.left c.next_part.new.reader.left
     (g.S.Sink.state c.args.out.now) (g.S.Sink.state c.catch_up.new.out) (g.S.Sink.state c.take.new.out)
-    c.loop-number.number c.next_part.new.reader.line c.in-Ok-next_part.has_more c.catch_up.new.self c.take.new.self c.loop-number.long c.first_long-long.result
+    c.loop-number.number c.next_part.new.reader.line c.in-Ok-next_part.has_more (record { count = c.loop-number.gathered.count; block = c.catch_up.new.block }) c.take.new.self c.loop-number.long c.first_long-long.result
     (caught_up c.args.matcher.now.picking.headed (PicksOf c.args.matcher.now.picking (IsInSets c.args.matcher.now.sets.now)) (label_of c.args.matcher.now.name) c.args.matcher.now.picking.written
     c.args.reader.now.left c.loop-number.reader.left (g.S.Sink.state c.args.out.now) (g.S.Sink.state c.loop-number.out)
-    (g.S.Sink.state c.catch_up.new.out) c.loop-number.number c.loop-number.gathered.count c.catch_up.new.self.count c.loop-number.gathered.block
-    c.catch_up.new.self.block c.loop-number.long c.in-Ok.ensures.count c.in-Ok.ensures.collects c.loop-number.invariant) c.in-Ok-next_part.ensures.part (rw c.line.ensures at c.first_long-long.ensures) (rw c.line-in-loop-number.ensures at c.in-Ok-take.ensures))
+    (g.S.Sink.state c.catch_up.new.out) c.loop-number.number c.loop-number.gathered.count c.loop-number.gathered.count c.loop-number.gathered.block
+    c.catch_up.new.block c.loop-number.long refl c.in-Ok.ensures c.loop-number.invariant) c.in-Ok-next_part.ensures.part (rw c.line.ensures at c.first_long-long.ensures) (rw c.line-in-loop-number.ensures at c.in-Ok-take.ensures))
     c.finish.ensures)
 
 pub loop-number-preserved : goal.loop-number-preserved
@@ -78,11 +78,11 @@ loop-number-preserved g c =
     (take_on c.args.matcher.now.picking.headed (PicksOf c.args.matcher.now.picking (IsInSets c.args.matcher.now.sets.now)) (label_of c.args.matcher.now.name) c.args.matcher.now.picking.written c.args.file.now
     c.args.reader.now.left c.loop-number.reader.left c.next_part.new.reader.left
     (g.S.Sink.state c.args.out.now) (g.S.Sink.state c.catch_up.new.out) (g.S.Sink.state c.take.new.out)
-    c.loop-number.number c.next_part.new.reader.line c.in-Ok-next_part.has_more c.catch_up.new.self c.take.new.self c.loop-number.long c.first_long-long.result
+    c.loop-number.number c.next_part.new.reader.line c.in-Ok-next_part.has_more (record { count = c.loop-number.gathered.count; block = c.catch_up.new.block }) c.take.new.self c.loop-number.long c.first_long-long.result
     (caught_up c.args.matcher.now.picking.headed (PicksOf c.args.matcher.now.picking (IsInSets c.args.matcher.now.sets.now)) (label_of c.args.matcher.now.name) c.args.matcher.now.picking.written
     c.args.reader.now.left c.loop-number.reader.left (g.S.Sink.state c.args.out.now) (g.S.Sink.state c.loop-number.out)
-    (g.S.Sink.state c.catch_up.new.out) c.loop-number.number c.loop-number.gathered.count c.catch_up.new.self.count c.loop-number.gathered.block
-    c.catch_up.new.self.block c.loop-number.long c.in-Ok.ensures.count c.in-Ok.ensures.collects c.loop-number.invariant) c.in-Ok-next_part.ensures.part (rw c.line.ensures at c.first_long-long.ensures) (rw c.line-in-loop-number.ensures at c.in-Ok-take.ensures))
+    (g.S.Sink.state c.catch_up.new.out) c.loop-number.number c.loop-number.gathered.count c.loop-number.gathered.count c.loop-number.gathered.block
+    c.catch_up.new.block c.loop-number.long refl c.in-Ok.ensures c.loop-number.invariant) c.in-Ok-next_part.ensures.part (rw c.line.ensures at c.first_long-long.ensures) (rw c.line-in-loop-number.ensures at c.in-Ok-take.ensures))
 
 pub returns-clause-streams : goal.returns-clause-streams
 returns-clause-streams g c =
@@ -105,7 +105,7 @@ returns-in-Err-take-clause-cause g c =
     stop_cause (λ name _. (name ≡ c.args.file.now) × TextFails c.args.reader.now.left) (g.M.Memory.refused c.next_part.new.memory) _ _ _ _ _ c.stop-in-Err-take.ensures
     (take_cause (λ name _. (name ≡ c.args.file.now) × TextFails c.args.reader.now.left) (g.M.Memory.refused c.next_part.new.memory)
     (c.args.matcher.now.picking.headed && (c.loop-number.number == 1)) (PicksOf c.args.matcher.now.picking (IsInSets c.args.matcher.now.sets.now)) (label_of c.args.matcher.now.name) c.args.matcher.now.picking.written c.args.file.now
-    c.loop-number.number c.next_part.new.reader.line (g.S.Sink.state c.catch_up.new.out) (g.S.Sink.state c.take.new.out) c.catch_up.new.self.block
+    c.loop-number.number c.next_part.new.reader.line (g.S.Sink.state c.catch_up.new.out) (g.S.Sink.state c.take.new.out) c.catch_up.new.block
     c.take.new.self.block _ (rw c.line-in-loop-number.ensures at c.in-Err-take.ensures).1)
 
 pub returns-then-is_done-clause-cause : goal.returns-then-is_done-clause-cause

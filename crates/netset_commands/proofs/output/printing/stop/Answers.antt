@@ -1,6 +1,6 @@
 use Rattle.std.proofs.Common.{Ok, Err}
 use Rattle.netset_commands.proofs.Matched.{stops_by}
-use Rattle.netset_commands.proofs.commands.kept.stop.Goals as goal
+use Rattle.netset_commands.proofs.output.printing.stop.Goals as goal
 
 pub returns-in-Ok : goal.returns-in-Ok
 returns-in-Ok g c =
