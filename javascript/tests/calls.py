@@ -14,7 +14,8 @@ import re
 import sys
 
 WIDTHS = {"uint8_t": 1, "uint32_t": 4, "uint64_t": 8, "size_t": 8, "char": 1, "pcidr_value": 24, "pcidr_halves": 16, "pcidr_special": 32,
-          "pcidr_range": 48, "pcidr_rule": 32, "pcidr_row": 32, "pcidr_plan_row": 48, "pcidr_plan_fault": 32, "pcidr_table": 48, "pcidr_table_sizes": 32, "pcidr_file": 144, "pcidr_found": 16}
+          "pcidr_range": 48, "pcidr_rule": 32, "pcidr_row": 32, "pcidr_plan_row": 48, "pcidr_plan_fault": 32, "pcidr_table": 48, "pcidr_table_sizes": 32, "pcidr_file": 144, "pcidr_found": 16,
+          "pcidr_payload": 32, "pcidr_prefix_row": 32, "pcidr_mmdb": 24, "pcidr_mmdb_row": 40}
 POINTERS = (0, 16)  # where a pcidr_table has addresses
 r = random.Random(85)
 
@@ -240,11 +241,33 @@ def table_call(library, name, parameters):
     return call
 
 
+def mmdb_of(library):
+    """A MaxMind DB file of IPv4 with one node, by the public format, and what `pcidr_mmdb_open` says of it: 128.0.0.0/1 has the value `hi`."""
+    def string(text):
+        return bytes((0x40 | len(text),)) + text.encode()
+
+    def short(number):
+        return bytes((0xA1, number))
+
+    fields = {"binary_format_major_version": short(2), "binary_format_minor_version": short(0), "build_epoch": bytes((1, 2, 5)),
+              "database_type": string("t"), "description": bytes((0xE0,)), "ip_version": short(4), "node_count": bytes((0xC1, 1)),
+              "record_size": short(24)}
+    metadata = bytes((0xE0 | len(fields),)) + b"".join(string(name) + field for name, field in fields.items())
+    content = (1).to_bytes(3, "big") + (17).to_bytes(3, "big") + bytes(16) + string("hi") + b"\xab\xcd\xefMaxMind.com" + metadata
+    if r.random() < 0.2:
+        content = bytes(b ^ (r.randrange(256) if r.random() < 0.05 else 0) for b in content)
+    where = ctypes.create_string_buffer(24)
+    library.pcidr_mmdb_open(content, len(content), where)
+    return content, where.raw if r.random() < 0.9 else r.randbytes(24)
+
+
 def made_call(library, name, parameters):
     if name.startswith(("pcidr_ipv4_table_", "pcidr_ipv6_table_")):
         return table_call(library, name, parameters)
     call, counts, ends = Call(name), {}, []
     content, where = file_of(library) if name.startswith(("pcidr_file_", "pcidr_set_has")) and not name.endswith("write") else (b"", b"")
+    if name.startswith("pcidr_mmdb_"):
+        content, where = mmdb_of(library)
     rows = ascending() if name.endswith("_write") and r.random() < 0.8 else networks()
     for kind, const, is_pointer, word in parameters:
         width = WIDTHS[kind]
@@ -254,7 +277,8 @@ def made_call(library, name, parameters):
             call.add_number(counts[word.removesuffix("_len")], width)
         elif not is_pointer:
             call.add_number({"len": r.choice((r.randrange(34), r.randrange(256))), "high": r.choice((0, 0, number(64))), "low": r.choice((0, 1, 7, number(64))),
-                             "host_bits": r.randrange(6), "code": r.randrange(40), "index": r.choice((0, 1, 9, 200))}[word], width)
+                             "host_bits": r.randrange(6), "code": r.randrange(40), "index": r.choice((0, 1, 9, 200)),
+                             "origin": r.choice((0, 1, 2, 1 << 32)), "place": r.choice((0, 0, 1, number(64))), "limit": r.choice((0, 3, 300))}[word], width)
         elif word == "text" or kind == "char" and const:
             made = text(name)
             counts[word] = len(made)
@@ -263,7 +287,9 @@ def made_call(library, name, parameters):
             made = content or r.choice((b"", bytes((value()[16],)) + r.randbytes(r.randrange(20)), bytes((255, 1))))
             counts[word] = len(made)
             call.add_memory(made)
-        elif kind == "pcidr_file":
+        elif kind == "pcidr_mmdb_row":
+            call.add_memory(r.choice((bytes(16) + b"\xff" + bytes(23), value() + bytes(16))))
+        elif kind in ("pcidr_file", "pcidr_mmdb"):
             call.add_memory(where if const else out_of(width))
         elif word == "offsets":
             sizes = [r.randrange(4) for _ in rows]
@@ -275,6 +301,11 @@ def made_call(library, name, parameters):
         elif word == "values":
             counts[word] = ends[-1]
             call.add_memory(r.randbytes(ends[-1]))
+        elif kind in ("pcidr_payload", "pcidr_prefix_row"):
+            made = [it + r.randrange(3).to_bytes(4, "little") + bytes((r.randrange(34), 0, r.randrange(34) if kind == "pcidr_prefix_row" else 0, 0))
+                    for it in networks()]
+            counts[word] = len(made)
+            call.add_memory(b"".join(made))
         elif kind in ("pcidr_rule", "pcidr_row"):
             if const:
                 made = [it + r.randrange(3).to_bytes(8, "little") for it in networks()]

@@ -25,6 +25,11 @@ for (let turn = 0; turn < 3000; turn++) {
     assert.equal(result(), (one << BigInt(count)) & ALL);
     c.__lshrti3(place, ...halves(one), count);
     assert.equal(result(), one >> BigInt(count));
+    if (other === 0n) continue;
+    c.__udivti3(place, ...halves(one), ...halves(other));
+    assert.equal(result(), one / other);
+    c.__umodti3(place, ...halves(one), ...halves(other));
+    assert.equal(result(), one % other);
 }
 
 // ---- the heap: each block has bytes of its own, aligned to 16, which stay until it is given back or moved

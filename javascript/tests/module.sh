@@ -12,7 +12,7 @@ for part in heap wide; do
 done
 ln -s "$clang" "$room/wasm-ld"
 "$room/wasm-ld" -o "$room/parts.wasm" --no-entry "$room"/{heap,wide}.o --stack-first -z stack-size=65536 --max-memory=4194304 \
-    --export={malloc,free,rattle_alloc,rattle_realloc,rattle_dealloc,__ashlti3,__lshrti3,__multi3}
+    --export={malloc,free,rattle_alloc,rattle_realloc,rattle_dealloc,__ashlti3,__lshrti3,__multi3,__udivti3,__umodti3}
 node "$(dirname "$here")/tests/module.mjs" "$room/parts.wasm"
 
 # The forms of lines at which retarget.py ends.
